@@ -1,0 +1,103 @@
+-- The route is a walk in the window from the cell to the target, at the target's cost.
+use Prim.Native.Nat.{ℕ, zero, suc, _+_, _*_, _≤_, _<_}
+use mathlib.Core.Path.{_≡_, refl, sym, subst}
+use mathlib.Core.Bool.{Bool, true, false, _&&_}
+use mathlib.Core.Logic.{_≢_}
+use mathlib.Core.List.{List, [], _∷_, _++_}
+use native.Mathlib.Nat.{le-trans, mul-le-mul-left}
+use native.Mathlib.Omega.{arith}
+use lib.Dec.{T, eqb, leb, eqb→eq, leb→le, le→leb}
+use lib.ListN.{length}
+use Rattle.learning.specs.Walk.{Network, Walk, stop, move}
+use Rattle.learning.specs.Ahead.{Window}
+use Rattle.learning.specs.Ground.{Ground, Goal, netOf, viewOf, ringOf, lastOf, legOf}
+use Rattle.learning.specs.Route.{Chain, ended, step, priorIn, routeFrom, routeIn, routeOf}
+use Rattle.learning.proofs.Sound.{ring-self}
+use Rattle.learning.proofs.Spread.{both-true, first-true, second-true}
+use Rattle.learning.proofs.Ground.{window}
+use Rattle.learning.proofs.Look.{lowest-met, eqb-of}
+use Rattle.learning.proofs.Route.{Before, some-before, leg-moves}
+
+-- a chain is a walk of as many moves as it has cells
+pub chain-walk : {N : Network} {S : ℕ → Type 0} {a z c : ℕ} {xs : List ℕ} → Chain N S a xs z c → Walk N S a z c (length xs)
+chain-walk (ended s) = stop s
+chain-walk (step s e k) = move s e (chain-walk k)
+
+-- one move more at the end
+chain-snoc : {N : Network} {S : ℕ → Type 0} {a z c : ℕ} {xs : List ℕ} (x d : ℕ) → Chain N S a xs z c → N .Edge z x d → S x → Chain N S a (xs ++ x ∷ []) x (c + d)
+chain-snoc {N} {S} {a} x d (ended s) e t = subst (Chain N S a (x ∷ []) x) (omega arith) (step s e (ended t))
+chain-snoc {N} {S} {a} {c = c} {xs = xs} x d (step s f k) e t = subst (Chain N S a (xs ++ x ∷ []) x) (omega arith) (step s f (chain-snoc x d k e t))
+
+module _ (G : Ground) (d s : ℕ) (deep : 1 ≤ d) (floor : s < G .cells) (g : ¬ Goal G s) where
+  W : Window (netOf G) (Goal G) d s (lastOf G d s) (ringOf G d s) (legOf G d s)
+  W = window G d s floor deep g
+
+  prior : ℕ → ℕ
+  prior x = priorIn G d s (viewOf G d s) x
+
+  -- the three tests that the cell before x passes
+  abbrev near : ℕ → Bool
+  near b = leb (ringOf G d s b) (lastOf G d s)
+
+  abbrev priced : ℕ → ℕ → Bool
+  priced x b = leb 1 (G .price b x)
+
+  abbrev exact : ℕ → ℕ → Bool
+  exact x b = eqb (legOf G d s b + G .price b x) (legOf G d s x)
+
+  prior-met : (x : ℕ) → ringOf G d s x ≤ lastOf G d s → x ≢ s → T (near (prior x) && (priced x (prior x) && exact x (prior x)))
+  unfolding prior priorIn ringOf lastOf legOf
+  prior-met x h o =
+      let y = some-before W x h o in
+      let b = y .at in
+      let e = y .edge in
+      lowest-met (G .cells) (λ v. near v && (priced x v && exact x v)) b (G .inside b x (omega (arith, e .0, e .1)))
+      (both-true (near b) (priced x b && exact x b) (le→leb (ringOf G d s b) (lastOf G d s) (y .near))
+      (both-true (priced x b) (exact x b) (le→leb 1 (G .price b x) (omega (arith, e .0, e .1))) (eqb-of (legOf G d s b + G .price b x) (legOf G d s x) (omega (arith, y .exact, e .1)))))
+
+  -- the cell before x
+  pub prior-before : (x : ℕ) → ringOf G d s x ≤ lastOf G d s → x ≢ s → Before (netOf G) (lastOf G d s) (ringOf G d s) (legOf G d s) x
+  prior-before x h o =
+      let b = prior x in
+      let t = prior-met x h o in
+      let u = second-true (near b) (priced x b && exact x b) t in
+      record {
+        at = b;
+        price = G .price b x;
+        near = leb→le (ringOf G d s b) (lastOf G d s) (first-true (near b) (priced x b && exact x b) t);
+        edge = (leb→le 1 (G .price b x) (first-true (priced x b) (exact x b) u), refl);
+        exact = eqb→eq (legOf G d s b + G .price b x) (legOf G d s x) (second-true (priced x b) (exact x b) u);
+      }
+
+  self-near : ringOf G d s s ≤ lastOf G d s
+  self-near = omega (arith, ring-self W)
+
+  self-cost : legOf G d s s ≡ 0
+  self-cost = omega (arith, W .cheapest s self-near .low 0 (0, stop self-near))
+
+  from-chain : (fuel : ℕ) (b : Bool) (x : ℕ) → eqb x s ≡ b → legOf G d s x < fuel → ringOf G d s x ≤ lastOf G d s
+      → Chain (netOf G) (λ y. ringOf G d s y ≤ lastOf G d s) s (routeFrom G d s (viewOf G d s) fuel b x) x (legOf G d s x)
+  unfolding routeFrom prior prior-before
+  from-chain zero b x e h l = absurd (omega arith)
+  from-chain (suc fuel) true x e h l =
+      let same : x ≡ s = eqb→eq x s (subst T (sym e) tt) in
+      subst (λ y. Chain (netOf G) (λ y. ringOf G d s y ≤ lastOf G d s) s [] y (legOf G d s y)) (sym same)
+      (subst (Chain (netOf G) (λ y. ringOf G d s y ≤ lastOf G d s) s [] s) (sym self-cost) (ended self-near))
+  from-chain (suc fuel) false x e h l =
+      let y = prior-before x l (λ q. subst T e (eqb-of x s q)) in
+      let k = from-chain fuel (eqb (prior x) s) (prior x) refl (omega (arith, y .exact, y .edge .0)) (y .near) in
+      subst (Chain (netOf G) (λ y. ringOf G d s y ≤ lastOf G d s) s (routeFrom G d s (viewOf G d s) fuel (eqb (prior x) s) (prior x) ++ x ∷ []) x) (y .exact)
+      (chain-snoc x (y .price) k (y .edge) l)
+
+  pub route-chain : (x : ℕ) → ringOf G d s x ≤ lastOf G d s → Chain (netOf G) (λ y. ringOf G d s y ≤ lastOf G d s) s (routeOf G d s x) x (legOf G d s x)
+  unfolding routeIn legOf
+  route-chain x l = from-chain (suc (legOf G d s x)) (eqb x s) x refl (omega arith) l
+
+  -- its number of moves
+  pub route-short : (x : ℕ) → ringOf G d s x ≤ lastOf G d s → length (routeOf G d s x) * G .least ≤ G .dearest * d
+  route-short x l =
+      omega (
+        arith,
+        leg-moves W (G .dearest) (λ a b c e. omega (arith, e .1, G .high a b)) x (length (routeOf G d s x)) l (chain-walk (route-chain x l)),
+        mul-le-mul-left (G .dearest) (le-trans l (W .depth)),
+      )

@@ -1,0 +1,53 @@
+-- The settings and the numbers that several calls answer: 1, 2, 3, 4 and 5.
+use Prim.Native.Nat.{ℕ, _*_}
+use mathlib.Core.Bool.{Bool, _&&_}
+use mathlib.Core.List.{List, [], _∷_}
+use lib.Dec.{leb, ltb, eqb}
+use lib.ListN.{length, getD}
+use Rattle.learning.specs.Ground.{Ground}
+use Rattle.answers.specs.declared.Job.{Job}
+use Rattle.answers.specs.declared.Verdict.{Verdict}
+use Rattle.model.specs.Basics.{between, every, unless, naming}
+use Rattle.model.specs.Floor.{Floor, size, free}
+use Rattle.model.specs.Grounds.{groundOf}
+
+-- Ceiling for any figure 917,280 (14 × 4,095 × 16)
+abbrev pub ceiling : ℕ
+ceiling = 917280
+
+-- the floor of a job and of the bytes lent beside it; its goals, a list with one element; and their ground
+abbrev pub floorOf : Job → List ℕ → Floor
+floorOf j bytes = record { width = j .width; height = j .height; bytes = bytes }
+
+abbrev pub goals : Job → List ℕ
+goals j = j .goal ∷ []
+
+abbrev pub groundIn : Job → List ℕ → Ground
+groundIn j bytes = groundOf (floorOf j bytes) (goals j)
+
+-- 1: width or height outside 1 to 64; floor or table length not width × height
+unfoldable pub sizes : Floor → ℕ → Verdict
+sizes f figures = unless (between 1 (f .width) 64 && between 1 (f .height) 64 && eqb (length (f .bytes)) (size f) && eqb figures (size f)) 1
+
+-- 2: path list shorter than width × height
+unfoldable pub pathRoom : Floor → ℕ → Verdict
+pathRoom f places = unless (leb (size f) places) 2
+
+-- 3: depth d 1 to 8; weight p/q with 1 ≤ p ≤ q ≤ 16; quota T 0 to 1,000,000
+unfoldable pub settings : Job → Verdict
+settings j = unless (between 1 (j .depth) 8 && leb 1 (j .p) && leb (j .p) (j .q) && leb (j .q) 16 && leb (j .quota) 1000000) 3
+
+-- 3 where q is all that is taken
+unfoldable pub scale : ℕ → Verdict
+scale q = unless (between 1 q 16) 3
+
+-- 4: start, current cell or goal off the floor or blocked; the table calls take the goals alone
+unfoldable pub benches : Floor → List ℕ → Verdict
+benches f gs = unless (every (free f) gs) 4
+
+unfoldable pub places : Floor → ℕ → List ℕ → Verdict
+places f x gs = unless (free f x && every (free f) gs) 4
+
+-- 5: a table figure above the ceiling; names the lowest such cell
+unfoldable pub figures : Floor → List ℕ → Verdict
+figures f table = naming (size f) (λ x. ltb ceiling (getD table x 0)) 5

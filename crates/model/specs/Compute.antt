@@ -1,0 +1,25 @@
+-- `unfolding compute` opens every definition at once, for proofs by computing.
+use native.Mathlib.Decide.{decLe, ℕ-discrete}
+use Rattle.learning.specs.Ground.{settle, spread, distsOf, reachOf, distOf, viewOf, ringOf, lastOf, legOf}
+use Rattle.learning.specs.Look.{bestOn, newOver, targetOver, newIn, targetIn}
+use Rattle.learning.specs.Route.{priorIn, routeFrom, routeIn}
+use Rattle.model.specs.Basics.{every, member, distinct, naming}
+use Rattle.model.specs.Floor.{free, price, ahead, inside, allowed, heading, octile, opening, openingTable}
+use Rattle.model.specs.Checks.{sizes, pathRoom, settings, scale, benches, places, figures}
+use Rattle.model.specs.Lookahead.{emptyRing, movesAlong}
+use Rattle.model.specs.Decision.{movesRoom, stateHolds, judge, forward, backOut, stay, goBack, learn, act, decide}
+use Rattle.model.specs.Opening.{soundness, accepts, openJob, openTrial, reportsRoom, trialsHold, openRun, openTable}
+use Rattle.model.specs.Ride.{next, rideFrom, bound, ride, kept, trial, courseFrom, run}
+
+unfoldable pub compute : Unit {0}
+unfolding decLe ℕ-discrete
+    settle spread distsOf reachOf distOf viewOf ringOf lastOf legOf
+    bestOn newOver targetOver newIn targetIn priorIn routeFrom routeIn
+    every member distinct naming
+    free price ahead inside allowed heading octile opening openingTable
+    sizes pathRoom settings scale benches places figures
+    emptyRing movesAlong
+    movesRoom stateHolds judge forward backOut stay goBack learn act decide
+    soundness accepts openJob openTrial reportsRoom trialsHold openRun openTable
+    next rideFrom bound ride kept trial courseFrom run
+compute = tt

@@ -1,0 +1,98 @@
+-- Floor, moves, distance.
+use Prim.Native.Nat.{ℕ, zero, suc, _+_, _-_, _*_, _/_, _%_, _≤_, min}
+use mathlib.Core.Path.{_≡_}
+use mathlib.Core.Bool.{Bool, _&&_}
+use mathlib.Core.List.{List, [], _∷_}
+use lib.Dec.{ltb, leb, eqb}
+use lib.ListN.{length, getD}
+use Rattle.learning.specs.Ground.{pick, listOf}
+use Rattle.learning.specs.Look.{lowest}
+use Rattle.model.specs.Basics.{choose}
+
+pub record Floor : Type 0 where
+  pub width : ℕ
+  pub height : ℕ
+  pub bytes : List ℕ
+
+abbrev pub size : Floor → ℕ
+size f = f .width * f .height
+
+-- width and height 1 to 64, and a byte for each cell
+pub record Sized (f : Floor) : Type 0 where
+  pub wide : 1 ≤ f .width
+  pub narrow : f .width ≤ 64
+  pub high : 1 ≤ f .height
+  pub low : f .height ≤ 64
+  pub cells : length (f .bytes) ≡ size f
+
+-- cell number = row × width + column, from the top left
+abbrev pub column : Floor → ℕ → ℕ
+column f x = x % f .width
+
+abbrev pub row : Floor → ℕ → ℕ
+row f x = x / f .width
+
+-- a floor byte 0 is free; every other byte is blocked
+unfoldable pub free : Floor → ℕ → Bool
+free f x = ltb x (size f) && eqb (getD (f .bytes) x 0) 0
+
+-- how far apart two numbers are
+abbrev pub apart : ℕ → ℕ → ℕ
+apart a b = (a - b) + (b - a)
+
+-- by the columns and rows moved, together: a straight move costs 10, a diagonal one 14
+abbrev pub tariff : ℕ → ℕ
+tariff zero = 0
+tariff (suc zero) = 10
+tariff (suc (suc zero)) = 14
+tariff (suc (suc (suc n))) = 0
+
+-- of two cells dx columns and dy rows apart, one free and the other: the cost of the move from one to the other, and 0 where there is none
+abbrev pub fare : Bool → Bool → ℕ → ℕ → ℕ
+fare a b dx dy = pick (a && b && leb dx 1 && leb dy 1) (tariff (dx + dy)) 0
+
+-- the cost of the move from a to b, and 0 where no move from a leads to b: THE definition of movement, all else follows it
+unfoldable pub price : Floor → ℕ → ℕ → ℕ
+price f a b = fare (free f a) (free f b) (apart (column f a) (column f b)) (apart (row f a) (row f b))
+
+-- the eight moves, 0 N, 1 NE, 2 E, 3 SE, 4 S, 5 SW, 6 W, 7 NW: how far each goes east and south, counted so that 1 is not at all
+abbrev pub east : ℕ → ℕ
+east m = getD (1 ∷ 2 ∷ 2 ∷ 2 ∷ 1 ∷ 0 ∷ 0 ∷ 0 ∷ []) m 0
+
+abbrev pub south : ℕ → ℕ
+south m = getD (0 ∷ 0 ∷ 1 ∷ 2 ∷ 2 ∷ 2 ∷ 1 ∷ 0 ∷ []) m 0
+
+-- the cell that move m leads to from x, and whether it is on the floor
+unfoldable pub ahead : Floor → ℕ → ℕ → ℕ
+ahead f x m = (row f x + south m - 1) * f .width + (column f x + east m - 1)
+
+unfoldable pub inside : Floor → ℕ → ℕ → Bool
+inside f x m = leb 1 (column f x + east m) && leb (column f x + east m) (f .width) && leb 1 (row f x + south m) && leb (row f x + south m) (f .height)
+
+-- a move is allowed when the cell moved into is on the floor and there is a price for it
+unfoldable pub allowed : Floor → ℕ → ℕ → Bool
+allowed f x m = inside f x m && leb 1 (price f x (ahead f x m))
+
+-- the move that leads from a to b, 8 where none does; and the move that goes back
+unfoldable pub heading : Floor → ℕ → ℕ → ℕ
+heading f a b = lowest 8 (λ m. allowed f a m && eqb (ahead f a m) b)
+
+abbrev pub opposite : ℕ → ℕ
+opposite m = (m + 4) % 8
+
+-- the opening figure of the cell x: q × (14 × the smaller + 10 × the difference of the columns and rows to the goal g)
+unfoldable pub octile : Floor → ℕ → ℕ → ℕ → ℕ
+octile f q g x =
+    let dx = apart (column f x) (column f g) in
+    let dy = apart (row f x) (row f g) in
+    q * (14 * min dx dy + 10 * apart dx dy)
+
+-- the least over the goals
+unfoldable pub opening : Floor → ℕ → List ℕ → ℕ → ℕ
+opening f q [] x = 0
+opening f q (g ∷ []) x = octile f q g x
+opening f q (g ∷ h ∷ gs) x = min (octile f q g x) (opening f q (h ∷ gs) x)
+
+-- the table of opening figures; blocked cells have one too
+unfoldable pub openingTable : Floor → ℕ → List ℕ → List ℕ
+openingTable f q gs = listOf (size f) (opening f q gs)

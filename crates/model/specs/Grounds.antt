@@ -1,0 +1,96 @@
+-- A floor with its goals is a ground: moves go both ways at one price, at least 10 and at most 14.
+-- So rings, w, true distances, routes and trials are those that `learning` computes and proves, over `price`.
+use Prim.Native.Nat.{ℕ, zero, suc, _+_, _-_, _≤_, _<_}
+use mathlib.Core.Path.{_≡_, refl, ap₂, _∙_}
+use mathlib.Core.Bool.{Bool, true, false, _&&_}
+use mathlib.Core.List.{List}
+use native.Mathlib.Nat.{add-comm}
+use native.Mathlib.Omega.{arith}
+use lib.Dec.{T, leb, eqb, ltb, ltb→lt}
+use Rattle.learning.specs.Ground.{Ground, pick}
+use Rattle.model.specs.Basics.{member}
+use Rattle.model.specs.Floor.{Floor, size, column, row, free, apart, tariff, fare, price}
+
+tariff-low : (n : ℕ) → 1 ≤ tariff n → 10 ≤ tariff n
+tariff-low zero h = absurd (omega arith)
+tariff-low (suc zero) h = omega arith
+tariff-low (suc (suc zero)) h = omega arith
+tariff-low (suc (suc (suc n))) h = absurd (omega arith)
+
+tariff-high : (n : ℕ) → tariff n ≤ 14
+tariff-high zero = omega arith
+tariff-high (suc zero) = omega arith
+tariff-high (suc (suc zero)) = omega arith
+tariff-high (suc (suc (suc n))) = omega arith
+
+pick-low : (b : Bool) (n : ℕ) → 1 ≤ pick b (tariff n) 0 → 10 ≤ pick b (tariff n) 0
+pick-low true n h = tariff-low n h
+pick-low false n h = absurd (omega arith)
+
+pick-high : (b : Bool) (n : ℕ) → pick b (tariff n) 0 ≤ 14
+pick-high true n = tariff-high n
+pick-high false n = omega arith
+
+fare-low : (a b : Bool) (dx dy : ℕ) → 1 ≤ fare a b dx dy → 10 ≤ fare a b dx dy
+fare-low a b dx dy = pick-low (a && b && leb dx 1 && leb dy 1) (dx + dy)
+
+fare-high : (a b : Bool) (dx dy : ℕ) → fare a b dx dy ≤ 14
+fare-high a b dx dy = pick-high (a && b && leb dx 1 && leb dy 1) (dx + dy)
+
+fare-comm : (a b : Bool) (dx dy : ℕ) → fare a b dx dy ≡ fare b a dx dy
+fare-comm true true dx dy = refl
+fare-comm true false dx dy = refl
+fare-comm false true dx dy = refl
+fare-comm false false dx dy = refl
+
+fare-free : (a b : Bool) (dx dy : ℕ) → 1 ≤ fare a b dx dy → T a
+fare-free true b dx dy h = tt
+fare-free false b dx dy h = absurd (omega arith)
+
+pub apart-comm : (a b : ℕ) → apart a b ≡ apart b a
+apart-comm a b = add-comm (a - b) (b - a)
+
+pub both-first : (a b : Bool) → T (a && b) → T a
+both-first true b h = tt
+both-first false b h = h
+
+pub free-inside : (f : Floor) (x : ℕ) → T (free f x) → x < size f
+unfolding free
+free-inside f x h = ltb→lt x (size f) (both-first (ltb x (size f)) _ h)
+
+pub price-low : (f : Floor) (a b : ℕ) → 1 ≤ price f a b → 10 ≤ price f a b
+unfolding price
+price-low f a b = fare-low (free f a) (free f b) (apart (column f a) (column f b)) (apart (row f a) (row f b))
+
+pub price-high : (f : Floor) (a b : ℕ) → price f a b ≤ 14
+unfolding price
+price-high f a b = fare-high (free f a) (free f b) (apart (column f a) (column f b)) (apart (row f a) (row f b))
+
+pub price-same : (f : Floor) (a b : ℕ) → price f a b ≡ price f b a
+unfolding price
+price-same f a b =
+    fare-comm (free f a) (free f b) (apart (column f a) (column f b)) (apart (row f a) (row f b))
+    ∙ ap₂ (fare (free f b) (free f a)) (apart-comm (column f a) (column f b)) (apart-comm (row f a) (row f b))
+
+pub price-free : (f : Floor) (a b : ℕ) → 1 ≤ price f a b → T (free f a)
+unfolding price
+price-free f a b = fare-free (free f a) (free f b) (apart (column f a) (column f b)) (apart (row f a) (row f b))
+
+-- the goals are those cells of the list that are on the floor
+abbrev pub isGoal : Floor → List ℕ → ℕ → Bool
+isGoal f goals x = ltb x (size f) && member x goals
+
+abbrev pub groundOf : Floor → List ℕ → Ground
+groundOf f goals = record {
+  cells = size f;
+  price = price f;
+  goal = isGoal f goals;
+  least = 10;
+  dearest = 14;
+  positive = omega arith;
+  low = price-low f;
+  high = price-high f;
+  same = price-same f;
+  inside = λ a b h. free-inside f a (price-free f a b h);
+  goals-inside = λ x h. ltb→lt x (size f) (both-first (ltb x (size f)) (member x goals) h);
+}

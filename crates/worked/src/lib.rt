@@ -1,0 +1,1 @@
+// The worked cases of document 01 as one proved list, and pins: no code.
