@@ -51,7 +51,9 @@ pub enum Answer {
         rise: usize,
         moves: usize,
     },
-    Stayed { rise: usize },
+    Stayed {
+        rise: usize,
+    },
     Refused(Refusal),
 }
 

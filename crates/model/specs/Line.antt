@@ -1,1 +1,145 @@
--- to come
+-- The program `aisle`: its line, its defaults, and the lines it prints.
+use Prim.Native.Nat.{ℕ, zero, suc, _+_, _-_, _*_, _/_, _%_}
+use mathlib.Core.Bool.{Bool, true, false, _&&_}
+use mathlib.Core.Option.{Option, none, some}
+use mathlib.Core.List.{List, [], _∷_, _++_, map}
+use lib.Dec.{leb, ltb, eqb}
+use lib.ListN.{length, drop, replicate}
+use Rattle.answers.specs.declared.Job.{Job}
+use Rattle.answers.specs.declared.Place.{Place}
+use Rattle.answers.specs.declared.Place.the-variants as P
+use Rattle.answers.specs.declared.Refusal.{Refusal}
+use Rattle.answers.specs.declared.Verdict.{Verdict}
+use Rattle.answers.specs.declared.Verdict.the-variants as Vd
+use Rattle.model.specs.Basics.{choose, then, unless}
+use Rattle.model.specs.Floor.{openingTable}
+use Rattle.model.specs.Checks.{floorOf, goals, settings}
+use Rattle.model.specs.Opening.{trialsHold, openJob}
+use Rattle.model.specs.Ride.{Ride, Course, kept, courseFrom}
+use Rattle.model.specs.FloorText.{LF, isDigit, widthIn, heightIn, rowsIn, floorVerdict, cellsOf}
+
+-- the bytes before the first LF and after it; nothing where there is no LF
+unfoldable pub lineOf : List ℕ → Option (List ℕ)
+lineOf [] = none
+lineOf (b ∷ bs) = elim (eqb b LF) [ true ↦ some [] | false ↦ elim (lineOf bs) [ none ↦ none | some l ↦ some (b ∷ l) ] ]
+
+unfoldable pub afterLine : List ℕ → List ℕ
+afterLine [] = []
+afterLine (b ∷ bs) = elim (eqb b LF) [ true ↦ bs | false ↦ afterLine bs ]
+
+-- The numbers of a line: single spaces, 1 to 7 digits each, zeros in front change nothing. `digits` and `value` are those of the number being read.
+unfoldable pub numbersFrom : (digits value : ℕ) → List ℕ → Option (List ℕ)
+numbersFrom digits value [] = choose (leb 1 digits) (some (value ∷ [])) none
+numbersFrom digits value (b ∷ bs) =
+    elim (isDigit b && leb digits 6) [
+      | true ↦ numbersFrom (suc digits) (10 * value + (b - 48)) bs
+      | false ↦ elim (eqb b 32 && leb 1 digits) [
+        | true ↦ elim (numbersFrom 0 0 bs) [ none ↦ none | some ns ↦ some (value ∷ ns) ]
+        | false ↦ none
+      ]
+    ]
+
+-- `start goal depth p q quota trials`
+pub record Settings : Type 0 where
+  pub start : ℕ
+  pub goal : ℕ
+  pub depth : ℕ
+  pub p : ℕ
+  pub q : ℕ
+  pub quota : ℕ
+  pub trials : ℕ
+
+abbrev pub asked : (start goal depth p q quota trials : ℕ) → Option Settings
+asked start goal depth p q quota trials =
+    some (record { start = start; goal = goal; depth = depth; p = p; q = q; quota = quota; trials = trials })
+
+-- The line may stop after goal, depth, q or quota; left out they are depth 1, weight 1/1, quota 1,000,000, trials 10.
+abbrev pub defaultDepth : ℕ
+defaultDepth = 1
+
+abbrev pub settingsOf : List ℕ → Option Settings
+settingsOf [] = none
+settingsOf (s ∷ []) = none
+settingsOf (s ∷ g ∷ []) = asked s g defaultDepth 1 1 1000000 10
+settingsOf (s ∷ g ∷ d ∷ []) = asked s g d 1 1 1000000 10
+settingsOf (s ∷ g ∷ d ∷ p ∷ []) = none
+settingsOf (s ∷ g ∷ d ∷ p ∷ q ∷ []) = asked s g d p q 1000000 10
+settingsOf (s ∷ g ∷ d ∷ p ∷ q ∷ t ∷ []) = asked s g d p q t 10
+settingsOf (s ∷ g ∷ d ∷ p ∷ q ∷ t ∷ k ∷ []) = asked s g d p q t k
+settingsOf (s ∷ g ∷ d ∷ p ∷ q ∷ t ∷ k ∷ x ∷ xs) = none
+
+unfoldable pub readLine : List ℕ → Option Settings
+readLine input = elim (lineOf input) [ none ↦ none | some l ↦ elim (numbersFrom 0 0 l) [ none ↦ none | some ns ↦ settingsOf ns ] ]
+
+-- the job that a line and a floor of that width and height make
+abbrev pub jobIn : Settings → (width height : ℕ) → Job
+jobIn s width height = record { width = width; height = height; goal = s .goal; depth = s .depth; p = s .p; q = s .q; quota = s .quota }
+
+-- a number in decimal; 20 digits are enough for any count
+unfoldable pub decimalIn : (most n : ℕ) → List ℕ
+decimalIn zero n = []
+decimalIn (suc most) n = elim (leb n 9) [ true ↦ (48 + n) ∷ [] | false ↦ decimalIn most (n / 10) ++ (48 + n % 10) ∷ [] ]
+
+abbrev pub decimal : ℕ → List ℕ
+decimal n = decimalIn 20 n
+
+-- a field after one space
+abbrev pub field : ℕ → List ℕ
+field n = 32 ∷ decimal n
+
+-- a trial line: its moves (`-` if none), decisions, learned, kept cost, travel
+unfoldable pub movesField : List ℕ → List ℕ
+movesField [] = 45 ∷ []
+movesField (m ∷ ms) = map (λ x. 48 + x) (m ∷ ms)
+
+unfoldable pub trialLine : Job → List ℕ → Ride → List ℕ
+trialLine j bytes r =
+    movesField (r .moves) ++ (field (r .decisions) ++ (field (r .learned) ++ (field (kept j bytes r) ++ (field (r .travel) ++ (LF ∷ [])))))
+
+unfoldable pub trialLines : Job → List ℕ → List Ride → List ℕ
+trialLines j bytes [] = []
+trialLines j bytes (r ∷ rs) = trialLine j bytes r ++ trialLines j bytes rs
+
+-- the last line is `settled` or `unsettled` and the trials made
+abbrev pub settledWord : Bool → List ℕ
+settledWord true = 115 ∷ 101 ∷ 116 ∷ 116 ∷ 108 ∷ 101 ∷ 100 ∷ []
+settledWord false = 117 ∷ 110 ∷ 115 ∷ 101 ∷ 116 ∷ 116 ∷ 108 ∷ 101 ∷ 100 ∷ []
+
+unfoldable pub courseLines : Job → List ℕ → Course → List ℕ
+courseLines j bytes c = trialLines j bytes (c .rides) ++ (settledWord (c .settled) ++ (field (length (c .rides)) ++ (LF ∷ [])))
+
+-- a refusal prints only one line: `refused`, its number and any place
+abbrev pub placeField : Place → List ℕ
+placeField P.Nowhere = []
+placeField (P.Cell x) = field x
+placeField (P.Line x) = field x
+placeField (P.Record x) = field x
+
+unfoldable pub refusalLine : Refusal → List ℕ
+refusalLine r = 114 ∷ 101 ∷ 102 ∷ 117 ∷ 115 ∷ 101 ∷ 100 ∷ (field (r .number) ++ (placeField (r .place) ++ (LF ∷ [])))
+
+-- `aisle` judges its line with its settings, then the floor text, then the rest; its table is the opening one
+unfoldable pub judgeAisle : Settings → (text : List ℕ) → Verdict
+judgeAisle s text =
+    let j = jobIn s (widthIn text) (heightIn text) in
+    let bytes = cellsOf (widthIn text) (heightIn text) (rowsIn text) in
+    then (settings j)
+    (then (trialsHold (s .trials))
+    (then (floorVerdict text 4096)
+    (openJob j bytes (s .start) (openingTable (floorOf j bytes) (s .q) (goals j)))))
+
+abbrev pub printed : Verdict → Settings → (text : List ℕ) → List ℕ
+printed (Vd.Refused r) s text = refusalLine r
+printed Vd.Done s text =
+    let j = jobIn s (widthIn text) (heightIn text) in
+    let bytes = cellsOf (widthIn text) (heightIn text) (rowsIn text) in
+    let table = openingTable (floorOf j bytes) (s .q) (goals j) in
+    courseLines j bytes (courseFrom j bytes (s .start) (s .trials) table (replicate (widthIn text * heightIn text) 0))
+
+-- what `aisle` prints, whole
+unfoldable pub aisle : List ℕ → List ℕ
+aisle input =
+    elim (readLine input) [
+      | none ↦ refusalLine (record { number = 3; place = P.Nowhere })
+      | some s ↦ printed (judgeAisle s (afterLine input)) s (afterLine input)
+    ]
