@@ -9,6 +9,7 @@ use Rattle.answers.specs.declared.Job.{Job}
 use Rattle.answers.specs.declared.Place.{Place}
 use Rattle.answers.specs.declared.Place.the-variants as P
 use Rattle.answers.specs.declared.Refusal.{Refusal}
+use Rattle.answers.specs.declared.Settings.{Settings}
 use Rattle.answers.specs.declared.Verdict.{Verdict}
 use Rattle.answers.specs.declared.Verdict.the-variants as Vd
 use Rattle.model.specs.Basics.{choose, then, unless}
@@ -40,15 +41,6 @@ numbersFrom digits value (b ∷ bs) =
     ]
 
 -- `start goal depth p q quota trials`
-pub record Settings : Type 0 where
-  pub start : ℕ
-  pub goal : ℕ
-  pub depth : ℕ
-  pub p : ℕ
-  pub q : ℕ
-  pub quota : ℕ
-  pub trials : ℕ
-
 abbrev pub asked : (start goal depth p q quota trials : ℕ) → Option Settings
 asked start goal depth p q quota trials =
     some (record { start = start; goal = goal; depth = depth; p = p; q = q; quota = quota; trials = trials })
