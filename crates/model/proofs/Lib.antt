@@ -1,2 +1,5 @@
 pub mod Accepted
 pub mod Openings
+pub mod Cases
+pub mod Rings
+pub mod Steps

@@ -73,7 +73,7 @@ passed false number e = let z : _≡_ {A = ℕ} 0 1 = cc in absurd (omega arith)
 second-false : (a b : Bool) → a ≡ true → (a && b) ≡ false → b ≡ false
 second-false a b e f = rw e at f
 
-not-both : (a b : Bool) → (a ≡ true → b ≡ false) → (a && b) ≡ false
+pub not-both : (a b : Bool) → (a ≡ true → b ≡ false) → (a && b) ≡ false
 not-both true b h = h refl
 not-both false b h = refl
 
