@@ -3,3 +3,4 @@ pub mod Openings
 pub mod Cases
 pub mod Rings
 pub mod Steps
+pub mod Rides
