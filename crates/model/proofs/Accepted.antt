@@ -54,11 +54,11 @@ eq-tells a b = record { holds = eqb-true a b; shown = eq-eqb a b }
 is-tells : (b : Bool) → Tells b (b ≡ true)
 is-tells b = record { holds = λ e. e; shown = λ e. e }
 
-both-first : (a b : Bool) → (a && b) ≡ true → a ≡ true
+pub both-first : (a b : Bool) → (a && b) ≡ true → a ≡ true
 both-first true b e = refl
 both-first false b e = e
 
-both-second : (a b : Bool) → (a && b) ≡ true → b ≡ true
+pub both-second : (a b : Bool) → (a && b) ≡ true → b ≡ true
 both-second true b e = e
 both-second false b e = let z : _≡_ {A = ℕ} 0 1 = cc in absurd (omega arith)
 
@@ -160,7 +160,7 @@ module _ (n : ℕ) (fault : ℕ → Bool) where
   lowest-low : (x : ℕ) → x < n → fault x ≡ true → lowest n fault ≤ x
   lowest-low x h e = rw e at (over-low n n (λ y. pick (fault y) y n) x h)
 
-  lowest-met : lowest n fault < n → fault (lowest n fault) ≡ true
+  pub lowest-met : lowest n fault < n → fault (lowest n fault) ≡ true
   lowest-met h = let (i, l, e) = over-met n n (λ y. pick (fault y) y n) h in by i (fault i) refl e
     where
       by : (i : ℕ) (b : Bool) → fault i ≡ b → lowest n fault ≡ pick (fault i) i n → fault (lowest n fault) ≡ true

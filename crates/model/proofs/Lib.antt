@@ -1,5 +1,6 @@
 pub mod Accepted
 pub mod Openings
+pub mod Refusals
 pub mod Cases
 pub mod Rings
 pub mod Steps

@@ -79,7 +79,7 @@ not-both false b h = refl
 
 module _ (j : Job) (bytes : List ℕ) (start : ℕ) (table : List ℕ) where
   -- the fault that 7 names
-  abbrev above : ℕ → Bool
+  abbrev pub above : ℕ → Bool
   above x = reaches j bytes (distances j bytes) x && ltb (trueFigure j bytes (distances j bytes) x) (getD table x 0)
 
   below : Sound (learningJob j bytes) table → (x : ℕ) → above x ≡ false
