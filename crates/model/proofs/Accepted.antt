@@ -1,9 +1,10 @@
 -- What each check says, for the code that makes it and for whoever was let through by it.
 -- A check judges a fact: it is done where the fact holds, and else refused by its number. A search that names the lowest cell has laws of its own.
-use Prim.Native.Nat.{ℕ, zero, suc, _≤_, _<_, min}
+use Prim.Native.Nat.{ℕ, zero, suc, _*_, _≤_, _<_, min}
 use mathlib.Core.Path.{_≡_, refl, sym, ap, ap₂, _∙_, subst}
 use mathlib.Core.Bool.{Bool, true, false, _&&_}
 use mathlib.Core.List.{List, [], _∷_}
+use native.Mathlib.Nat.{le-trans, mul-le-mul-left}
 use native.Mathlib.Omega.{arith}
 use native.Mathlib.Decide.{decLe}
 use borrow.Author.Tests.{leb-true, ltb-true, eqb-true, ltb-false, le-leb, lt-ltb, le-ltb, eq-eqb}
@@ -21,6 +22,14 @@ use Rattle.model.specs.Basics.{choose, between, every, then, refuseAt, u
 use Rattle.model.specs.Floor.{Floor, size, Sized, free}
 use Rattle.model.specs.Checks.{ceiling, sizes, pathRoom, settings, scale, benches, places, figures}
 use Rattle.model.specs.Opening.{reportsRoom, trialsHold}
+
+-- ---- a floor that passed 1 has at most 4,096 cells
+
+pub within-floor : {a b : ℕ} → a ≤ 64 → b ≤ 64 → a * b ≤ 4096
+within-floor {a} {b} h k = le-trans (mul-le-mul-left a k) (omega arith)
+
+pub sized-cells : {f : Floor} → Sized f → size f ≤ 4096
+sized-cells s = within-floor (s .narrow) (s .low)
 
 -- ---- one check after another
 
@@ -142,6 +151,11 @@ pub places-judges : (f : Floor) (x g : ℕ) → Judges (places f x (g ∷ [])) 4
 unfolding places
 places-judges f x g = unless-judges _ 4 (and-tells (is-tells (free f x)) (one-tells f g))
 
+-- past the first cell, the goals are left
+pub places-next : (f : Floor) (x : ℕ) (gs : List ℕ) → free f x ≡ true → places f x gs ≡ benches f gs
+unfolding places benches
+places-next f x gs e = rw e
+
 -- ---- a search over the cells, which names the lowest
 
 -- no cell below x has the fault
@@ -205,7 +219,17 @@ naming-same n number fault other e =
     ap (λ (k : ℕ). choose (ltb k n) (refuseAt number (P.Cell k)) Vd.Done)
     (over-same n n (λ x. pick (fault x) x n) (λ x. pick (other x) x n) (λ k h. ap (λ b. pick b k n) (e k h)))
 
--- 5: every figure of an accepted table is within the ceiling
+-- 5, as a search over the table
+pub figures-names : (f : Floor) (table : List ℕ) (x : ℕ) → x < size f → NoneBelow (λ y. ltb ceiling (getD table y 0)) x → ceiling < getD table x 0
+    → figures f table ≡ refuseAt 5 (P.Cell x)
+unfolding figures
+figures-names f table x h none l = naming-names (size f) (λ y. ltb ceiling (getD table y 0)) 5 x h none (lt-ltb ceiling (getD table x 0) l)
+
+pub figures-done : (f : Floor) (table : List ℕ) → NoneBelow (λ y. ltb ceiling (getD table y 0)) (size f) → figures f table ≡ Vd.Done
+unfolding figures
+figures-done f table none = naming-done (size f) (λ y. ltb ceiling (getD table y 0)) 5 none
+
+-- every figure of an accepted table is within the ceiling
 pub figures-accepted : (f : Floor) (table : List ℕ) → figures f table ≡ Vd.Done → (x : ℕ) → x < size f → getD table x 0 ≤ ceiling
 unfolding figures
 figures-accepted f table e x h = ltb-false ceiling (getD table x 0) (naming-none (size f) (λ y. ltb ceiling (getD table y 0)) 5 e x h)
