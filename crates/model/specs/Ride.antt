@@ -108,7 +108,7 @@ courseFrom j bytes start (suc k) table path =
     elim (eqb (r .learned) 0) [
       | true ↦ record { rides = r ∷ []; settled = true; table = r .table; path = r .path }
       | false ↦ let c = courseFrom j bytes start k (r .table) (r .path) in
-        record { rides = r ∷ c .rides; settled = c .settled; table = c .table; path = c .path }
+          record { rides = r ∷ c .rides; settled = c .settled; table = c .table; path = c .path }
     ]
 
 -- the records of the trials made; later records are untouched
