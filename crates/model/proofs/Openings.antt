@@ -19,18 +19,15 @@ use Rattle.model.specs.Floor.{Floor, size, Sized, free}
 use Rattle.model.specs.Checks.{ceiling, floorOf, goals, groundIn, sizes, pathRoom, settings, places, figures}
 use Rattle.model.specs.Opening.{distances, reaches, trueFigure, soundness, accepts, openJob, openTrial, reportsRoom, trialsHold, openRun}
 use Rattle.model.specs.Ride.{learningJob}
+use Rattle.model.proofs.Moves.{is-true}
 use Rattle.model.proofs.Accepted.{then-next, then-done, Settings, sizes-judges, path-judges, reports-judges, settings-judges, trials-judges, places-judges, NoneBelow, naming-done, naming-none, figures-accepted}
 
 -- ---- whether a cell can reach the goal, as the opening computes it
 
-T-true : (b : Bool) → T b → b ≡ true
-T-true true t = refl
-T-true false t = absurd t
-
 module _ (j : Job) (bytes : List ℕ) where
   pub reaches-of : (x : ℕ) → CanReach (learningJob j bytes) x → reaches j bytes (distances j bytes) x ≡ true
   unfolding reachOf
-  reaches-of x r = T-true _ (reach-of (groundIn j bytes) x r)
+  reaches-of x r = is-true _ (reach-of (groundIn j bytes) x r)
 
   pub reaches-means : (x : ℕ) → reaches j bytes (distances j bytes) x ≡ true → CanReach (learningJob j bytes) x
   unfolding reachOf

@@ -20,7 +20,8 @@ use Rattle.model.specs.Floor.{Floor, size, free}
 use Rattle.model.specs.Checks.{ceiling, floorOf, goals, sizes, pathRoom, settings, places, figures}
 use Rattle.model.specs.Opening.{distances, reaches, trueFigure, soundness, accepts, openJob, openTrial, reportsRoom, trialsHold, openRun}
 use Rattle.model.specs.Ride.{learningJob}
-use Rattle.model.proofs.Accepted.{lowest-met, both-first, both-second}
+use Rattle.model.proofs.Moves.{both}
+use Rattle.model.proofs.Accepted.{lowest-met}
 use Rattle.model.proofs.Openings.{reaches-of, above}
 
 clash : {A : Type 0} {r : Refusal} → Vd.Done ≡ Vd.Refused r → A
@@ -128,5 +129,5 @@ module _ (j : Job) (bytes : List ℕ) (start : ℕ) (table : List ℕ) (r : Refu
           let (x, p, l, t) = named (size (floorOf j bytes)) (above j bytes start table) 7 r f .1 in
           let c = reaches j bytes (distances j bytes) x in
           let o = ltb (trueFigure j bytes (distances j bytes) x) (getD table x 0) in
-          (x, p, record { on = l; can = both-first c o t; higher = ltb-true _ _ (both-second c o t) })
+          (x, p, record { on = l; can = both c o t .0; higher = ltb-true _ _ (both c o t .1) })
       by false f = let g : _≡_ {A = ℕ} 6 7 = cc in absurd (omega arith)
