@@ -3,7 +3,7 @@
 use Prim.Native.Nat.{ℕ, zero, suc, _+_, _-_, _*_, _≤_, _<_}
 use mathlib.Core.Path.{_≡_, refl, sym, ap, ap₂, _∙_, subst}
 use mathlib.Core.Bool.{Bool, true, false, _&&_}
-use mathlib.Core.List.{List, [], _∷_, _++_, map, reverse}
+use mathlib.Core.List.{List, [], _∷_, _++_, map, reverse, reverseAux}
 use native.Mathlib.Nat.{le-trans, mul-le-mul}
 use native.Mathlib.Decide.{decLe, ℕ-discrete}
 use native.Mathlib.Omega.{arith}
@@ -14,7 +14,7 @@ use lib.Seq.{take-suc, getD-set-same, getD-set-other}
 use Rattle.learning.specs.Trial as learning
 use Rattle.learning.specs.Trial.{CanReach, LooksAhead, LeadsOn, raised}
 use Rattle.learning.specs.Ahead.{Window}
-use Rattle.learning.specs.Path.{Linked, All}
+use Rattle.learning.specs.Path.{Linked, All, end, also}
 use Rattle.learning.specs.Ground.{Goal, View, netOf, ringOf, lastOf, legOf}
 use Rattle.learning.proofs.Walks.{turn}
 use Rattle.learning.proofs.Paths.{all-init, all-last, linked-last}
@@ -22,18 +22,20 @@ use Rattle.learning.proofs.Decision.{raised-greater, raised-not}
 use Rattle.learning.proofs.Trials.{Keeps}
 use Rattle.learning.proofs.Never.{path-room, ring-here, new-high}
 use Rattle.learning.proofs.Look.{answer, walk-inside}
-use Rattle.learning.proofs.Routes.{route-short}
+use Rattle.learning.specs.Route.{Chain, ended, step}
+use Rattle.learning.proofs.Routes.{route-chain, route-short}
 use Rattle.learning.proofs.Lent.{forward-kept}
 use Rattle.answers.specs.declared.Job.{Job}
 use Rattle.answers.specs.declared.State.{State}
 use Rattle.answers.specs.declared.Answer.the-variants as A
 use Rattle.model.specs.Basics.{choose}
-use Rattle.model.specs.Floor.{Floor, size, opposite}
-use Rattle.model.specs.Grounds.{price-high}
-use Rattle.model.specs.Checks.{ceiling, floorOf, groundIn}
+use Rattle.model.specs.Floor.{Floor, size, Sized, heading, opposite}
+use Rattle.model.specs.Grounds.{price-high, groundOf}
+use Rattle.model.specs.Checks.{ceiling, floorOf, goals, groundIn}
 use Rattle.model.specs.Lookahead.{seen, ring, w, emptyRing, newFigure, target, route, movesAlong}
 use Rattle.model.specs.Decision.{atGoal, onPath, Deed, rise, stored, forward, backOut, stay, act}
 use Rattle.model.specs.Ride.{learningJob}
+use Rattle.model.proofs.Moves.{opposite-lt, price-move, heading-is}
 use Rattle.model.proofs.Openings.{Held, not-both}
 use Rattle.model.proofs.Cases.{act-learns, learn-forward, learn-back, back-stays, back-goes}
 use Rattle.model.proofs.Rings.{empty-none}
@@ -63,6 +65,7 @@ pub record Does (j : Job) (bytes : List ℕ) (s : State) (table path : List ℕ)
   pub places : length (d .path) ≡ length path
   pub says : Says d
   pub few : length (d .way) ≤ 11
+  pub low : All (λ m. m < 8) (d .way)
 
 pub stored-raised : (table : List ℕ) (s new : ℕ) → stored table s new ≡ raised table s new
 stored-raised table s new = by (ltb (getD table s 0) new) refl
@@ -83,6 +86,19 @@ pub moves-length : (f : Floor) (a : ℕ) (cells : List ℕ) → length (movesAlo
 unfolding movesAlong
 moves-length f a [] = refl
 moves-length f a (b ∷ bs) = ap suc (moves-length f b bs)
+
+-- every move along a walk is one of the eight, and so is every move back
+moves-low : (f : Floor) (z : Sized f) (gs : List ℕ) {S : ℕ → Type 0} {a b c : ℕ} {xs : List ℕ} → Chain (netOf (groundOf f gs)) S a xs b c → All (λ m. m < 8) (movesAlong f a xs)
+unfolding movesAlong
+moves-low f z gs (ended s) = end
+moves-low f z gs (step {a = a} {b = b} s e k) =
+    let (m, l, t, q) = price-move f z a b (omega (arith, e .0, e .1)) in
+    let one : heading f a b < 8 = omega (arith, l, ap (heading f a) q, heading-is f z a m l t) in
+    also one (moves-low f z gs k)
+
+back-low : {xs : List ℕ} (ys : List ℕ) → All (λ m. m < 8) xs → All (λ m. m < 8) (map opposite ys) → All (λ m. m < 8) (map opposite (reverseAux xs ys))
+back-low ys end h = h
+back-low ys (also {x = x} l k) h = back-low (x ∷ ys) k (also (opposite-lt x l) h)
 
 -- the path with its last cell apart
 parted : (path : List ℕ) (n : ℕ) → 1 ≤ n → n ≤ length path → take n path ≡ take (n - 1) path ++ getD path (n - 1) 0 ∷ []
@@ -115,6 +131,11 @@ module _ (j : Job) (bytes : List ℕ) (H : Held j bytes) where
         route-short (groundIn j bytes) (j .depth) s (H .settings .deep) (H .lawful .on-floor s r) g x l,
         H .settings .shallow,
       )
+
+  route-low : (s x : ℕ) → CanReach J s → ¬ J .Goal s → ringOf (groundIn j bytes) (j .depth) s x ≤ lastOf (groundIn j bytes) (j .depth) s
+      → All (λ m. m < 8) (movesAlong (floorOf j bytes) s (route j bytes s (seen j bytes s) x))
+  route-low s x r g l =
+      moves-low (floorOf j bytes) (H .sized) (goals j) (route-chain (groundIn j bytes) (j .depth) s (H .settings .deep) (H .lawful .on-floor s r) g x l)
 
   module _ {start : ℕ} (s : State) (table path : List ℕ) (k : Keeps J start (asState s table path)) (room : size (floorOf j bytes) ≤ length path) where
     pub short : s .length < size (floorOf j bytes)
@@ -171,6 +192,7 @@ module _ (j : Job) (bytes : List ℕ) (H : Held j bytes) where
             places = length-set path (s .length) (s .current);
             says = went refl;
             few = route-few (s .current) t here off (omega (arith, looked .on-last));
+            low = route-low (s .current) t here off (omega (arith, looked .on-last));
           }
 
       -- backing out, with a path: not 8
@@ -216,6 +238,7 @@ module _ (j : Job) (bytes : List ℕ) (H : Held j bytes) where
               length-reverse (movesAlong (floorOf j bytes) l (route j bytes l (seen j bytes l) (s .current))),
               route-few l (s .current) (there i) (leads i .0) (omega (arith, leads i .1)),
             );
+            low = back-low [] (route-low l (s .current) (there i) (leads i .0) (omega (arith, leads i .1))) end;
           }
 
       -- with none
@@ -239,6 +262,7 @@ module _ (j : Job) (bytes : List ℕ) (H : Held j bytes) where
             places = refl;
             says = stayed refl;
             few = omega arith;
+            low = end;
           }
 
       -- whichever it is
