@@ -10,3 +10,4 @@ pub mod Cases
 pub mod Rings
 pub mod Steps
 pub mod Rides
+pub mod Tables

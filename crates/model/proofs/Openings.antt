@@ -67,7 +67,7 @@ passed : (b : Bool) (number : ℕ) → unless b number ≡ Vd.Done → b ≡ tru
 passed true number e = refl
 passed false number e = let z : _≡_ {A = ℕ} 0 1 = cc in absurd (omega arith)
 
-second-false : (a b : Bool) → a ≡ true → (a && b) ≡ false → b ≡ false
+pub second-false : (a b : Bool) → a ≡ true → (a && b) ≡ false → b ≡ false
 second-false a b e f = rw e at f
 
 pub not-both : (a b : Bool) → (a ≡ true → b ≡ false) → (a && b) ≡ false

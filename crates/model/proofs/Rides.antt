@@ -84,7 +84,7 @@ module _ (j : Job) (bytes : List ℕ) (start : ℕ) (table path : List ℕ) (R :
       riding-next = record {
         made = trial-on (g .made) (does .step);
         fits = λ x h. subst (λ t. getD t x 0 ≤ ceiling) (sym (does .stores))
-            (stored-fits (r .table) (r .state .current) _ ceiling (new-fits j bytes H (r .state) (r .table) (r .path) keeps room aside)
+            (stored-fits (r .table) (r .state .current) _ ceiling (λ l. new-fits j bytes H (r .state) (r .table) (r .path) keeps room aside)
             (λ y l. g .fits y (omega (arith, keeps .sound .size))) x (omega (arith, keeps .sound .size)));
         places = does .places ∙ g .places;
       }

@@ -74,13 +74,14 @@ stored-raised table s new = by (ltb (getD table s 0) new) refl
     by true e = raised-greater table s new (ltb-true (getD table s 0) new e)
     by false e = raised-not table s new (ltb-false (getD table s 0) new e)
 
-pub stored-fits : (table : List ℕ) (s new top : ℕ) → new ≤ top → ((x : ℕ) → x < length table → getD table x 0 ≤ top) → (x : ℕ) → x < length table → getD (stored table s new) x 0 ≤ top
-stored-fits table s new top low fits x h = by (ltb (getD table s 0) new) (ℕ-discrete x s)
+pub stored-fits : (table : List ℕ) (s new top : ℕ) → (getD table s 0 < new → new ≤ top) → ((x : ℕ) → x < length table → getD table x 0 ≤ top) → (x : ℕ) → x < length table
+    → getD (stored table s new) x 0 ≤ top
+stored-fits table s new top low fits x h = by (ltb (getD table s 0) new) refl (ℕ-discrete x s)
   where
-    by : (b : Bool) → Dec (x ≡ s) → getD (choose b (set table s new) table) x 0 ≤ top
-    by true (yes e) = omega (arith, ap (λ (y : ℕ). getD (set table s new) y 0) e, getD-set-same table s new 0 (omega arith))
-    by true (no e) = omega (arith, getD-set-other table s x new 0 e, fits x h)
-    by false d = fits x h
+    by : (b : Bool) → ltb (getD table s 0) new ≡ b → Dec (x ≡ s) → getD (choose b (set table s new) table) x 0 ≤ top
+    by true r (yes e) = omega (arith, low (ltb-true (getD table s 0) new r), ap (λ (y : ℕ). getD (set table s new) y 0) e, getD-set-same table s new 0 (omega arith))
+    by true r (no e) = omega (arith, getD-set-other table s x new 0 e, fits x h)
+    by false r d = fits x h
 
 pub moves-length : (f : Floor) (a : ℕ) (cells : List ℕ) → length (movesAlong f a cells) ≡ length cells
 unfolding movesAlong
