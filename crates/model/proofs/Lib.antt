@@ -11,3 +11,4 @@ pub mod Rings
 pub mod Steps
 pub mod Rides
 pub mod Tables
+pub mod Demand

@@ -1,6 +1,6 @@
 -- What a decision does to the table, from whatever state: no figure falls, and a sound table stays sound.
 -- It touches the current cell's figure alone, and only to store a greater one, which is no greater than the true one.
-use Prim.Native.Nat.{ℕ, _+_, _-_, _*_, _≤_, _<_}
+use Prim.Native.Nat.{ℕ, zero, suc, _+_, _-_, _*_, _≤_, _<_}
 use mathlib.Core.Path.{_≡_, refl, sym, ap, _∙_, subst}
 use mathlib.Core.Logic.{_⊎_, inl, inr}
 use mathlib.Core.Bool.{Bool, true, false, _&&_}
@@ -24,10 +24,11 @@ use Rattle.model.specs.Basics.{choose}
 use Rattle.model.specs.Checks.{ceiling, groundIn}
 use Rattle.model.specs.Lookahead.{seen, ring, emptyRing}
 use Rattle.model.specs.Decision.{Deed, atGoal, rise, stored, forward, backOut, stay, goBack, learn, act, Outcome, outcomeOf, judge, decide}
-use Rattle.model.specs.Ride.{learningJob}
-use Rattle.model.proofs.Openings.{Held, Opened, second-false}
+use Rattle.model.specs.Ride.{Ride, begun, next, rideFrom, learningJob, bound, ride, Course, courseFrom}
+use Rattle.model.proofs.Openings.{Held, Opened, Ready, second-false}
 use Rattle.model.proofs.Cases.{last-cell, act-arrived, act-blind, act-learns, learn-over, learn-forward, learn-back, back-stays, back-lost, back-goes}
 use Rattle.model.proofs.Steps.{newHere, targetHere, stored-raised, stored-fits}
+use Rattle.model.proofs.Rides.{ride-there, ride-on, ready-after, course-settled, course-again}
 
 pub stored-high : (table : List ℕ) (s new x : ℕ) → getD table x 0 ≤ getD (stored table s new) x 0
 stored-high table s new x = by (ltb (getD table s 0) new) refl (ℕ-discrete x s) (decLe (length table) s)
@@ -166,3 +167,49 @@ module _ (j : Job) (bytes : List ℕ) (s : State) (table path : List ℕ) where
       by : (v : Verdict) → P (outcomeOf v (act j bytes s table path) s table path moves from .table)
       by Vd.Done = new
       by (Vd.Refused r) = old
+
+-- ---- so it is with a ride and a course
+
+module _ (j : Job) (bytes : List ℕ) where
+  pub ride-high : (n : ℕ) (r : Ride) (x : ℕ) → getD (r .table) x 0 ≤ getD (rideFrom j bytes n r .table) x 0
+  unfolding rideFrom next
+  ride-high zero r x = omega arith
+  ride-high (suc n) r x = by (atGoal j bytes (r .state .current)) refl (ride-high n (next j bytes r) x)
+    where
+      by : (b : Bool) → atGoal j bytes (r .state .current) ≡ b
+          → getD (act j bytes (r .state) (r .table) (r .path) .table) x 0 ≤ getD (rideFrom j bytes n (next j bytes r) .table) x 0
+          → getD (r .table) x 0 ≤ getD (rideFrom j bytes (suc n) r .table) x 0
+      by true e h = omega (arith, ap (λ (q : Ride). getD (q .table) x 0) (ride-there j bytes (suc n) r e))
+      by false e h = omega (arith, act-high j bytes (r .state) (r .table) (r .path) x, ap (λ (q : Ride). getD (q .table) x 0) (ride-on j bytes n r e))
+
+  pub course-high : (start trials : ℕ) (table path : List ℕ) (x : ℕ) → getD table x 0 ≤ getD (courseFrom j bytes start trials table path .table) x 0
+  unfolding courseFrom ride
+  course-high start zero table path x = omega arith
+  course-high start (suc k) table path x =
+      by (eqb (r .learned) 0) refl (ride-high (bound j bytes table) (begun start table path) x) (course-high start k (r .table) (r .path) x)
+    where
+      r : Ride
+      r = ride j bytes start table path
+
+      by : (b : Bool) → eqb (r .learned) 0 ≡ b → getD table x 0 ≤ getD (rideFrom j bytes (bound j bytes table) (begun start table path) .table) x 0
+          → getD (r .table) x 0 ≤ getD (courseFrom j bytes start k (r .table) (r .path) .table) x 0
+          → getD table x 0 ≤ getD (courseFrom j bytes start (suc k) table path .table) x 0
+      by true e h i = omega (arith, ap (λ (c : Course). getD (c .table) x 0) (course-settled j bytes start k table path e))
+      by false e h i = omega (arith, ap (λ (c : Course). getD (c .table) x 0) (course-again j bytes start k table path e))
+
+  -- and what a course leaves is accepted again
+  pub course-ready : (start trials : ℕ) (table path : List ℕ) → Ready j bytes start table path
+      → Ready j bytes start (courseFrom j bytes start trials table path .table) (courseFrom j bytes start trials table path .path)
+  unfolding courseFrom
+  course-ready start zero table path R = R
+  course-ready start (suc k) table path R =
+      by (eqb (ride j bytes start table path .learned) 0) refl (ready-after j bytes start table path R)
+      (course-ready start k (ride j bytes start table path .table) (ride j bytes start table path .path))
+    where
+      by : (b : Bool) → eqb (ride j bytes start table path .learned) 0 ≡ b → Ready j bytes start (ride j bytes start table path .table) (ride j bytes start table path .path)
+          → (Ready j bytes start (ride j bytes start table path .table) (ride j bytes start table path .path)
+          → Ready j bytes start (courseFrom j bytes start k (ride j bytes start table path .table) (ride j bytes start table path .path) .table)
+          (courseFrom j bytes start k (ride j bytes start table path .table) (ride j bytes start table path .path) .path))
+          → Ready j bytes start (courseFrom j bytes start (suc k) table path .table) (courseFrom j bytes start (suc k) table path .path)
+      by true e h more = subst (λ c. Ready j bytes start (c .table) (c .path)) (sym (course-settled j bytes start k table path e)) h
+      by false e h more = subst (λ c. Ready j bytes start (c .table) (c .path)) (sym (course-again j bytes start k table path e)) (more h)
