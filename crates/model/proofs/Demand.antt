@@ -8,7 +8,6 @@ use mathlib.Core.Bool.{Bool, true, false, _||_}
 use mathlib.Core.List.{List, [], _∷_, map}
 use native.Mathlib.Nat.{le-refl, mul-add}
 use native.Mathlib.Omega.{arith}
-use borrow.Author.Tests.{eqb-true}
 use lib.Dec.{T, ltb, leb, eqb}
 use lib.ListN.{length, getD}
 use Rattle.learning.specs.Walk.{Walk, Any}
@@ -26,13 +25,12 @@ use Rattle.answers.specs.declared.Verdict.{Verdict}
 use Rattle.answers.specs.declared.Verdict.the-variants as Vd
 use Rattle.answers.specs.declared.Tried.the-variants as Td
 use Rattle.answers.specs.declared.Ran.the-variants as Rn
-use Rattle.model.specs.Basics.{member}
 use Rattle.model.specs.Floor.{size}
 use Rattle.model.specs.Checks.{floorOf, goals, groundIn}
 use Rattle.model.specs.Opening.{distances, reaches, trueFigure, soundness, openJob, openTrial, openRun}
 use Rattle.model.specs.Decision.{atGoal, act, decide}
 use Rattle.model.specs.Ride.{Ride, begun, next, rideFrom, learningJob, bound, ride, kept, report, TrialOutcome, trialOf, trial, Course, courseFrom, filedIn, RunOutcome, runOf, run}
-use Rattle.model.proofs.Moves.{both}
+use Rattle.model.proofs.Meaning.{goal-means}
 use Rattle.model.proofs.Openings.{Opened, Ready, ReadyRun, reaches-means, opened, accepted, ready, accepted-trial, ready-run}
 use Rattle.model.proofs.Refusals.{Above, job-refused, trial-refused, run-refused, six-means, seven-means}
 use Rattle.model.proofs.Rides.{Riding, riding-begun, riding-from, ride-riding, ride-arrives, decisions-low, keeps, ready-after, Rides, course-settled, course-again, course-rides}
@@ -78,15 +76,6 @@ K-is j bytes = ap (λ (m : ℕ). suc (m / (10 * j .p))) (most-same (size (floorO
 pub bound-is : (j : Job) (bytes table : List ℕ) → bound j bytes table ≡ K j bytes * (R j bytes table + 1)
 unfolding bound
 bound-is j bytes table = sym (ap₂ (λ k r. k * (r + 1)) (K-is j bytes) (R-is j bytes table))
-
--- the bench is the goal
-bench : (j : Job) (bytes : List ℕ) (x : ℕ) → atGoal j bytes x ≡ true → x ≡ j .goal
-unfolding member
-bench j bytes x e = eqb-true x (j .goal) (one (eqb x (j .goal)) (both (ltb x (size (floorOf j bytes))) _ e .1))
-  where
-    one : (b : Bool) → (b || false) ≡ true → b ≡ true
-    one true e = refl
-    one false e = e
 
 true-high : (j : Job) (bytes : List ℕ) {table : List ℕ} → Sound (learningJob j bytes) table → (x : ℕ) → can j bytes x ≡ true → getD table x 0 ≤ trueOf j bytes x
 unfolding distOf
@@ -175,7 +164,7 @@ module _ (j : Job) (bytes : List ℕ) (start : ℕ) (table path : List ℕ) (e :
   pub trial-reaches-the-bench : (ride j bytes start table path .state .current ≡ j .goal) × (ride j bytes start table path .decisions < K j bytes * (R j bytes table + 1))
   trial-reaches-the-bench =
       let A = ready j bytes start table path e in (
-        bench j bytes _ (ride-arrives j bytes start table path A),
+        goal-means j bytes _ (ride-arrives j bytes start table path A),
         subst (λ b. ride j bytes start table path .decisions < b) (bound-is j bytes table) (decisions-low j bytes start table path A (ride-riding j bytes start table path A)),
       )
 

@@ -8,6 +8,7 @@ pub mod Openings
 pub mod Refusals
 pub mod Cases
 pub mod Rings
+pub mod Meaning
 pub mod Steps
 pub mod Rides
 pub mod Tables
