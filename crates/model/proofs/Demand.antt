@@ -1,39 +1,38 @@
 -- Demand 3 of the mission, of the model's own decisions, trials and runs: one theorem for each sentence, which stands above it.
 -- "Any accepted job" is the model's own acceptance: `openJob`, `openTrial` or `openRun` is done. Nothing else is assumed.
 -- What `distances`, `reaches` and the rest mean is proved in Meaning.
-use Prim.Native.Nat.{ℕ, zero, suc, _+_, _-_, _*_, _/_, _≤_, _<_}
-use mathlib.Core.Path.{_≡_, refl, sym, ap, ap₂, _∙_, subst}
+use Prim.Native.Nat.{ℕ, suc, _+_, _-_, _*_, _/_, _≤_, _<_}
+use mathlib.Core.Path.{_≡_, refl, sym, ap, ap₂, subst}
 use mathlib.Core.Logic.{_⊎_, inl, inr}
-use mathlib.Core.Bool.{Bool, true, false, _||_}
-use mathlib.Core.List.{List, [], _∷_, map}
+use mathlib.Core.Bool.{Bool, true, false}
+use mathlib.Core.List.{List, map}
 use native.Mathlib.Nat.{le-refl, mul-add}
 use native.Mathlib.Omega.{arith}
-use lib.Dec.{T, ltb, leb, eqb}
+use lib.Dec.{T}
 use lib.ListN.{length, getD}
 use Rattle.learning.specs.Walk.{Walk, Any}
 use Rattle.learning.specs.Path.{total, most}
 use Rattle.learning.specs.Trial.{Sound, left, factor}
-use Rattle.learning.specs.Ground.{pick, netOf, far, distIn, distOf, legOf}
+use Rattle.learning.specs.Ground.{pick, netOf, distIn, distOf}
 use Rattle.learning.proofs.Sums.{total-same, most-same}
-use Rattle.learning.proofs.Bounds.{stays-sound, kept-bound, settled-travel}
+use Rattle.learning.proofs.Bounds.{kept-bound, settled-travel}
 use Rattle.answers.specs.declared.Job.{Job}
 use Rattle.answers.specs.declared.State.{State}
 use Rattle.answers.specs.declared.Refusal.{Refusal}
 use Rattle.answers.specs.declared.Report.{Report}
 use Rattle.answers.specs.declared.Place.the-variants as P
-use Rattle.answers.specs.declared.Verdict.{Verdict}
 use Rattle.answers.specs.declared.Verdict.the-variants as Vd
 use Rattle.answers.specs.declared.Tried.the-variants as Td
 use Rattle.answers.specs.declared.Ran.the-variants as Rn
 use Rattle.model.specs.Floor.{size}
-use Rattle.model.specs.Checks.{floorOf, goals, groundIn}
+use Rattle.model.specs.Checks.{floorOf, groundIn}
 use Rattle.model.specs.Opening.{distances, reaches, trueFigure, soundness, openJob, openTrial, openRun}
-use Rattle.model.specs.Decision.{atGoal, act, decide}
-use Rattle.model.specs.Ride.{Ride, begun, next, rideFrom, learningJob, bound, ride, kept, report, TrialOutcome, trialOf, trial, Course, courseFrom, filedIn, RunOutcome, runOf, run}
+use Rattle.model.specs.Decision.{atGoal, decide}
+use Rattle.model.specs.Ride.{begun, rideFrom, learningJob, bound, ride, kept, report, trialOf, trial, courseFrom, filedIn, runOf, run}
 use Rattle.model.proofs.Meaning.{goal-means}
-use Rattle.model.proofs.Openings.{Opened, Ready, ReadyRun, reaches-means, opened, accepted, ready, accepted-trial, ready-run}
+use Rattle.model.proofs.Openings.{reaches-means, opened, accepted, ready, accepted-trial, ready-run}
 use Rattle.model.proofs.Refusals.{Above, job-refused, trial-refused, run-refused, six-means, seven-means}
-use Rattle.model.proofs.Rides.{Riding, riding-begun, riding-from, ride-riding, ride-arrives, decisions-low, keeps, ready-after, Rides, course-settled, course-again, course-rides}
+use Rattle.model.proofs.Rides.{riding-begun, riding-from, ride-riding, ride-arrives, decisions-low, keeps, ready-after, Rides, course-rides}
 use Rattle.model.proofs.Tables.{act-high, act-opened, decide-table, ride-high, course-high, course-ready}
 
 -- ---- the mission's words

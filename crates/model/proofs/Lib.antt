@@ -10,6 +10,7 @@ pub mod Cases
 pub mod Rings
 pub mod Meaning
 pub mod Steps
+pub mod Judged
 pub mod Rides
 pub mod Tables
 pub mod Demand

@@ -1,7 +1,7 @@
 -- What the definitions mean, in document 01's words: moves, rings, the window, w, the new figure, the target, the route, true distances, and number 9.
 -- All are what `learning` proves of any ground; here they are said of the model's own names.
 use Prim.Native.Nat.{ℕ, zero, suc, _+_, _≤_, _<_}
-use mathlib.Core.Path.{_≡_, refl, sym, _∙_, subst}
+use mathlib.Core.Path.{_≡_, refl, subst}
 use mathlib.Core.Logic.{_⊎_, inl, inr, _≢_}
 use mathlib.Core.Bool.{Bool, true, false, _||_}
 use mathlib.Core.List.{List, [], _∷_, _++_}
@@ -11,9 +11,8 @@ use native.Mathlib.Omega.{arith}
 use borrow.Author.Tests.{eqb-true, eq-eqb, lt-ltb}
 use lib.Dec.{T, ltb, eqb}
 use lib.ListN.{getD}
-use Rattle.learning.specs.Walk.{Network, Walk, stop, Any, Least, Leads, Arrives}
+use Rattle.learning.specs.Walk.{Network, Walk, Any, Least, Leads, Arrives}
 use Rattle.learning.specs.Ahead.{Window, Ahead}
-use Rattle.learning.specs.Trial.{CanReach}
 use Rattle.learning.specs.Ground.{Goal, netOf, distIn, distOf, ringOf, lastOf, legOf}
 use Rattle.learning.specs.Route.{Chain, priorIn}
 use Rattle.learning.proofs.Sound.{ring-self}
@@ -28,8 +27,7 @@ use Rattle.model.specs.Checks.{floorOf, groundIn}
 use Rattle.model.specs.Lookahead.{seen, ring, w, emptyRing, newFigure, target, route}
 use Rattle.model.specs.Opening.{distances, reaches}
 use Rattle.model.specs.Decision.{atGoal}
-use Rattle.model.specs.Ride.{learningJob}
-use Rattle.model.proofs.Moves.{both, both-of, toll, price-move, price-ahead, allowed-inside, allowed-free, allowed-some, is-true}
+use Rattle.model.proofs.Moves.{both, toll, price-move, price-ahead, allowed-inside, allowed-free, is-true}
 use Rattle.model.proofs.Openings.{reaches-of, reaches-means}
 use Rattle.model.proofs.Rings.{Bare, empty-some, empty-full, empty-of}
 use Rattle.model.specs.Grounds.{price-free}

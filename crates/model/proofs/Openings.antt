@@ -12,15 +12,14 @@ use Rattle.learning.specs.Trial.{Lawful, CanReach, Sound}
 use Rattle.learning.specs.Ground.{reachOf, distOf}
 use Rattle.learning.proofs.Ground.{lawful, on-floor, reach-of, reach-true}
 use Rattle.answers.specs.declared.Job.{Job}
-use Rattle.answers.specs.declared.Verdict.{Verdict}
 use Rattle.answers.specs.declared.Verdict.the-variants as Vd
 use Rattle.model.specs.Basics.{unless}
-use Rattle.model.specs.Floor.{Floor, size, Sized, free}
+use Rattle.model.specs.Floor.{size, Sized, free}
 use Rattle.model.specs.Checks.{ceiling, floorOf, goals, groundIn, sizes, pathRoom, settings, places, figures}
 use Rattle.model.specs.Opening.{distances, reaches, trueFigure, soundness, accepts, openJob, openTrial, reportsRoom, trialsHold, openRun}
 use Rattle.model.specs.Ride.{learningJob}
 use Rattle.model.proofs.Moves.{is-true}
-use Rattle.model.proofs.Accepted.{then-next, then-done, Settings, sizes-judges, path-judges, reports-judges, settings-judges, trials-judges, places-judges, NoneBelow, naming-done, naming-none, figures-accepted}
+use Rattle.model.proofs.Accepted.{then-next, then-done, Settings, sizes-judges, path-judges, reports-judges, settings-judges, trials-judges, places-judges, naming-done, naming-none, figures-accepted}
 
 -- ---- whether a cell can reach the goal, as the opening computes it
 

@@ -1,7 +1,7 @@
 -- What a refusal at opening says: number 6 only where no way exists, number 7 only where some cell is above its true figure.
 -- A refusal comes from the first check that is not done, and only the last two checks have these numbers.
 use Prim.Native.Nat.{ℕ, _≤_, _<_}
-use mathlib.Core.Path.{_≡_, refl, sym, ap}
+use mathlib.Core.Path.{_≡_, refl}
 use mathlib.Core.Bool.{Bool, true, false, _&&_}
 use mathlib.Core.List.{List}
 use native.Mathlib.Omega.{arith}
@@ -17,7 +17,7 @@ use Rattle.answers.specs.declared.Verdict.{Verdict}
 use Rattle.answers.specs.declared.Verdict.the-variants as Vd
 use Rattle.model.specs.Basics.{choose, between, every, then, refuseAt, unless, naming}
 use Rattle.model.specs.Floor.{Floor, size, free}
-use Rattle.model.specs.Checks.{ceiling, floorOf, goals, sizes, pathRoom, settings, places, figures}
+use Rattle.model.specs.Checks.{floorOf, goals, sizes, pathRoom, settings, places, figures}
 use Rattle.model.specs.Opening.{distances, reaches, trueFigure, soundness, accepts, openJob, openTrial, reportsRoom, trialsHold, openRun}
 use Rattle.model.specs.Ride.{learningJob}
 use Rattle.model.proofs.Moves.{both}

@@ -1,25 +1,25 @@
 -- A decision of the model past its checks, in a trial, is a decision of `learning`, and none of its refusals comes about.
 -- The path's cells are the first entries of the lent list: so a state and the lists beside it are one state of `learning`.
-use Prim.Native.Nat.{ℕ, zero, suc, _+_, _-_, _*_, _≤_, _<_}
-use mathlib.Core.Path.{_≡_, refl, sym, ap, ap₂, _∙_, subst}
+use Prim.Native.Nat.{ℕ, suc, _+_, _-_, _*_, _≤_, _<_}
+use mathlib.Core.Path.{_≡_, refl, sym, ap, _∙_, subst}
 use mathlib.Core.Bool.{Bool, true, false, _&&_}
 use mathlib.Core.List.{List, [], _∷_, _++_, map, reverse, reverseAux}
 use native.Mathlib.Nat.{le-trans, mul-le-mul}
 use native.Mathlib.Decide.{decLe, ℕ-discrete}
 use native.Mathlib.Omega.{arith}
 use borrow.Author.Tests.{ltb-true, ltb-false, le-ltb, le-leb, lt-leb, eq-eqb, ne-eqb}
-use lib.Dec.{T, ltb, leb, eqb}
+use lib.Dec.{T, ltb}
 use lib.ListN.{length, getD, set, take, length-set, length-take, length-map, length-reverse}
 use lib.Seq.{take-suc, getD-set-same, getD-set-other}
 use Rattle.learning.specs.Trial as learning
-use Rattle.learning.specs.Trial.{CanReach, LooksAhead, LeadsOn, raised}
-use Rattle.learning.specs.Ahead.{Window}
+use Rattle.learning.specs.Trial.{CanReach, LooksAhead, LeadsOn, raised, after, moveCost}
 use Rattle.learning.specs.Path.{Linked, All, end, also}
-use Rattle.learning.specs.Ground.{Goal, View, netOf, ringOf, lastOf, legOf}
+use Rattle.learning.specs.Ground.{Goal, netOf, ringOf, lastOf, legOf}
 use Rattle.learning.proofs.Walks.{turn}
 use Rattle.learning.proofs.Paths.{all-init, all-last, linked-last}
 use Rattle.learning.proofs.Decision.{raised-greater, raised-not}
 use Rattle.learning.proofs.Trials.{Keeps}
+use Rattle.learning.proofs.Decides.{after-step, step-unique}
 use Rattle.learning.proofs.Never.{path-room, ring-here, new-high}
 use Rattle.learning.proofs.Look.{answer, walk-inside}
 use Rattle.learning.specs.Route.{Chain, ended, step}
@@ -32,7 +32,7 @@ use Rattle.model.specs.Basics.{choose}
 use Rattle.model.specs.Floor.{Floor, size, Sized, heading, opposite}
 use Rattle.model.specs.Grounds.{price-high, groundOf}
 use Rattle.model.specs.Checks.{ceiling, floorOf, goals, groundIn}
-use Rattle.model.specs.Lookahead.{seen, ring, w, emptyRing, newFigure, target, route, movesAlong}
+use Rattle.model.specs.Lookahead.{seen, ring, emptyRing, newFigure, target, route, movesAlong}
 use Rattle.model.specs.Decision.{atGoal, onPath, Deed, rise, stored, forward, backOut, stay, act}
 use Rattle.model.specs.Ride.{learningJob}
 use Rattle.model.proofs.Moves.{opposite-lt, price-move, heading-is}
@@ -274,3 +274,10 @@ module _ (j : Job) (bytes : List ℕ) (H : Held j bytes) where
           by (yes h) d = subst (Does j bytes s table path) (sym (act-forward h)) (forward-does h)
           by (no h) (yes i) = subst (Does j bytes s table path) (sym (act-back (omega arith) i)) (back-does (omega arith) i)
           by (no h) (no i) = subst (Does j bytes s table path) (sym (act-stay (omega arith) (omega arith))) (stay-does (omega arith) (omega arith))
+
+      -- and it is what `learning`'s function of the lookahead's answer gives
+      pub act-after : (act j bytes s table path .rise ≡ rise table (s .current) (newHere j bytes s table))
+          × (act j bytes s table path .cost ≡ moveCost J (asState s table path) (newHere j bytes s table) (targetHere j bytes s table))
+          × (asState (act j bytes s table path .state) (act j bytes s table path .table) (act j bytes s table path .path)
+          ≡ after J (asState s table path) (newHere j bytes s table) (targetHere j bytes s table))
+      act-after = step-unique (H .lawful) here (act-does .step) (after-step (asState s table path) off looked)

@@ -11,7 +11,7 @@ use borrow.Author.Tests.{ltb-true, ltb-false, lt-ltb}
 use lib.Dec.{T, ltb, leb, eqb}
 use lib.ListN.{length, getD, set, length-set}
 use lib.Seq.{getD-set-same, getD-set-other, set-out}
-use Rattle.learning.specs.Trial.{CanReach, Sound, truth, raised}
+use Rattle.learning.specs.Trial.{CanReach, Sound, truth}
 use Rattle.learning.specs.Ground.{reachOf}
 use Rattle.learning.proofs.Ground.{reach-of, reach-true}
 use Rattle.learning.proofs.Look.{answer}
@@ -23,10 +23,10 @@ use Rattle.answers.specs.declared.Verdict.the-variants as Vd
 use Rattle.model.specs.Basics.{choose}
 use Rattle.model.specs.Checks.{ceiling, groundIn}
 use Rattle.model.specs.Lookahead.{seen, ring, emptyRing}
-use Rattle.model.specs.Decision.{Deed, atGoal, rise, stored, forward, backOut, stay, goBack, learn, act, Outcome, outcomeOf, judge, decide}
+use Rattle.model.specs.Decision.{Deed, atGoal, rise, stored, forward, backOut, stay, goBack, act, outcomeOf, judge, decide}
 use Rattle.model.specs.Ride.{Ride, begun, next, rideFrom, learningJob, bound, ride, Course, courseFrom}
 use Rattle.model.proofs.Openings.{Held, Opened, Ready, second-false}
-use Rattle.model.proofs.Cases.{last-cell, act-arrived, act-blind, act-learns, learn-over, learn-forward, learn-back, back-stays, back-lost, back-goes}
+use Rattle.model.proofs.Cases.{act-arrived, act-blind, act-learns, learn-over, learn-forward, learn-back, back-stays, back-lost, back-goes}
 use Rattle.model.proofs.Steps.{newHere, targetHere, stored-raised, stored-fits}
 use Rattle.model.proofs.Rides.{ride-there, ride-on, ready-after, course-settled, course-again}
 
