@@ -5,7 +5,7 @@ use Prim.Native.Nat.{ℕ, suc, _+_, _-_, _*_, _/_, _≤_, _<_}
 use mathlib.Core.Path.{_≡_, refl, sym, ap, ap₂, subst}
 use mathlib.Core.Logic.{_⊎_, inl, inr}
 use mathlib.Core.Bool.{Bool, true, false}
-use mathlib.Core.List.{List, map}
+use mathlib.Core.List.{List, [], _∷_, map}
 use native.Mathlib.Nat.{le-refl, mul-add}
 use native.Mathlib.Omega.{arith}
 use lib.Dec.{T}
@@ -21,6 +21,7 @@ use Rattle.answers.specs.declared.State.{State}
 use Rattle.answers.specs.declared.Refusal.{Refusal}
 use Rattle.answers.specs.declared.Report.{Report}
 use Rattle.answers.specs.declared.Place.the-variants as P
+use Rattle.answers.specs.declared.Verdict.{Verdict}
 use Rattle.answers.specs.declared.Verdict.the-variants as Vd
 use Rattle.answers.specs.declared.Tried.the-variants as Td
 use Rattle.answers.specs.declared.Ran.the-variants as Rn
@@ -28,11 +29,11 @@ use Rattle.model.specs.Floor.{size}
 use Rattle.model.specs.Checks.{floorOf, groundIn}
 use Rattle.model.specs.Opening.{distances, reaches, trueFigure, soundness, openJob, openTrial, openRun}
 use Rattle.model.specs.Decision.{atGoal, decide}
-use Rattle.model.specs.Ride.{begun, rideFrom, learningJob, bound, ride, kept, report, trialOf, trial, courseFrom, filedIn, runOf, run}
+use Rattle.model.specs.Ride.{Ride, begun, rideFrom, learningJob, bound, ride, kept, report, trialOf, trial, courseFrom, filedIn, runOf, run}
 use Rattle.model.proofs.Meaning.{goal-means}
 use Rattle.model.proofs.Openings.{reaches-means, opened, accepted, ready, accepted-trial, ready-run}
 use Rattle.model.proofs.Refusals.{Above, job-refused, trial-refused, run-refused, six-means, seven-means}
-use Rattle.model.proofs.Rides.{riding-begun, riding-from, ride-riding, ride-arrives, decisions-low, keeps, ready-after, Rides, course-rides}
+use Rattle.model.proofs.Rides.{riding-begun, riding-from, ride-riding, ride-arrives, decisions-low, keeps, ready-after, Rides, over, trip, course-rides}
 use Rattle.model.proofs.Tables.{act-high, act-opened, decide-table, ride-high, course-high, course-ready}
 
 -- ---- the mission's words
@@ -89,7 +90,17 @@ pub trial-is-made : (j : Job) (bytes : List ℕ) (start : ℕ) (table path : Lis
 unfolding trial
 trial-is-made j bytes start table path e = ap (λ v. trialOf v j bytes (ride j bytes start table path) table path) e
 
--- and a run: its records are those of its rides, each of which is an accepted trial, so that all that follows holds of each
+-- and no other: where a trial is made, its job was accepted
+pub made-is-accepted : (j : Job) (bytes : List ℕ) (start : ℕ) (table path : List ℕ) (r : Report) → trial j bytes start table path .answer ≡ Td.Made r
+    → (openTrial j bytes start table path ≡ Vd.Done) × (report j bytes (ride j bytes start table path) ≡ r)
+unfolding trial
+made-is-accepted j bytes start table path r = by (openTrial j bytes start table path)
+  where
+    by : (v : Verdict) → trialOf v j bytes (ride j bytes start table path) table path .answer ≡ Td.Made r → (v ≡ Vd.Done) × (report j bytes (ride j bytes start table path) ≡ r)
+    by Vd.Done e = let f : report j bytes (ride j bytes start table path) ≡ r = cc in (refl, f)
+    by (Vd.Refused q) e = let z : _≡_ {A = ℕ} 0 1 = cc in absurd (omega arith)
+
+-- and a run: its records are those of its rides
 pub run-is-made : (j : Job) (bytes : List ℕ) (start trials : ℕ) (table path : List ℕ) (reports : List Report)
     → openRun j bytes start table path trials (length reports) ≡ Vd.Done
     → run j bytes start trials table path reports
@@ -102,6 +113,7 @@ pub run-is-made : (j : Job) (bytes : List ℕ) (start trials : ℕ) (table path 
 unfolding run
 run-is-made j bytes start trials table path reports e = ap (λ v. runOf v j bytes (courseFrom j bytes start trials table path) table path reports) e
 
+-- each of its rides is an accepted trial
 pub run-trials-are-accepted : (j : Job) (bytes : List ℕ) (start trials : ℕ) (table path : List ℕ) (records : ℕ) → openRun j bytes start table path trials records ≡ Vd.Done
     → Rides j bytes start table path (courseFrom j bytes start trials table path .rides)
 run-trials-are-accepted j bytes start trials table path records e = course-rides j bytes start trials table path (ready-run j bytes start table path trials records e .ready)
@@ -184,6 +196,43 @@ module _ (j : Job) (bytes : List ℕ) (start : ℕ) (table path : List ℕ) (e :
   trial-that-learns-nothing-travels-at-most z =
       let A = ready j bytes start table path e in
       settled-travel (A .opened .held .lawful) (A .opened .sound) (A .opened .reach) (ride-riding j bytes start table path A .made) z
+
+-- ---- and so of every trial of a run
+
+-- all that is said above of one trial
+pub record Promised (j : Job) (bytes : List ℕ) (start : ℕ) (table path : List ℕ) (r : Ride) : Type 0 where
+  pub falls-not : (x : ℕ) → getD table x 0 ≤ getD (r .table) x 0
+  pub passes-not : (x : ℕ) → can j bytes x ≡ true → getD (r .table) x 0 ≤ trueOf j bytes x
+  pub reaches-the-bench : r .state .current ≡ j .goal
+  pub decisions : r .decisions < K j bytes * (R j bytes table + 1)
+  pub kept-way : j .p * kept j bytes r ≤ j .q * (distance j bytes start + j .quota)
+  pub learning-nothing : r .learned ≡ 0 → j .p * r .travel ≤ j .q * distance j bytes start
+
+-- of trials one after another, each from the lists that the one before it left
+pub data EachPromised (j : Job) (bytes : List ℕ) (start : ℕ) : List ℕ → List ℕ → List Ride → Type 0 where
+  no-more : {table path : List ℕ} → EachPromised j bytes start table path []
+  and-then : {table path : List ℕ} {r : Ride} {rs : List Ride} → Promised j bytes start table path r → EachPromised j bytes start (r .table) (r .path) rs
+      → EachPromised j bytes start table path (r ∷ rs)
+
+pub trial-is-promised : (j : Job) (bytes : List ℕ) (start : ℕ) (table path : List ℕ) → openTrial j bytes start table path ≡ Vd.Done
+    → Promised j bytes start table path (ride j bytes start table path)
+unfolding ride
+trial-is-promised j bytes start table path e = record {
+  falls-not = no-figure-falls-in-a-trial j bytes start table path (bound j bytes table);
+  passes-not = no-figure-passes-truth-in-a-trial j bytes start table path e (bound j bytes table);
+  reaches-the-bench = trial-reaches-the-bench j bytes start table path e .0;
+  decisions = trial-reaches-the-bench j bytes start table path e .1;
+  kept-way = kept-way-costs-at-most j bytes start table path e;
+  learning-nothing = trial-that-learns-nothing-travels-at-most j bytes start table path e;
+}
+
+each : (j : Job) (bytes : List ℕ) (start : ℕ) {table path : List ℕ} {rs : List Ride} → Rides j bytes start table path rs → EachPromised j bytes start table path rs
+each j bytes start over = no-more
+each j bytes start (trip {table = table} {path = path} e more) = and-then (trial-is-promised j bytes start table path e) (each j bytes start more)
+
+pub run-trials-are-promised : (j : Job) (bytes : List ℕ) (start trials : ℕ) (table path : List ℕ) (records : ℕ) → openRun j bytes start table path trials records ≡ Vd.Done
+    → EachPromised j bytes start table path (courseFrom j bytes start trials table path .rides)
+run-trials-are-promised j bytes start trials table path records e = each j bytes start (run-trials-are-accepted j bytes start trials table path records e)
 
 -- ---- "A refusal for "no way" is given at opening only when no way exists,
 
