@@ -1,0 +1,51 @@
+use borrow.Author.Needs.{needs}
+use Rattle.line.proofs.push.Statement.{statement}
+use Rattle.line.proofs.push.Tie as tie
+use Rattle.line.proofs.push.Reads as reads
+use Rattle.line.proofs.push.Lts as lts
+use Rattle.line.proofs.blank.Reads as blank-reads
+
+-- src/lib.rt:45:9
+blank-requires : tie.Need-blank-requires
+blank-requires c κs = search needs
+
+-- src/lib.rt:45:9
+returns : tie.Need-returns
+returns c = ?
+
+-- src/lib.rt:48:9
+blank-requires-2 : tie.Need-blank-requires-2
+blank-requires-2 c κs = search needs
+
+-- src/lib.rt:48:9
+returns-2 : tie.Need-returns-2
+returns-2 c = ?
+
+-- src/lib.rt:51:5
+mul-next : tie.Need-mul-next
+mul-next c = search needs
+
+-- src/lib.rt:51:5
+element-write-next : tie.Need-element-write-next
+element-write-next c = search needs
+
+-- src/lib.rt:52:18
+add-next : tie.Need-add-next
+add-next c = search needs
+
+-- src/lib.rt:40:1
+returns-3 : tie.Need-returns-3
+returns-3 c = ?
+
+pub push-spec : {M : Type 1} → statement M
+push-spec =
+    tie.close
+    (tie.spec
+    blank-requires
+    returns
+    blank-requires-2
+    returns-2
+    mul-next
+    element-write-next
+    add-next
+    returns-3)
