@@ -2,30 +2,15 @@
 use Prim.Native.Nat.{ℕ, zero, suc, _+_, _-_, _*_, _≤_, _<_}
 use mathlib.Core.Path.{_≡_}
 use mathlib.Core.Logic.{_⊎_}
-use mathlib.Core.Bool.{Bool, true, false, _&&_}
+use mathlib.Core.Bool.{Bool, true, false}
 use mathlib.Core.Option.{Option, none, some}
 use mathlib.Core.List.{List, [], _∷_, _++_}
-use lib.Dec.{eqb, leb}
 use lib.ListN.{length, set, take, drop}
 use Rattle.answers.specs.declared.Settings.{Settings}
-use Rattle.model.specs.Basics.{choose}
-use Rattle.model.specs.FloorText.{LF, isDigit}
-use Rattle.model.specs.Line.{settingsOf, readLine, afterLine}
+use Rattle.model.specs.Line.{numbersIn, settingsOf, readLine, afterLine}
 use Rattle.line.specs.declared.Reading.{Reading}
 use Rattle.line.specs.declared.Line.{Line}
 use Rattle.line.specs.declared.Line.the-variants.{Asked, Malformed}
-
--- the numbers up to the LF, where `digits` and `value` are those of the number being read
-unfoldable pub upTo : (digits value : ℕ) → List ℕ → Option (List ℕ)
-upTo digits value [] = none
-upTo digits value (b ∷ bs) =
-    elim (eqb b LF) [
-      | true ↦ choose (leb 1 digits) (some (value ∷ [])) none
-      | false ↦ elim (isDigit b && leb digits 6) [
-        | true ↦ upTo (suc digits) (10 * value + (b - 48)) bs
-        | false ↦ elim (eqb b 32 && leb 1 digits) [ true ↦ elim (upTo 0 0 bs) [ none ↦ none | some ns ↦ some (value ∷ ns) ] | false ↦ none ]
-      ]
-    ]
 
 -- a line's numbers with those before them, and the settings of numbers that may be none
 abbrev pub after : List ℕ → Option (List ℕ) → Option (List ℕ)
@@ -41,7 +26,7 @@ abbrev pub numbersOf : Reading → List ℕ
 numbersOf r = take (r .count) (r .numbers)
 
 abbrev pub whole : Reading → List ℕ → Option Settings
-whole r rest = asksOf (after (numbersOf r) (upTo (r .digits) (r .value) rest))
+whole r rest = asksOf (after (numbersOf r) (numbersIn (r .digits) (r .value) rest))
 
 unfoldable pub tens : ℕ → ℕ
 tens zero = 1
@@ -81,9 +66,9 @@ abbrev pub textOf : Line → ℕ
 textOf (Asked s t) = t
 textOf Malformed = 0
 
-pub record Said (ns : List ℕ) (count text : ℕ) (l : Line) : Type 0 where
-  pub settings : length ns ≡ 7 → count ≤ 7 → asked l ≡ settingsOf (take count ns)
-  pub text : (s : Settings) → asked l ≡ some s → textOf l ≡ text
+pub record Said (ns : List ℕ) (count start : ℕ) (l : Line) : Type 0 where
+  pub settings : asked l ≡ settingsOf (take count ns)
+  pub text : (s : Settings) → asked l ≡ some s → textOf l ≡ start
 
 -- the line says what the model's says, and the text after it begins at its place
 pub record Reads (input : List ℕ) (l : Line) : Type 0 where

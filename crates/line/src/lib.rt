@@ -1,8 +1,8 @@
 // The line of the program `aisle`: its numbers, read from the front of the input, and the settings that they ask for.
 ghost use mathlib.Core.Path.{_≡_};
-ghost use mathlib.Core.Bool.{false};
-ghost use Prim.Native.Nat.{_<_};
-ghost use Rattle.line.specs.Reading.{Goes, Pushed, Taken, Scanned, Said};
+ghost use Prim.Native.Nat.{_<_, _≤_};
+ghost use lib.ListN.{length};
+ghost use Rattle.line.specs.Reading.{Goes, Pushed, Taken, Scanned, Said, Reads};
 use answers::Settings;
 
 // What the line says: its settings and where the text after it begins; or that it is malformed.
@@ -24,7 +24,7 @@ pub struct Reading {
 
 // A reading of nothing yet, good or malformed.
 fn blank(ok: bool) -> Reading
-    ensures { λ r. ⌜ (r .ok ≡ ok) × (r .count ≡ 0) × (r .digits ≡ 0) × (r .value ≡ 0) ⌝ }
+    ensures { λ r. ⌜ (r .ok ≡ ok) × (r .count ≡ 0) × (r .digits ≡ 0) × (r .value ≡ 0) × (length (r .numbers) ≡ 7) ⌝ }
 {
     Reading {
         ok: ok,
@@ -105,47 +105,58 @@ fn scan(input: &[u8]) -> Reading
     blank(false)
 }
 
-// The settings of a line's numbers; what the line leaves out has its default.
-fn settings(n: [usize; 7], count: usize, text: usize) -> Line
-    ensures { λ r. ⌜ Said n count text r ⌝ }
+fn asked(
+    start: usize,
+    goal: usize,
+    depth: usize,
+    p: usize,
+    q: usize,
+    quota: usize,
+    trials: usize,
+    text: usize,
+) -> Line
+    ensures { λ r. ⌜ r ≡ Line.Asked (record { start = start; goal = goal; depth = depth; p = p; q = q; quota = quota; trials = trials }) text ⌝ }
 {
-    let mut s = Settings {
-        start: n[0],
-        goal: n[1],
-        depth: 1,
-        p: 1,
-        q: 1,
-        quota: 1000000,
-        trials: 10,
-    };
-    if count < 2 {
-        return Line::Malformed;
-    }
-    if count == 4 {
-        return Line::Malformed;
-    }
-    if 3 <= count {
-        s.depth = n[2];
-    }
-    if 5 <= count {
-        s.p = n[3];
-        s.q = n[4];
-    }
-    if 6 <= count {
-        s.quota = n[5];
-    }
-    if 7 <= count {
-        s.trials = n[6];
-    }
     Line::Asked {
-        settings: s,
+        settings: Settings {
+            start: start,
+            goal: goal,
+            depth: depth,
+            p: p,
+            q: q,
+            quota: quota,
+            trials: trials,
+        },
         text: text,
     }
 }
 
+// The settings of a line's numbers; what the line leaves out has its default.
+fn settings(n: [usize; 7], count: usize, text: usize) -> Line
+    requires { ⌜ count ≤ 7 ⌝ ∗ ⌜ length n ≡ 7 ⌝ }
+    ensures { λ r. ⌜ Said n count text r ⌝ }
+{
+    if count == 2 {
+        return asked(n[0], n[1], 1, 1, 1, 1000000, 10, text);
+    }
+    if count == 3 {
+        return asked(n[0], n[1], n[2], 1, 1, 1000000, 10, text);
+    }
+    if count == 5 {
+        return asked(n[0], n[1], n[2], n[3], n[4], 1000000, 10, text);
+    }
+    if count == 6 {
+        return asked(n[0], n[1], n[2], n[3], n[4], n[5], 10, text);
+    }
+    if count == 7 {
+        return asked(n[0], n[1], n[2], n[3], n[4], n[5], n[6], text);
+    }
+    Line::Malformed
+}
+
 // What the line at the front of the input asks for, and where the floor text begins.
 pub fn read_line(input: &[u8]) -> Line
-    ensures { λ r. ⌜ Rattle.line.specs.Reading.Reads (now (input .entry)) r ⌝ }
+    ensures { λ r. ⌜ Reads (now (input .entry)) r ⌝ }
 {
     let r = scan(input);
     if !r.ok {

@@ -1,3 +1,9 @@
+-- `line::push` meets its contract: each way out is one field of `Pushed`.
+-- Assumes nothing.
+use mathlib.Core.Path.{refl}
+use mathlib.Core.Logic.{inl, inr}
+use native.Mathlib.Omega.{arith}
+use Rattle.line.proofs.Laws.{no-both}
 use borrow.Author.Needs.{needs}
 use Rattle.line.proofs.push.Statement.{statement}
 use Rattle.line.proofs.push.Tie as tie
@@ -11,7 +17,7 @@ blank-requires c κs = search needs
 
 -- src/lib.rt:45:9
 returns : tie.Need-returns
-returns c = ?
+returns c = record { good = λ t. no-both (c .blank .result .ok) t (c .blank .ensures .0); bad = λ f o. inl (omega arith) }
 
 -- src/lib.rt:48:9
 blank-requires-2 : tie.Need-blank-requires-2
@@ -19,7 +25,7 @@ blank-requires-2 c κs = search needs
 
 -- src/lib.rt:48:9
 returns-2 : tie.Need-returns-2
-returns-2 c = ?
+returns-2 c = record { good = λ t. no-both (c .blank2 .result .ok) t (c .blank2 .ensures .0); bad = λ f o. inr (omega arith) }
 
 -- src/lib.rt:51:5
 mul-next : tie.Need-mul-next
@@ -35,7 +41,9 @@ add-next c = search needs
 
 -- src/lib.rt:40:1
 returns-3 : tie.Need-returns-3
-returns-3 c = ?
+returns-3 c =
+    let r = c .before .before .before .args .r in
+    record { good = λ t. (omega arith, omega arith, t, refl, refl, refl, refl, refl); bad = λ f o. no-both (r .ok) o f }
 
 pub push-spec : {M : Type 1} → statement M
 push-spec =

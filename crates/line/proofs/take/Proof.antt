@@ -1,3 +1,11 @@
+-- `line::take` meets its contract: a space, a malformed byte or a digit, one law each.
+-- Assumes nothing.
+use Prim.Native.Nat.{_-_}
+use mathlib.Core.Path.{_≡_, subst}
+use mathlib.Core.Logic.{inl, inr}
+use native.Mathlib.Omega.{arith}
+use Rattle.line.specs.Reading.{Taken}
+use Rattle.line.proofs.Laws.{spaced, refused-byte, not-digit, too-long, tens-high, taken-digit}
 use borrow.Author.Needs.{needs}
 use Rattle.line.proofs.take.Statement.{statement}
 use Rattle.line.proofs.take.Tie as tie
@@ -13,7 +21,10 @@ push-requires c κs = search needs
 
 -- src/lib.rt:71:9
 returns : tie.Need-returns
-returns c = ?
+returns c =
+    let a = c .before .before .args in
+    let e : 32 ≡ a .b = omega arith in
+    subst (λ b. Taken (a .r) b (c .push .result)) e (spaced (a .r) (c .push .result) 0 (c .before .before .pre .0) (c .push .ensures))
 
 -- src/lib.rt:74:9
 blank-requires : tie.Need-blank-requires
@@ -21,7 +32,9 @@ blank-requires c κs = search needs
 
 -- src/lib.rt:74:9
 returns-2 : tie.Need-returns-2
-returns-2 c = ?
+returns-2 c =
+    let a = c .before .before .before in
+    refused-byte (a .args .r) (c .blank .result) (a .args .b) (c .blank .ensures .0) (not-digit (a .args .r .digits) (a .args .b) (inl (omega arith))) (a .pre .1) (λ e. omega arith)
 
 -- src/lib.rt:77:9
 blank-requires-2 : tie.Need-blank-requires-2
@@ -29,7 +42,9 @@ blank-requires-2 c κs = search needs
 
 -- src/lib.rt:77:9
 returns-3 : tie.Need-returns-3
-returns-3 c = ?
+returns-3 c =
+    let a = c .before .before .before .before in
+    refused-byte (a .args .r) (c .blank2 .result) (a .args .b) (c .blank2 .ensures .0) (not-digit (a .args .r .digits) (a .args .b) (inr (omega arith))) (a .pre .1) (λ e. omega arith)
 
 -- src/lib.rt:80:9
 blank-requires-3 : tie.Need-blank-requires-3
@@ -37,11 +52,13 @@ blank-requires-3 c κs = search needs
 
 -- src/lib.rt:80:9
 returns-4 : tie.Need-returns-4
-returns-4 c = ?
+returns-4 c =
+    let a = c .before .before .before .before .before .before in
+    refused-byte (a .args .r) (c .blank3 .result) (a .args .b) (c .blank3 .ensures .0) (too-long (a .args .r .digits) (a .args .b) (omega arith)) (a .pre .1) (λ e. omega arith)
 
 -- src/lib.rt:83:18
 mul-next : tie.Need-mul-next
-mul-next c = ?
+mul-next c = let a = c .before .before .before .before .before .before in omega (arith, a .pre .0 .small, tens-high (a .args .r .digits) (a .pre .0 .short))
 
 -- src/lib.rt:83:33
 wide-requires : tie.Need-wide-requires
@@ -49,7 +66,7 @@ wide-requires c κs = search needs
 
 -- src/lib.rt:83:18
 add-next : tie.Need-add-next
-add-next c = ?
+add-next c = let a = c .before .before .before .before .before .before .before in omega (arith, a .pre .0 .small, tens-high (a .args .r .digits) (a .pre .0 .short), c .wide .ensures .1)
 
 -- src/lib.rt:84:19
 add-next-2 : tie.Need-add-next-2
@@ -57,7 +74,9 @@ add-next-2 c = search needs
 
 -- src/lib.rt:66:1
 returns-5 : tie.Need-returns-5
-returns-5 c = ?
+returns-5 c =
+    let a = c .before .before .before .before .before .before .before .before in
+    taken-digit (a .args .r) (a .args .b) (c .before .wide .result) (a .pre .0) (c .before .wide .ensures .0) (omega arith, omega arith, omega arith)
 
 pub take-spec : {M : Type 1} → statement M
 take-spec =
