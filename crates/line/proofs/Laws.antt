@@ -216,7 +216,7 @@ taken-digit r b w G e h = record {
       short = omega (arith, h .2);
       small = tens-more (r .digits) (r .value) w (G .small) (omega (arith, e, h .1));
     },
-    λ rest. ap (λ u. asksOf (after (numbersOf r) (numbersIn (r .digits + 1) (10 * r .value + u) rest))) e ∙ good-digit r b h rest
+    λ rest. ap (λ u. asksOf (after (numbersOf r) (numbersIn (r .digits + 1) (10 * r .value + u) rest))) e ∙ good-digit r b h rest,
   );
   bad = λ f. no-both (r .ok) (G .ok) f;
 }
@@ -244,7 +244,7 @@ module _ (input : List ℕ) (i : ℕ) (r : Reading) (G : Goes r) (same : whole r
                 k .few,
                 ended r n (i + 1) G P (drop (i + 1) input) t ∙ ap (whole r) (sym at) ∙ same,
                 ap (λ k. drop k input) (g .7) ∙ sym (after-end (drop (i + 1) input)) ∙ ap afterLine (sym at) ∙ rest,
-                omega (arith, g .7)
+                omega (arith, g .7),
               );
           bad = λ f. sym same ∙ ap (whole r) at ∙ unended r n (i + 1) G P (drop (i + 1) input) f;
         }

@@ -1,4 +1,6 @@
-// The line of the program `aisle`: its numbers, read from the front of the input, and the settings that they ask for.
+// What programs read and print: the line of the program `aisle`, its numbers and the settings that they ask for; and numbers in decimal.
+pub mod print;
+
 ghost use mathlib.Core.Path.{_≡_};
 ghost use Prim.Native.Nat.{_<_, _≤_};
 ghost use lib.ListN.{length};

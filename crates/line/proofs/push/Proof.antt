@@ -7,39 +7,28 @@ use Rattle.line.proofs.Laws.{no-both}
 use borrow.Author.Needs.{needs}
 use Rattle.line.proofs.push.Statement.{statement}
 use Rattle.line.proofs.push.Tie as tie
-use Rattle.line.proofs.push.Reads as reads
-use Rattle.line.proofs.push.Lts as lts
-use Rattle.line.proofs.blank.Reads as blank-reads
 
--- src/lib.rt:45:9
 blank-requires : tie.Need-blank-requires
 blank-requires c κs = search needs
 
--- src/lib.rt:45:9
 returns : tie.Need-returns
 returns c = record { good = λ t. no-both (c .blank .result .ok) t (c .blank .ensures .0); bad = λ f o. inl (omega arith) }
 
--- src/lib.rt:48:9
 blank-requires-2 : tie.Need-blank-requires-2
 blank-requires-2 c κs = search needs
 
--- src/lib.rt:48:9
 returns-2 : tie.Need-returns-2
 returns-2 c = record { good = λ t. no-both (c .blank2 .result .ok) t (c .blank2 .ensures .0); bad = λ f o. inr (omega arith) }
 
--- src/lib.rt:51:5
 mul-next : tie.Need-mul-next
 mul-next c = search needs
 
--- src/lib.rt:51:5
 element-write-next : tie.Need-element-write-next
 element-write-next c = search needs
 
--- src/lib.rt:52:18
 add-next : tie.Need-add-next
 add-next c = search needs
 
--- src/lib.rt:40:1
 returns-3 : tie.Need-returns-3
 returns-3 c =
     let r = c .before .before .before .args .r in

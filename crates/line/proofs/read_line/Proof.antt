@@ -8,29 +8,21 @@ use Rattle.line.proofs.Laws.{none-some}
 use borrow.Author.Needs.{needs}
 use Rattle.line.proofs.read_line.Statement.{statement}
 use Rattle.line.proofs.read_line.Tie as tie
-use Rattle.line.proofs.read_line.Reads as reads
-use Rattle.line.proofs.read_line.Lts as lts
-use Rattle.line.proofs.scan.Reads as scan-reads
-use Rattle.line.proofs.settings.Reads as settings-reads
 
--- src/lib.rt:161:9
 scan-requires : tie.Need-scan-requires
 scan-requires c κs = search needs
 
--- src/lib.rt:163:9
 returns : tie.Need-returns
 returns c =
     let k = c .before .before .scan in
     record { settings = sym (k .ensures .bad (not-true (k .result .ok) (c .if1 .taken))); text = λ s e. absurd (none-some s e) }
 
--- src/lib.rt:166:5
 settings-requires : tie.Need-settings-requires
 settings-requires c κs =
     let k = c .before .before .before .scan in
     let g = k .ensures .good (not-false (k .result .ok) (c .before .if1 .left)) in
     (g .1, g .0)
 
--- src/lib.rt:158:1
 returns-2 : tie.Need-returns-2
 returns-2 c =
     let k = c .before .before .before .before .scan in

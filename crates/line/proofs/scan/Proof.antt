@@ -11,11 +11,6 @@ use Rattle.line.specs.Reading.{Goes, whole}
 use Rattle.line.proofs.Laws.{goes-blank, none-yet, scanned-end, scanned-bad, scanned-none, scan-on}
 use Rattle.line.proofs.scan.Statement.{statement}
 use Rattle.line.proofs.scan.Tie as tie
-use Rattle.line.proofs.scan.Reads as reads
-use Rattle.line.proofs.scan.Lts as lts
-use Rattle.line.proofs.blank.Reads as blank-reads
-use Rattle.line.proofs.push.Reads as push-reads
-use Rattle.line.proofs.take.Reads as take-reads
 
 abbrev Inv-loop : tie.InvT-loop
 Inv-loop input r₀ i₀ r i = (i ≤ length input) × Goes r × (whole r (drop i input) ≡ readLine input) × (afterLine (drop i input) ≡ afterLine input)
@@ -23,55 +18,44 @@ Inv-loop input r₀ i₀ r i = (i ≤ length input) × Goes r × (whole r (drop 
 abbrev μ-loop : tie.MeasureT-loop
 μ-loop input r₀ i₀ r i = length input - i
 
--- src/lib.rt:92:9
 blank-requires : tie.Need-blank-requires Inv-loop μ-loop
 blank-requires c κs = search needs
 
--- src/lib.rt:94:5
 loop-holds : tie.Need-loop-holds Inv-loop μ-loop
 loop-holds c =
     let e = c .blank .ensures in
     (omega arith, goes-blank (c .blank .result) e, none-yet (c .blank .result) (c .before .before .args .input .now) (e .1) (e .2) (e .3), refl)
 
--- src/lib.rt:95:17
 shared-slice-read-b : tie.Need-shared-slice-read-b Inv-loop μ-loop
 shared-slice-read-b c = omega arith
 
--- src/lib.rt:97:28
 add-push : tie.Need-add-push Inv-loop μ-loop
 add-push c = omega arith
 
--- src/lib.rt:97:13
 push-requires : tie.Need-push-requires Inv-loop μ-loop
 push-requires c κs = search needs
 
--- src/lib.rt:97:13
 returns : tie.Need-returns Inv-loop μ-loop
 returns c =
     let input = c .before .before .before .before .before .before .before .args .input .now in
     let l = c .before .before .before .before .loop in
     scanned-end input (l .i) (l .r) (l .inv .1) (l .inv .2) (l .inv .3) (omega arith) (c .push .result) (omega arith) (c .push .ensures)
 
--- src/lib.rt:99:9
 take-requires : tie.Need-take-requires Inv-loop μ-loop
 take-requires c κs = (c .before .before .before .loop .inv .1, λ e. omega arith)
 
--- src/lib.rt:101:13
 returns-2 : tie.Need-returns-2 Inv-loop μ-loop
 returns-2 c =
     let input = c .before .before .before .before .before .before .before .before .before .args .input .now in
     let l = c .before .before .before .before .before .before .loop in
     scanned-bad input (l .i) (l .r) (l .inv .1) (l .inv .2) (l .inv .3) (omega arith) (c .before .before .take .result) (c .before .before .take .ensures) (not-true (c .before .before .take .result .ok) (c .if2 .taken))
 
--- src/lib.rt:103:9
 add-i : tie.Need-add-i Inv-loop μ-loop
 add-i c = omega arith
 
--- src/lib.rt:94:5
 loop-less : tie.Need-loop-less Inv-loop μ-loop
 loop-less c = omega arith
 
--- src/lib.rt:94:5
 loop-again : tie.Need-loop-again Inv-loop μ-loop
 loop-again c =
     let input = c .before .before .before .before .before .before .before .before .before .args .input .now in
@@ -79,11 +63,9 @@ loop-again c =
     let n = scan-on input (l .i) (l .r) (l .inv .1) (l .inv .2) (l .inv .3) (omega arith) (c .before .before .take .result) (λ e. omega arith) (c .before .before .take .ensures) (not-false (c .before .before .take .result .ok) (c .if2 .left)) in
     (omega arith, n .0, n .1, n .2)
 
--- src/lib.rt:105:5
 blank-requires-2 : tie.Need-blank-requires-2 Inv-loop μ-loop
 blank-requires-2 c κs = search needs
 
--- src/lib.rt:89:1
 returns-3 : tie.Need-returns-3 Inv-loop μ-loop
 returns-3 c =
     let input = c .before .before .before .before .before .args .input .now in

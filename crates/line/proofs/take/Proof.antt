@@ -9,70 +9,52 @@ use Rattle.line.proofs.Laws.{spaced, refused-byte, not-digit, too-long,
 use borrow.Author.Needs.{needs}
 use Rattle.line.proofs.take.Statement.{statement}
 use Rattle.line.proofs.take.Tie as tie
-use Rattle.line.proofs.take.Reads as reads
-use Rattle.line.proofs.take.Lts as lts
-use Rattle.line.proofs.blank.Reads as blank-reads
-use Rattle.line.proofs.push.Reads as push-reads
-use Rattle.line.proofs.wide.Reads as wide-reads
 
--- src/lib.rt:71:9
 push-requires : tie.Need-push-requires
 push-requires c κs = search needs
 
--- src/lib.rt:71:9
 returns : tie.Need-returns
 returns c =
     let a = c .before .before .args in
     let e : 32 ≡ a .b = omega arith in
     subst (λ b. Taken (a .r) b (c .push .result)) e (spaced (a .r) (c .push .result) 0 (c .before .before .pre .0) (c .push .ensures))
 
--- src/lib.rt:74:9
 blank-requires : tie.Need-blank-requires
 blank-requires c κs = search needs
 
--- src/lib.rt:74:9
 returns-2 : tie.Need-returns-2
 returns-2 c =
     let a = c .before .before .before in
     refused-byte (a .args .r) (c .blank .result) (a .args .b) (c .blank .ensures .0) (not-digit (a .args .r .digits) (a .args .b) (inl (omega arith))) (a .pre .1) (λ e. omega arith)
 
--- src/lib.rt:77:9
 blank-requires-2 : tie.Need-blank-requires-2
 blank-requires-2 c κs = search needs
 
--- src/lib.rt:77:9
 returns-3 : tie.Need-returns-3
 returns-3 c =
     let a = c .before .before .before .before in
     refused-byte (a .args .r) (c .blank2 .result) (a .args .b) (c .blank2 .ensures .0) (not-digit (a .args .r .digits) (a .args .b) (inr (omega arith))) (a .pre .1) (λ e. omega arith)
 
--- src/lib.rt:80:9
 blank-requires-3 : tie.Need-blank-requires-3
 blank-requires-3 c κs = search needs
 
--- src/lib.rt:80:9
 returns-4 : tie.Need-returns-4
 returns-4 c =
     let a = c .before .before .before .before .before .before in
     refused-byte (a .args .r) (c .blank3 .result) (a .args .b) (c .blank3 .ensures .0) (too-long (a .args .r .digits) (a .args .b) (omega arith)) (a .pre .1) (λ e. omega arith)
 
--- src/lib.rt:83:18
 mul-next : tie.Need-mul-next
 mul-next c = let a = c .before .before .before .before .before .before in omega (arith, a .pre .0 .small, tens-high (a .args .r .digits) (a .pre .0 .short))
 
--- src/lib.rt:83:33
 wide-requires : tie.Need-wide-requires
 wide-requires c κs = search needs
 
--- src/lib.rt:83:18
 add-next : tie.Need-add-next
 add-next c = let a = c .before .before .before .before .before .before .before in omega (arith, a .pre .0 .small, tens-high (a .args .r .digits) (a .pre .0 .short), c .wide .ensures .1)
 
--- src/lib.rt:84:19
 add-next-2 : tie.Need-add-next-2
 add-next-2 c = search needs
 
--- src/lib.rt:66:1
 returns-5 : tie.Need-returns-5
 returns-5 c =
     let a = c .before .before .before .before .before .before .before .before in
