@@ -10,11 +10,11 @@ use native.Mathlib.Numerals.{add-one}
 use native.Mathlib.Omega.{arith}
 use borrow.Author.Tests.{le-leb, lt-leb}
 use lib.Dec.{leb}
-use lib.ListN.{length, set, length-append}
-use lib.Seq.{sets, length-sets}
+use lib.ListN.{length, getD, set, take, length-append, length-map}
+use lib.Seq.{sets, take-all, take-suc, length-take-le, getD-take}
 use Rattle.model.specs.Line.{decimalIn, decimal, field}
 use Rattle.line.specs.Reading.{tens}
-use Rattle.line.specs.Printing.{Printed}
+use Rattle.line.specs.Printing.{Printed, moveDigits}
 
 one-digit : (most n : ℕ) → n ≤ 9 → decimalIn (suc most) n ≡ (48 + n) ∷ []
 unfolding decimalIn
@@ -86,3 +86,42 @@ module _ (out : List ℕ) (at n : ℕ) where
 
   pub room-more : 9 < n → n < 18446744073709551616 → at + length (decimal n) ≤ length out → at + length (decimal (n / 10)) + 1 ≤ length out
   room-more h k r = omega (arith, ap length (digit-last n h k), length-append (decimal (n / 10)) ((48 + n % 10) ∷ []))
+
+-- one thing after another
+sets-append : (l : List ℕ) (i : ℕ) (xs ys : List ℕ) → sets l i (xs ++ ys) ≡ sets (sets l i xs) (i + length xs) ys
+sets-append l i [] ys = ap (λ k. sets l k ys) (sym (add-zero i))
+sets-append l i (x ∷ xs) ys = sets-append (set l i x) (suc i) xs ys ∙ ap (λ k. sets (sets (set l i x) (suc i) xs) k ys) (suc-add i (length xs) ∙ sym (add-suc i (length xs)))
+
+pub printed-then : {out mid out′ : List ℕ} {at end end′ : ℕ} (xs ys : List ℕ) → Printed out at xs mid end → Printed mid end ys out′ end′ → Printed out at (xs ++ ys) out′ end′
+printed-then {out} {mid} {out′} {at} {end} {end′} xs ys P Q = record {
+  written = Q .written ∙ ap (λ l. sets l end ys) (P .written) ∙ ap (λ i. sets (sets out at xs) i ys) (P .next) ∙ sym (sets-append out at xs ys);
+  next = omega (arith, P .next, Q .next, length-append xs ys);
+}
+
+pub printed-none : (out : List ℕ) (at : ℕ) → Printed out at [] out at
+printed-none out at = record { written = refl; next = sym (add-zero at) }
+
+pub field-few : (n : ℕ) → length (field n) ≤ 21
+field-few n = omega (arith, digits-few n)
+
+-- while bytes are written one by one
+pub bytes-more : (out s mid : List ℕ) (at i : ℕ) → i < length s → at + length s ≤ length out → mid ≡ sets out at (take i s) → set mid (at + i) (getD s i 0) ≡ sets out at (take (i + 1) s)
+bytes-more out s mid at i h r e =
+    let n : length (take i s) ≡ i = length-take-le i s (omega arith) in
+    ap (λ l. set l (at + i) (getD s i 0)) e ∙ ap (λ k. set (sets out at (take i s)) (at + k) (getD s i 0)) (sym n)
+    ∙ sym (sets-snoc out at (take i s) (getD s i 0)) ∙ ap (sets out at) (sym (take-suc s i 0 h) ∙ ap (λ k. take k s) (sym (add-one i)))
+
+pub bytes-all : (out s mid : List ℕ) (at i : ℕ) → length s ≤ i → i ≤ length s → mid ≡ sets out at (take i s) → Printed out at s mid (at + i)
+bytes-all out s mid at i h k e = record { written = e ∙ ap (sets out at) (take-all i s h); next = omega arith }
+
+-- moves as digits
+pub digits-length : (ms : List ℕ) (n : ℕ) → n ≤ length ms → length (moveDigits (take n ms)) ≡ n
+digits-length ms n h = length-map (take n ms) (λ x. 48 + x) ∙ length-take-le n ms h
+
+pub digit-at : (ms : List ℕ) (n i : ℕ) → i < n → n ≤ length ms → 48 + getD ms i 0 ≡ getD (moveDigits (take n ms)) i 0
+digit-at ms n i h k = ap (λ x. 48 + x) (sym (getD-take n ms i 0 h)) ∙ sym (map-at (take n ms) i (omega (arith, length-take-le n ms k)))
+  where
+    map-at : (xs : List ℕ) (i : ℕ) → i < length xs → getD (moveDigits xs) i 0 ≡ 48 + getD xs i 0
+    map-at [] i h = absurd (omega arith)
+    map-at (x ∷ xs) zero h = refl
+    map-at (x ∷ xs) (suc i) h = map-at xs i (omega arith)
