@@ -1,0 +1,3 @@
+-- Distances: what the list of true distances holds. Search: what the sweeps that find it keep.
+pub mod Distances
+pub mod Search
