@@ -3,11 +3,14 @@ ghost use mathlib.Core.Path.{_≡_};
 ghost use mathlib.Core.Bool.{true, _||_};
 ghost use mathlib.Core.List.{[], _∷_};
 ghost use Prim.Native.Nat.{_*_, _≤_, _<_};
-ghost use lib.ListN.{length};
+ghost use lib.ListN.{length, getD};
 ghost use Rattle.learning.specs.Ground.{listOf};
+ghost use Rattle.model.specs.Basics.{naming};
 ghost use Rattle.model.specs.Floor.{Sized, free};
+ghost use Rattle.model.specs.Checks.{floorOf};
+ghost use Rattle.model.specs.Opening.{soundness, accepts};
 ghost use Rattle.floor.specs.Moves.{flat};
-ghost use Rattle.opening.specs.Distances.{far, Distances};
+ghost use Rattle.opening.specs.Distances.{far, Distances, above, judged, Openable};
 ghost use Rattle.opening.specs.Search.{throughStep, Leading, Spread, Best, Relaxed, inOrder, Swept, Settled};
 use answers::Job;
 use answers::Place;
@@ -139,4 +142,77 @@ pub fn find_distances(width: usize, height: usize, floor: &[u8], goal: usize, di
     fill_far(dist);
     dist[goal] = 0;
     settle(width, height, floor, dist);
+}
+
+// Whether a figure is above the true figure of a cell at distance d, which can reach the goal.
+fn is_above(q: usize, d: u32, figure: u32) -> bool
+    requires { ⌜ q ≤ 16 ⌝ }
+    ensures { λ r. ⌜ r ≡ above q d figure ⌝ }
+{
+    if d < FAR {
+        q * floor::wide32(d) < floor::wide32(figure)
+    } else {
+        false
+    }
+}
+
+// 7: a cell that can reach the goal is above its true figure; names the lowest.
+fn unsound(q: usize, dist: &[u32], table: &[u32]) -> Verdict
+    requires { ⌜ (q ≤ 16) × (length (now dist) ≡ length (now table)) ⌝ }
+    ensures { λ r. ⌜ r ≡ naming (length (now (table .entry))) (λ x. above q (getD (now (dist .entry)) x 0) (getD (now (table .entry)) x 0)) 7 ⌝ }
+{
+    let mut x = 0;
+    while x < table.len() {
+        if is_above(q, dist[x], table[x]) {
+            return checks::refuse_at(7, Place::Cell(x));
+        }
+        x += 1;
+    }
+    Verdict::Done
+}
+
+// 6 and 7 by the true distances.
+fn judge_distances(q: usize, start: usize, dist: &[u32], table: &[u32]) -> Verdict
+    requires { ⌜ (q ≤ 16) × (length (now dist) ≡ length (now table)) × (start < length (now table)) ⌝ }
+    ensures { λ r. ⌜ r ≡ judged q start (now (dist .entry)) (now (table .entry)) ⌝ }
+{
+    if FAR <= dist[start] {
+        return checks::refuse(6);
+    }
+    unsound(q, dist, table)
+}
+
+// 6: no walk from start to goal exists. 7: as above. The list lent is for the true distances.
+fn judge_in(job: Job, floor: &[u8], start: usize, table: &[u32], dist: &mut [u32]) -> Verdict
+    requires { ⌜ Openable job (now floor) start (now table) × (length (now dist) ≡ job .width * job .height) ⌝ }
+    ensures { λ r. ⌜ r ≡ soundness job (now (floor .entry)) start (now (table .entry)) ⌝ }
+{
+    find_distances(job.width, job.height, floor, job.goal, dist);
+    judge_distances(job.q, start, &dist[..], table)
+}
+
+// The same, with a list of its own.
+fn soundness(job: Job, floor: &[u8], start: usize, table: &[u32]) -> Verdict
+    requires { ⌜ Openable job (now floor) start (now table) ⌝ }
+    ensures { λ r. ⌜ r ≡ soundness job (now (floor .entry)) start (now (table .entry)) ⌝ }
+{
+    let n = table.len();
+    let mut dist = [0u32; 4096];
+    judge_in(job, floor, start, table, &mut dist[..n])
+}
+
+// 4 to 7, which every opening ends with.
+pub fn accepts(job: Job, floor: &[u8], start: usize, table: &[u32]) -> Verdict
+    requires { ⌜ Sized (floorOf job (now floor)) × (length (now table) ≡ job .width * job .height) × (job .q ≤ 16) ⌝ }
+    ensures { λ r. ⌜ r ≡ accepts job (now (floor .entry)) start (now (table .entry)) ⌝ }
+{
+    let v = checks::places(job.width, job.height, floor, start, job.goal);
+    let Verdict::Done = v else {
+        return v;
+    };
+    let v = checks::figures(table);
+    let Verdict::Done = v else {
+        return v;
+    };
+    soundness(job, floor, start, table)
 }
