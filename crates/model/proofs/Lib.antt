@@ -3,3 +3,4 @@
 pub mod Cells
 pub mod Moves
 pub mod Accepted
+pub mod OpeningSound

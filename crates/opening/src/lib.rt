@@ -1,16 +1,17 @@
 // Opening a job: true distances, the checks 1 to 7, and the table of opening figures.
 ghost use mathlib.Core.Path.{_≡_};
 ghost use mathlib.Core.Bool.{true, _||_};
-ghost use mathlib.Core.List.{[], _∷_};
-ghost use Prim.Native.Nat.{_*_, _≤_, _<_};
+ghost use mathlib.Core.List.{List, [], _∷_};
+ghost use Prim.Native.Nat.{ℕ, _*_, _≤_, _<_};
 ghost use lib.ListN.{length, getD};
 ghost use Rattle.learning.specs.Ground.{listOf};
 ghost use Rattle.model.specs.Basics.{naming};
-ghost use Rattle.model.specs.Floor.{Sized, free};
+ghost use Rattle.model.specs.Floor.{Sized, free, openingTable};
 ghost use Rattle.model.specs.Checks.{floorOf};
-ghost use Rattle.model.specs.Opening.{soundness, accepts};
+ghost use Rattle.model.specs.Opening.{soundness, accepts, openJob, openTrial, reportsRoom, trialsHold, openRun};
 ghost use Rattle.floor.specs.Moves.{flat};
 ghost use Rattle.opening.specs.Distances.{far, Distances, above, judged, Openable};
+ghost use Rattle.opening.specs.Promise.{Answers, Fills};
 ghost use Rattle.opening.specs.Search.{throughStep, Leading, Spread, Best, Relaxed, inOrder, Swept, Settled};
 use answers::Job;
 use answers::Place;
@@ -215,4 +216,135 @@ pub fn accepts(job: Job, floor: &[u8], start: usize, table: &[u32]) -> Verdict
         return v;
     };
     soundness(job, floor, start, table)
+}
+
+// Opening a job: what the checks 1 and 3 to 7 say.
+pub fn open(job: Job, floor: &[u8], start: usize, table: &[u32]) -> Verdict
+    ensures { λ r. ⌜ Answers r (openJob job (now (floor .entry)) start (now (table .entry))) ⌝ }
+{
+    let v = checks::sizes(job.width, job.height, floor, table.len());
+    let Verdict::Done = v else {
+        return v;
+    };
+    let v = checks::settings(job);
+    let Verdict::Done = v else {
+        return v;
+    };
+    accepts(job, floor, start, table)
+}
+
+// The opening of a trial, whose path list has so many places: also 2.
+pub fn open_trial(job: Job, floor: &[u8], start: usize, table: &[u32], path: usize) -> Verdict
+    ensures { λ r. ⌜ ((places : List ℕ) → length places ≡ path → r ≡ openTrial job (now (floor .entry)) start (now (table .entry)) places) ⌝ }
+{
+    let v = checks::sizes(job.width, job.height, floor, table.len());
+    let Verdict::Done = v else {
+        return v;
+    };
+    let v = checks::path_room(table.len(), path);
+    let Verdict::Done = v else {
+        return v;
+    };
+    let v = checks::settings(job);
+    let Verdict::Done = v else {
+        return v;
+    };
+    accepts(job, floor, start, table)
+}
+
+// 2: reports shorter than trials.
+fn reports_room(trials: usize, records: usize) -> Verdict
+    ensures { λ r. ⌜ r ≡ reportsRoom trials records ⌝ }
+{
+    if records < trials {
+        return checks::refuse(2);
+    }
+    Verdict::Done
+}
+
+// 3: trials 1 to 1,000.
+fn trials_hold(trials: usize) -> Verdict
+    ensures { λ r. ⌜ r ≡ trialsHold trials ⌝ }
+{
+    if trials < 1 {
+        return checks::refuse(3);
+    }
+    if 1000 < trials {
+        return checks::refuse(3);
+    }
+    Verdict::Done
+}
+
+// The opening of a run: also its path list, its reports and its trials.
+pub fn open_run(
+    job: Job,
+    floor: &[u8],
+    start: usize,
+    table: &[u32],
+    path: usize,
+    trials: usize,
+    records: usize,
+) -> Verdict
+    ensures { λ r. ⌜ ((places : List ℕ) → length places ≡ path → r ≡ openRun job (now (floor .entry)) start (now (table .entry)) places trials records) ⌝ }
+{
+    let v = checks::sizes(job.width, job.height, floor, table.len());
+    let Verdict::Done = v else {
+        return v;
+    };
+    let v = checks::path_room(table.len(), path);
+    let Verdict::Done = v else {
+        return v;
+    };
+    let v = reports_room(trials, records);
+    let Verdict::Done = v else {
+        return v;
+    };
+    let v = checks::settings(job);
+    let Verdict::Done = v else {
+        return v;
+    };
+    let v = trials_hold(trials);
+    let Verdict::Done = v else {
+        return v;
+    };
+    accepts(job, floor, start, table)
+}
+
+// Fills a table with opening figures.
+fn fill_figures(width: usize, height: usize, goal: usize, q: usize, table: &mut [u32])
+    requires { ⌜ (1 ≤ width) × (width ≤ 64) × (height ≤ 64) × (q ≤ 16) × (goal < width * height) × (length (now table) ≡ width * height) ⌝ }
+    ensures { λ r. ⌜ ((bytes : List ℕ) → now (table .exit) ≡ openingTable (flat width height bytes) q (goal ∷ [])) ⌝ }
+{
+    let mut x = 0;
+    while x < table.len() {
+        table[x] = floor::opening(width, height, goal, q, x) as u32;
+        x += 1;
+    }
+}
+
+// The table of opening figures: what the checks 1, 3 and 4 say, and a table that they refuse stays as it is.
+pub fn fill_opening(
+    width: usize,
+    height: usize,
+    goal: usize,
+    q: usize,
+    floor: &[u8],
+    table: &mut [u32],
+) -> Verdict
+    ensures { λ r. ⌜ Fills (flat width height (now (floor .entry))) q (goal ∷ []) (now (table .entry)) r (now (table .exit)) ⌝ }
+{
+    let v = checks::sizes(width, height, floor, table.len());
+    let Verdict::Done = v else {
+        return v;
+    };
+    let v = checks::scale(q);
+    let Verdict::Done = v else {
+        return v;
+    };
+    let v = checks::bench(width, height, floor, goal);
+    let Verdict::Done = v else {
+        return v;
+    };
+    fill_figures(width, height, goal, q, table);
+    Verdict::Done
 }
