@@ -192,13 +192,19 @@ fn judge_in(job: Job, floor: &[u8], start: usize, table: &[u32], dist: &mut [u32
     judge_distances(job.q, start, &dist[..], table)
 }
 
+fn no_distances() -> [u32; 4096]
+    ensures { λ r. ⌜ length r ≡ 4096 ⌝ }
+{
+    [0u32; 4096]
+}
+
 // The same, with a list of its own.
 fn soundness(job: Job, floor: &[u8], start: usize, table: &[u32]) -> Verdict
     requires { ⌜ Openable job (now floor) start (now table) ⌝ }
     ensures { λ r. ⌜ r ≡ soundness job (now (floor .entry)) start (now (table .entry)) ⌝ }
 {
     let n = table.len();
-    let mut dist = [0u32; 4096];
+    let mut dist = no_distances();
     judge_in(job, floor, start, table, &mut dist[..n])
 }
 
