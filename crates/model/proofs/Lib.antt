@@ -18,3 +18,4 @@ pub mod Tables
 pub mod Demand
 -- Looking: the goal, empty rings, and the moves along a route.
 pub mod Looking
+pub mod OpeningSound
