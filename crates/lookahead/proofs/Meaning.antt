@@ -1,14 +1,14 @@
 -- What the lists mean: a window in the lists is the model's, and the other way round.
 -- Assumes nothing.
-use mathlib.Core.Path.{_≡_, refl, ap, sym, _∙_, subst}
-use mathlib.Core.List.{List, [], _∷_}
+use mathlib.Core.Path.{_≡_, ap, _∙_, subst}
+use mathlib.Core.List.{List}
 use mathlib.Core.Bool.{true, false}
 use mathlib.Core.Logic.{_⊎_, inl, inr}
-use Prim.Native.Nat.{ℕ, _+_, _-_, _*_, _≤_, _<_}
+use Prim.Native.Nat.{ℕ, _+_, _-_, _≤_, _<_}
 use native.Mathlib.Omega.{arith}
 use native.Mathlib.Decide.{decLe}
 use lib.ListN.{length, getD}
-use Rattle.learning.specs.Walk.{Walk, Any}
+use Rattle.learning.specs.Walk.{Any}
 use Rattle.learning.specs.Ahead.{Window}
 use Rattle.learning.specs.Ground.{Ground, Goal, netOf, ringOf, lastOf, legOf}
 use Rattle.learning.proofs.Walks.{turn, widen}
@@ -19,17 +19,17 @@ use Rattle.learning.proofs.Look.{walk-inside}
 use Rattle.learning.proofs.Same.{window-same}
 use Rattle.learning.proofs.Route.{leg-high}
 use Rattle.answers.specs.declared.Job.{Job}
-use Rattle.model.specs.Floor.{Floor, Sized, size, free, price}
+use Rattle.model.specs.Floor.{Floor, size}
 use Rattle.model.specs.Grounds.{price-high}
 use Rattle.model.specs.Checks.{floorOf, groundIn}
 use Rattle.model.specs.Lookahead.{seen, ring, w, emptyRing}
 use Rattle.model.proofs.Cells.{cells-le}
 use Rattle.model.proofs.Moves.{free-lt}
-use Rattle.model.proofs.Looking.{goal-only, empty-false, empty-true, empty-ring, full-ring}
+use Rattle.model.proofs.Looking.{goal-only, empty-false, empty-true, empty-ring}
 use Rattle.lookahead.specs.Contract.{Spent, Used, Asked, Near, Seen}
 use Rattle.lookahead.specs.Contract as contract
-use Rattle.lookahead.specs.Marks.{State, state, markOf, In}
-use Rattle.lookahead.specs.Rings.{Marked, Framed, Blocked}
+use Rattle.lookahead.specs.Marks.{state, In}
+use Rattle.lookahead.specs.Rings.{Framed, Blocked}
 use Rattle.lookahead.specs.Costs.{at, Relaxed}
 use Rattle.lookahead.specs.Bests.{ringAt}
 use Rattle.lookahead.proofs.Weighing.{ring-in, in-ring}

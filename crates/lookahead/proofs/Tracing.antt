@@ -1,25 +1,24 @@
 -- The route is written one move more at a time: the cell before is the model's, so the moves are those of its route.
 -- Assumes nothing.
-use mathlib.Core.Path.{_≡_, refl, ap, ap₂, sym, _∙_, subst}
+use mathlib.Core.Path.{_≡_, ap, ap₂, sym, _∙_, subst}
 use mathlib.Core.List.{List, [], _∷_, _++_}
 use mathlib.Core.Bool.{true}
 use mathlib.Core.Logic.{_≢_}
 use Prim.Native.Nat.{ℕ, zero, suc, _+_, _*_, _≤_, _<_}
 use native.Mathlib.Omega.{arith}
 use native.Mathlib.Numerals.{add-one}
-use native.Mathlib.Decide.{decLt}
-use lib.ListN.{length, getD, set, drop, length-append, length-drop, List·getD-append, List·getD-eq-default}
-use lib.Seq.{set-append-seam, drop-cons, append-snoc, getD-append-seam}
+use lib.ListN.{length, getD, set, drop, length-append, length-drop}
+use lib.Seq.{set-append-seam, drop-cons, append-snoc}
 use Rattle.learning.specs.Walk.{Walk, stop, move, Any}
-use Rattle.learning.specs.Ground.{Ground, Goal, netOf, viewOf, ringOf, lastOf, legOf}
-use Rattle.learning.specs.Route.{priorIn, routeOf}
+use Rattle.learning.specs.Ground.{Ground, netOf, viewOf, ringOf, lastOf, legOf}
+use Rattle.learning.specs.Route.{priorIn}
 use Rattle.learning.proofs.Walks.{turn, costs-least}
 use Rattle.learning.proofs.Routes.{chain-walk, prior-before, prior-is, route-none, route-more, route-chain, route-short}
 use Rattle.answers.specs.declared.Job.{Job}
-use Rattle.model.specs.Floor.{Floor, Sized, free, price, heading}
+use Rattle.model.specs.Floor.{Floor, free, heading}
 use Rattle.model.specs.Grounds.{price-free, price-low}
 use Rattle.model.specs.Checks.{floorOf, groundIn}
-use Rattle.model.specs.Lookahead.{seen, ring, w, route, movesAlong}
+use Rattle.model.specs.Lookahead.{seen, route, movesAlong}
 use Rattle.model.proofs.Moves.{is-true}
 use Rattle.model.proofs.Looking.{moves-more, moves-length}
 use Rattle.lookahead.specs.declared.Link.{Link}
