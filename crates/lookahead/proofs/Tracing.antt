@@ -8,7 +8,6 @@ use native.Mathlib.Omega.{arith}
 use native.Mathlib.Numerals.{add-one}
 use lib.ListN.{length, getD, set, drop, length-append, length-drop}
 use lib.Seq.{set-append-seam, drop-cons, append-snoc}
-use Rattle.learning.specs.Walk.{move}
 use Rattle.learning.specs.Ground.{Ground, viewOf, ringOf, lastOf, legOf}
 use Rattle.learning.specs.Route.{priorIn}
 use Rattle.learning.proofs.Walks.{costs-least}
