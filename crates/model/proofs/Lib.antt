@@ -3,4 +3,5 @@
 pub mod Cells
 pub mod Moves
 pub mod Accepted
+pub mod Soundness
 pub mod OpeningSound

@@ -1,6 +1,6 @@
 -- `opening::best_from` meets its contract. The invariant: the best so far is the least of what the first m moves give.
 -- Assumes nothing.
-use Prim.Native.Nat.{ℕ, _-_, _<_}
+use Prim.Native.Nat.{_-_, _<_}
 use Rattle.floor.specs.Moves.{flat}
 use Rattle.model.proofs.Moves.{free-lt}
 use Rattle.opening.proofs.Search.{BestTo, best-none, best-more, best-all, step-leading}

@@ -1,6 +1,6 @@
 -- `opening::fill_figures` meets its contract. The invariant: the places passed hold their opening figures.
 -- Assumes nothing.
-use Prim.Native.Nat.{ℕ, _-_, _≤_}
+use Prim.Native.Nat.{_-_, _≤_}
 use Rattle.floor.specs.Moves.{flat}
 use Rattle.model.proofs.OpeningSound.{opening-high}
 use Rattle.model.specs.Floor.{opening, octile, openingTable}
@@ -8,7 +8,7 @@ use Rattle.opening.proofs.Fill.{Filled, fill-more, fill-all}
 use borrow.Author.Needs.{needs}
 use lib.ListN.{length, length-set}
 use mathlib.Core.List.{[], _∷_}
-use mathlib.Core.Path.{_≡_, refl, sym, ap, _∙_}
+use mathlib.Core.Path.{_≡_, refl, _∙_}
 use native.Mathlib.Omega.{arith}
 use Rattle.opening.proofs.fill_figures.Statement.{statement}
 use Rattle.opening.proofs.fill_figures.Tie as tie

@@ -1,13 +1,13 @@
 -- `opening::open` meets its contract: one check after another, and the first refusal stands.
 -- Assumes nothing.
 use Rattle.model.proofs.Accepted.{then-stops, then-goes, sizes-judges, settings-judges}
-use Rattle.model.specs.Checks.{floorOf, pathRoom}
+use Rattle.model.specs.Checks.{floorOf}
 use Rattle.model.specs.Opening.{openJob}
 use Rattle.opening.proofs.Promise.{answered}
 use borrow.Author.Needs.{needs}
 use denote.Ref.{now}
 use lib.ListN.{length}
-use mathlib.Core.Path.{sym, ap, _∙_}
+use mathlib.Core.Path.{sym, _∙_}
 use Rattle.opening.proofs.open.Statement.{statement}
 use Rattle.opening.proofs.open.Tie as tie
 

@@ -1,13 +1,11 @@
 -- `opening::settle` meets its contract. The invariant: steps alone were made, and a sweep that lowered nothing left every cell quiet.
 -- The measure is the sum of the numbers, and one more while a sweep is due. Assumes nothing.
-use Prim.Native.Nat.{ℕ, _+_}
+use Prim.Native.Nat.{_+_}
 use Rattle.floor.specs.Moves.{flat}
 use Rattle.opening.proofs.Search.{lowered-spread, lowered-join, Rested, bit, swept-lowered, swept-rested, swept-falls}
 use Rattle.opening.specs.Search.{Lowered, none, total}
-use borrow.Author.Needs.{needs}
 use denote.Ref.{now}
-use mathlib.Core.Bool.{true, false}
-use mathlib.Core.Path.{_≡_, sym, ap, _∙_, subst}
+use mathlib.Core.Path.{sym, ap, _∙_, subst}
 use native.Mathlib.Omega.{arith}
 use Rattle.opening.proofs.settle.Statement.{statement}
 use Rattle.opening.proofs.settle.Tie as tie

@@ -1,6 +1,6 @@
 -- `opening::sweep` meets its contract. The invariant: what the visits of the first k cells came to.
 -- Assumes nothing.
-use Prim.Native.Nat.{ℕ, _-_, _*_, _≤_}
+use Prim.Native.Nat.{_-_, _*_, _≤_}
 use Rattle.floor.specs.Moves.{flat}
 use Rattle.model.proofs.Cells.{cells-le}
 use Rattle.opening.proofs.Search.{lowered-spread, swept-lowered, swept-none, swept-more}

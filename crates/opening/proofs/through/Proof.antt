@@ -3,7 +3,7 @@
 use Rattle.opening.specs.Search.{throughStep, Leading}
 use borrow.Author.Needs.{needs}
 use denote.Ref.{now}
-use mathlib.Core.Path.{sym, ap, subst, _∙_}
+use mathlib.Core.Path.{ap, subst}
 use native.Mathlib.Omega.{arith}
 use Rattle.opening.proofs.through.Statement.{statement}
 use Rattle.opening.proofs.through.Tie as tie

@@ -1,6 +1,6 @@
 -- `opening::unsound` meets its contract. The invariant: no cell that was passed is above its true figure.
 -- Assumes nothing.
-use Prim.Native.Nat.{ℕ, _-_, _≤_}
+use Prim.Native.Nat.{_-_, _≤_}
 use Rattle.model.proofs.Accepted.{NoneBelow, naming-names, naming-done}
 use Rattle.opening.specs.Distances.{above}
 use borrow.Author.Count.{below-more}
