@@ -35,14 +35,19 @@ enum-told-4 c = search needs
 
 returns-2 : tie.Need-returns-2
 unfolding openJob
-returns-2 c = answered (then-goes _ (c .before .before .before .before .before .sizes .ensures) (c .before .before .before .enum-told .given .1) (then-stops _ (c .before .before .settings .ensures) (c .enum-told4 .given .1)))
+returns-2 c =
+    answered (then-goes _ (c .before .before .before .before .before .sizes .ensures) (c .before .before .before .enum-told .given .1) (then-stops _ (c .before .before .settings .ensures) (c .enum-told4 .given .1)))
 
 accepts-requires : tie.Need-accepts-requires
-accepts-requires c κs = let s = sizes-judges (floorOf (c .before .before .before .before .before .before .before .before .args .job) (now (c .before .before .before .before .before .before .before .before .args .floor))) (length (now (c .before .before .before .before .before .before .before .before .args .table))) .gives (sym (c .before .before .before .before .before .sizes .ensures) ∙ c .before .before .before .enum-told .given .1) in let g = settings-judges (c .before .before .before .before .before .before .before .before .args .job) .gives (sym (c .before .before .settings .ensures) ∙ c .enum-told3 .given .1) in (s .0, s .1, g .fine)
+accepts-requires c κs =
+    let a = c .before .before .before .before .before .before .before .before .args in
+    let f = floorOf (a .job) (now (a .floor)) in
+    let s = sizes-judges f (length (now (a .table))) .gives (sym (c .before .before .before .before .before .sizes .ensures) ∙ c .before .before .before .enum-told .given .1) in let g = settings-judges (a .job) .gives (sym (c .before .before .settings .ensures) ∙ c .enum-told3 .given .1) in (s .0, s .1, g .fine)
 
 returns-3 : tie.Need-returns-3
 unfolding openJob
-returns-3 c = answered (then-goes _ (c .before .before .before .before .before .before .sizes .ensures) (c .before .before .before .before .enum-told .given .1) (then-goes _ (c .before .before .before .settings .ensures) (c .before .enum-told3 .given .1) (c .accepts .ensures)))
+returns-3 c =
+    answered (then-goes _ (c .before .before .before .before .before .before .sizes .ensures) (c .before .before .before .before .enum-told .given .1) (then-goes _ (c .before .before .before .settings .ensures) (c .before .enum-told3 .given .1) (c .accepts .ensures)))
 
 pub open-spec : {M : Type 1} → statement M
 open-spec =
