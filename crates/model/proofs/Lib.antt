@@ -18,4 +18,6 @@ pub mod Tables
 pub mod Demand
 -- Looking: the goal, empty rings, and the moves along a route.
 pub mod Looking
+-- Accepted: what each check says, and what it gives. Soundness: 6 and 7 by walks. OpeningSound: opening figures pass neither 5 nor 7.
+pub mod Soundness
 pub mod OpeningSound
