@@ -1,6 +1,6 @@
 -- Laws of the floor text's definitions, one for each way through the code's tests.
 -- A loop's invariant says that what is left to judge answers like the whole.
-use mathlib.Core.Path.{_≡_, refl, sym, _∙_, ap, subst}
+use mathlib.Core.Path.{_≡_, refl, sym, _∙_, ap}
 use mathlib.Core.Bool.{Bool, true, false, _&&_, _||_}
 use mathlib.Core.List.{List, [], _∷_, _++_, map, append-assoc, append-nil}
 use Prim.Native.Nat.{ℕ, zero, suc, _+_, _-_, _*_, _≤_, _<_}
@@ -9,25 +9,21 @@ use native.Mathlib.Nat.{mul-le-mul-right, mul-comm}
 use native.Mathlib.Omega.{arith}
 use lib.Dec.{leb, eqb}
 use borrow.Author.Tests.{lt-leb, le-leb, eq-eqb, ne-eqb, leb-true}
-use lib.ListN.{length, take, drop, set, getD, length-append, length-drop, length-map, length-set, drop-of-length-le, List·getD-eq-default}
-use lib.Seq.{take-nil, drop-cons, take-suc, take-all, set-at, drop-drop, take-at, drop-at, length-take-le}
+use lib.ListN.{length, take, drop, set, getD, length-append, length-drop, length-map, length-set, drop-of-length-le}
+use lib.Seq.{drop-cons, take-suc, take-all, set-at, drop-drop, take-at, drop-at, length-take-le}
 use Rattle.answers.specs.Says.{saysFloorRead}
 use Rattle.answers.specs.declared.Place.the-variants as P
 use Rattle.answers.specs.declared.Refusal.{Refusal}
-use Rattle.answers.specs.declared.Verdict.{Verdict}
 use Rattle.answers.specs.declared.Verdict.the-variants as Vd
 use Rattle.answers.specs.declared.FloorRead.the-variants as Fr
-use Rattle.model.specs.Basics.{choose, every, then, refuseAt, unless}
+use Rattle.model.specs.Basics.{choose, every, refuseAt}
 use Rattle.model.specs.FloorText.{begins, sizeIn, sizeBytes, header, heightIn, widthIn, rowsIn, afterHeight, afterWidth, typeAndHeight, andWidth, andMap, freeLetter, blockedLetter, byteOf, rowHolds, rows, cellsOf, readFloor, floorVerdict}
-use Rattle.floor_text.specs.Reads.{Sound, Heads, Reads}
+use Rattle.model.proofs.Parts.{rest}
+use Rattle.floor_text.specs.Reads.{Sound, Reads}
 
 and-false : (a : Bool) → (a && false) ≡ false
 and-false true = refl
 and-false false = refl
-
--- the remaining part as the code takes it
-pub rest : (n : ℕ) (t : List ℕ) → take (length t - n) (drop n t) ≡ drop n t
-rest n t = take-all (length t - n) (drop n t) (rw (length-drop n t) (omega arith))
 
 -- Whether a text begins with these bytes.
 pub begins-short : (w t : List ℕ) → length t < length w → begins w t ≡ false
@@ -243,10 +239,6 @@ cells-more w (suc n) t =
     let z : suc n * (w + 1) ≡ suc w + n * (w + 1) = omega arith in
     let e : drop (n * (w + 1)) (drop (suc w) t) ≡ drop (suc n * (w + 1)) t = drop-drop (n * (w + 1)) (suc w) t ∙ ap (λ (k : ℕ). drop k t) (sym z) in
     rw (cells-more w n (drop (suc w) t), e, append-assoc)
-
--- past the end nothing is left
-pub take-drop-end : (n : ℕ) (t : List ℕ) → length t ≤ n → take (length t - length t) (drop (length t) t) ≡ drop n t
-take-drop-end n t h = rw (drop-of-length-le t {i = length t} (omega arith), drop-of-length-le t {i = n} h) (take-nil (length t - length t))
 
 -- The header, by its lines.
 module _ (text : List ℕ) where

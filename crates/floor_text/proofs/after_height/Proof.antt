@@ -7,8 +7,6 @@ use Rattle.model.specs.FloorText.{sizeBytes}
 use borrow.Author.Needs.{needs}
 use Rattle.floor_text.proofs.after_height.Statement.{statement}
 use Rattle.floor_text.proofs.after_height.Tie as tie
-use Rattle.floor_text.proofs.from.Reads as from-reads
-use Rattle.floor_text.proofs.size_bytes.Reads as size-bytes-reads
 
 size-bytes-requires : tie.Need-size-bytes-requires
 size-bytes-requires c κs = search needs

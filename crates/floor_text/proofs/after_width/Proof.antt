@@ -4,9 +4,6 @@ use Rattle.floor_text.proofs.Laws.{width-passed}
 use borrow.Author.Needs.{needs}
 use Rattle.floor_text.proofs.after_width.Statement.{statement}
 use Rattle.floor_text.proofs.after_width.Tie as tie
-use Rattle.floor_text.proofs.after_height.Reads as after-height-reads
-use Rattle.floor_text.proofs.from.Reads as from-reads
-use Rattle.floor_text.proofs.size_bytes.Reads as size-bytes-reads
 
 after-height-requires : tie.Need-after-height-requires
 after-height-requires c κs = search needs

@@ -1,10 +1,10 @@
 -- `floor_text::from` meets its contract: a part that runs to the end is all that is left.
 -- Assumes nothing.
-use Rattle.floor_text.proofs.Laws.{rest, take-drop-end}
+use Rattle.model.proofs.Parts.{rest, rest-end}
 use borrow.Author.Needs.{needs}
 use native.Mathlib.Omega.{arith}
 use native.Mathlib.Omega.{arith}
-use Rattle.floor_text.proofs.Laws.{rest, take-drop-end}
+use Rattle.model.proofs.Parts.{rest, rest-end}
 use Rattle.floor_text.proofs.from.Statement.{statement}
 use Rattle.floor_text.proofs.from.Tie as tie
 
@@ -33,7 +33,7 @@ part-result-end-2 : tie.Need-part-result-end-2
 part-result-end-2 c = search needs
 
 returns-2 : tie.Need-returns-2
-returns-2 c = take-drop-end (c .before .before .args .at) (c .before .before .args .text .now) (omega arith)
+returns-2 c = rest-end (c .before .before .args .at) (c .before .before .args .text .now) (omega arith)
 
 pub from-spec : {M : Type 1} → statement M
 from-spec =

@@ -5,8 +5,6 @@ use Rattle.model.specs.FloorText.{sizeIn}
 use borrow.Author.Needs.{needs}
 use Rattle.floor_text.proofs.height_in.Statement.{statement}
 use Rattle.floor_text.proofs.height_in.Tie as tie
-use Rattle.floor_text.proofs.from.Reads as from-reads
-use Rattle.floor_text.proofs.size_in.Reads as size-in-reads
 
 from-requires : tie.Need-from-requires
 from-requires c κs = search needs

@@ -9,7 +9,6 @@ use borrow.Author.Needs.{needs}
 use native.Mathlib.Omega.{arith}
 use Rattle.floor_text.proofs.judge_rows.Statement.{statement}
 use Rattle.floor_text.proofs.judge_rows.Tie as tie
-use Rattle.floor_text.proofs.row_holds.Reads as row-holds-reads
 
 abbrev Inv-loop : tie.InvT-loop
 Inv-loop width height text t₀ row₀ t row = Rowed width height text t row

@@ -1,14 +1,12 @@
 -- `floor_text::read_floor` meets its contract: by the header's two cases.
 -- Assumes nothing.
-use mathlib.Core.Path.{subst, sym}
+use mathlib.Core.Path.{subst}
 use Rattle.floor_text.specs.declared.Header.{Header}
 use Rattle.floor_text.specs.Reads.{Heads}
 use Rattle.floor_text.proofs.Laws.{header-refused}
 use borrow.Author.Needs.{needs}
 use Rattle.floor_text.proofs.read_floor.Statement.{statement}
 use Rattle.floor_text.proofs.read_floor.Tie as tie
-use Rattle.floor_text.proofs.read_header.Reads as read-header-reads
-use Rattle.floor_text.proofs.read_rows.Reads as read-rows-reads
 
 read-header-requires : tie.Need-read-header-requires
 read-header-requires c κs = search needs

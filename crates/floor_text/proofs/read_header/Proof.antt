@@ -8,11 +8,6 @@ use borrow.Author.Needs.{needs}
 use native.Mathlib.Omega.{arith}
 use Rattle.floor_text.proofs.read_header.Statement.{statement}
 use Rattle.floor_text.proofs.read_header.Tie as tie
-use Rattle.floor_text.proofs.after_height.Reads as after-height-reads
-use Rattle.floor_text.proofs.after_width.Reads as after-width-reads
-use Rattle.floor_text.proofs.begins_with.Reads as begins-with-reads
-use Rattle.floor_text.proofs.height_in.Reads as height-in-reads
-use Rattle.floor_text.proofs.width_in.Reads as width-in-reads
 
 slice-aggregate-begins-with : tie.Need-slice-aggregate-begins-with
 slice-aggregate-begins-with c = search needs

@@ -1,20 +1,13 @@
 -- `floor_text::read_rows` meets its contract: one law for each of no room, a faulty row and all rows stored.
 -- Assumes nothing.
-use Prim.Native.Nat.{ℕ}
 use mathlib.Core.Path.{sym, _∙_, ap}
-use mathlib.Core.List.{List}
 use native.Mathlib.Nat.{mul-le-mul}
 use lib.ListN.{drop}
-use Rattle.model.specs.FloorText.{rows, cellsOf}
 use Rattle.floor_text.proofs.Laws.{no-room, rows-refused, rows-read, rows-there}
 use borrow.Author.Needs.{needs}
 use native.Mathlib.Omega.{arith}
 use Rattle.floor_text.proofs.read_rows.Statement.{statement}
 use Rattle.floor_text.proofs.read_rows.Tie as tie
-use Rattle.floor_text.proofs.after_width.Reads as after-width-reads
-use Rattle.floor_text.proofs.from.Reads as from-reads
-use Rattle.floor_text.proofs.judge_rows.Reads as judge-rows-reads
-use Rattle.floor_text.proofs.store_rows.Reads as store-rows-reads
 
 mul-if1 : tie.Need-mul-if1
 mul-if1 c = omega (arith, mul-le-mul (c .before .before .pre .narrow) (c .before .before .pre .low))

@@ -8,7 +8,6 @@ use borrow.Author.Needs.{needs}
 use native.Mathlib.Omega.{arith}
 use Rattle.floor_text.proofs.row_holds.Statement.{statement}
 use Rattle.floor_text.proofs.row_holds.Tie as tie
-use Rattle.floor_text.proofs.is_letter.Reads as is-letter-reads
 
 abbrev Inv-loop : tie.InvT-loop
 Inv-loop width text i₀ i = Lettered width text i

@@ -7,7 +7,6 @@ use borrow.Author.Needs.{needs}
 use native.Mathlib.Omega.{arith}
 use Rattle.floor_text.proofs.store_row.Statement.{statement}
 use Rattle.floor_text.proofs.store_row.Tie as tie
-use Rattle.floor_text.proofs.byte_of.Reads as byte-of-reads
 
 abbrev Inv-loop : tie.InvT-loop
 Inv-loop letters part₀ i₀ part i = Stored letters part₀ part i

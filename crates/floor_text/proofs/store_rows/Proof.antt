@@ -1,15 +1,14 @@
 -- `floor_text::store_rows` meets its contract: the invariant: `Filled`, the cells of the rows passed are stored.
 -- Assumes nothing.
 use Prim.Native.Nat.{_-_}
-use mathlib.Core.Path.{sym, _∙_}
+use mathlib.Core.Path.{sym}
 use lib.Seq.{length-take-le}
-use lib.ListN.{length, length-take, length-drop}
+use lib.ListN.{length-take, length-drop}
 use Rattle.floor_text.proofs.Laws.{Filled, filled, row-left, filled-more, filled-all}
 use borrow.Author.Needs.{needs}
 use native.Mathlib.Omega.{arith}
 use Rattle.floor_text.proofs.store_rows.Statement.{statement}
 use Rattle.floor_text.proofs.store_rows.Tie as tie
-use Rattle.floor_text.proofs.store_row.Reads as store-row-reads
 
 abbrev Inv-loop : tie.InvT-loop
 Inv-loop width height text buffer₀ t₀ row₀ buffer t row = Filled width height text buffer₀ t buffer row

@@ -8,9 +8,6 @@ use Rattle.model.specs.FloorText.{sizeIn}
 use borrow.Author.Needs.{needs}
 use Rattle.floor_text.proofs.width_in.Statement.{statement}
 use Rattle.floor_text.proofs.width_in.Tie as tie
-use Rattle.floor_text.proofs.after_height.Reads as after-height-reads
-use Rattle.floor_text.proofs.from.Reads as from-reads
-use Rattle.floor_text.proofs.size_in.Reads as size-in-reads
 
 after-height-requires : tie.Need-after-height-requires
 after-height-requires c κs = search needs
