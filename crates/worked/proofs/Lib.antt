@@ -1,0 +1,4 @@
+pub mod Hall
+pub mod Text
+pub mod Cases
+pub mod More
