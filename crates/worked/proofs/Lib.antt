@@ -5,3 +5,6 @@ pub mod More
 pub mod PinsDecision
 pub mod PinsChecks
 pub mod PinsOpening
+pub mod PinsTable
+pub mod PinsText
+pub mod PinsLine
