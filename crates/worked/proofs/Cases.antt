@@ -10,16 +10,11 @@ use Rattle.answers.specs.declared.Place.the-variants as P
 use Rattle.answers.specs.declared.Answer.the-variants as A
 use Rattle.answers.specs.declared.Verdict.{Verdict}
 use Rattle.answers.specs.declared.Verdict.the-variants as Vd
-use Rattle.answers.specs.declared.Tried.the-variants as Td
 use Rattle.model.specs.Decision.{Outcome, decide, atGoal}
 use Rattle.model.specs.Opening.{openJob, openTrial, openRun}
-use Rattle.model.specs.Ride.{begun, rideFrom, TrialOutcome, trial}
+use Rattle.model.specs.Ride.{begun, rideFrom, trial}
 use Rattle.model.specs.Compute.{compute}
-use Rattle.worked.proofs.Hall.{hall, job, openingOf, figures, state, fresh, buffer, leaves, no}
-
--- the first decision of a trial from 6, its moves from place 1 on
-abbrev pub firstOf : Job → Outcome
-firstOf j = decide j hall (state 6 0 0) (openingOf j hall) fresh buffer 1
+use Rattle.worked.proofs.Hall.{hall, job, openingOf, figures, state, fresh, buffer, leaves, no, shut, firstOf, made}
 
 -- the decision after it
 abbrev pub secondOf : Job → Outcome
@@ -29,23 +24,11 @@ secondOf j = let o = firstOf j in decide j hall (o .state) (o .table) (o .path) 
 abbrev pub arrivals : Job → ℕ → List Bool
 arrivals j n = map (λ k. atGoal j hall (rideFrom j hall k (begun 6 (openingOf j hall) fresh) .state .current)) (listOf n (λ k. k))
 
--- a trial's report by its four counts, and what the trial leaves
-abbrev pub made : (decisions learned kept travel : ℕ) → (table path : List ℕ) → TrialOutcome
-made decisions learned kept travel table path = record {
-  answer = Td.Made (record { decisions = decisions; learned = learned; kept = kept; travel = travel });
-  table = table;
-  path = path;
-}
-
 -- all three calls that open a job, with room enough, answer the same
 pub record Opens (j : Job) (bytes : List ℕ) (start : ℕ) (table : List ℕ) (answer : Verdict) : Type 0 where
   pub job : openJob j bytes start table ≡ answer
   pub trial : openTrial j bytes start table fresh ≡ answer
   pub run : openRun j bytes start table fresh 10 10 ≡ answer
-
--- the middle row `@@@`
-abbrev pub shut : List ℕ
-shut = 0 ∷ 0 ∷ 0 ∷ 1 ∷ 1 ∷ 1 ∷ 0 ∷ 0 ∷ 0 ∷ []
 
 pub record Cases : Type 0 where
   -- P1. Opening figures with q 1: 6:20, 7:24, 8:28.

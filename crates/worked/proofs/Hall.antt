@@ -1,7 +1,7 @@
 -- The floor that document 01 works on, the jobs on it, and what the cases lend.
 use Prim.Native.Nat.{ℕ}
 use mathlib.Core.List.{List, [], _∷_}
-use lib.ListN.{replicate}
+use lib.ListN.{set, replicate}
 use Rattle.answers.specs.declared.Job.{Job}
 use Rattle.answers.specs.declared.State.{State}
 use Rattle.answers.specs.declared.Place.{Place}
@@ -12,7 +12,11 @@ use Rattle.answers.specs.declared.Verdict.{Verdict}
 use Rattle.answers.specs.declared.Verdict.the-variants as Vd
 use Rattle.model.specs.Floor.{openingTable}
 use Rattle.model.specs.Checks.{floorOf, goals}
-use Rattle.model.specs.Decision.{Outcome}
+use Rattle.answers.specs.declared.Report.{Report}
+use Rattle.answers.specs.declared.Tried.the-variants as Td
+use Rattle.model.specs.Decision.{Outcome, decide}
+use Rattle.model.specs.Ride.{TrialOutcome}
+use Rattle.worked.proofs.Text.{bytes}
 
 -- width 3, height 3, rows `...`, `@@.`, `...`
 abbrev pub hall : List ℕ
@@ -51,3 +55,38 @@ no number place = Vd.Refused (record { number = number; place = place })
 
 abbrev pub refuses : ℕ → Place → Answer
 refuses number place = A.Refused (record { number = number; place = place })
+
+-- the middle row `@@@`
+abbrev pub shut : List ℕ
+shut = 0 ∷ 0 ∷ 0 ∷ 1 ∷ 1 ∷ 1 ∷ 0 ∷ 0 ∷ 0 ∷ []
+
+-- the first decision of a trial from 6, its moves from place 1 on
+abbrev pub firstOf : Job → Outcome
+firstOf j = decide j hall (state 6 0 0) (openingOf j hall) fresh buffer 1
+
+-- a trial's report by its four counts, and what the trial leaves
+abbrev pub made : (decisions learned kept travel : ℕ) → (table path : List ℕ) → TrialOutcome
+made decisions learned kept travel table path = record {
+  answer = Td.Made (record { decisions = decisions; learned = learned; kept = kept; travel = travel });
+  table = table;
+  path = path;
+}
+
+-- a job on one row
+abbrev pub rowJob : (width goal depth quota : ℕ) → Job
+rowJob width goal depth quota = record { width = width; height = 1; goal = goal; depth = depth; p = 1; q = 1; quota = quota }
+
+-- records that nothing was written to
+abbrev pub blank : Report
+blank = record { decisions = 7; learned = 7; kept = 7; travel = 7 }
+
+-- the table that the worked run leaves, and its file
+abbrev pub learnt : List ℕ
+learnt = set (set figures 6 48) 7 38
+
+abbrev pub workedFile : List ℕ
+workedFile = 0 ∷ 6 ∷ 0 ∷ 0 ∷ 0 ∷ 48 ∷ 0 ∷ 7 ∷ 0 ∷ 0 ∷ 0 ∷ 38 ∷ 3 ∷ 3 ∷ 0 ∷ 0 ∷ 1 ∷ 1 ∷ 0 ∷ 2 ∷ 0 ∷ 0 ∷ 0 ∷ 28 ∷ 80 ∷ 68 ∷ 76 ∷ 84 ∷ []
+
+-- the worked floor as text
+abbrev pub hallText : List ℕ
+hallText = bytes "type octile\nheight 3\nwidth 3\nmap\n...\n@@.\n...\n"

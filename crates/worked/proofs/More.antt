@@ -1,12 +1,9 @@
 -- The other worked lines of document 01, by computing.
-use Prim.Native.Nat.{ℕ}
 use mathlib.Core.Path.{_≡_, refl}
 use mathlib.Core.Bool.{true}
-use mathlib.Core.List.{List, [], _∷_, _++_}
-use lib.ListN.{set, replicate}
-use Rattle.answers.specs.declared.Job.{Job}
+use mathlib.Core.List.{[], _∷_, _++_}
+use lib.ListN.{replicate}
 use Rattle.answers.specs.declared.Place.the-variants as P
-use Rattle.answers.specs.declared.Report.{Report}
 use Rattle.answers.specs.declared.Ran.the-variants as Rn
 use Rattle.answers.specs.declared.Written.the-variants as Wr
 use Rattle.model.specs.Checks.{floorOf}
@@ -16,28 +13,9 @@ use Rattle.model.specs.Ride.{run}
 use Rattle.model.specs.TableFile.{writeTable}
 use Rattle.model.specs.Line.{aisle}
 use Rattle.model.specs.Compute.{compute}
-use Rattle.worked.proofs.Hall.{hall, job, figures, state, fresh, buffer, leaves, no, refuses}
+use Rattle.worked.proofs.Hall.{hall, job, figures, state, fresh, buffer, leaves, no, refuses, rowJob, blank, learnt, workedFile, hallText}
 use Rattle.worked.proofs.Cases.{Opens}
 use Rattle.worked.proofs.Text.{bytes}
-
--- a job on one row
-abbrev pub rowJob : (width goal depth quota : ℕ) → Job
-rowJob width goal depth quota = record { width = width; height = 1; goal = goal; depth = depth; p = 1; q = 1; quota = quota }
-
--- records that nothing was written to
-abbrev pub blank : Report
-blank = record { decisions = 7; learned = 7; kept = 7; travel = 7 }
-
--- the table that the worked run leaves, and its file
-abbrev pub learnt : List ℕ
-learnt = set (set figures 6 48) 7 38
-
-abbrev pub workedFile : List ℕ
-workedFile = 0 ∷ 6 ∷ 0 ∷ 0 ∷ 0 ∷ 48 ∷ 0 ∷ 7 ∷ 0 ∷ 0 ∷ 0 ∷ 38 ∷ 3 ∷ 3 ∷ 0 ∷ 0 ∷ 1 ∷ 1 ∷ 0 ∷ 2 ∷ 0 ∷ 0 ∷ 0 ∷ 28 ∷ 80 ∷ 68 ∷ 76 ∷ 84 ∷ []
-
--- the worked floor as text
-abbrev pub hallText : List ℕ
-hallText = bytes "type octile\nheight 3\nwidth 3\nmap\n...\n@@.\n...\n"
 
 pub record More : Type 0 where
   -- True distances: 1:10, 2:20, 5:24, 7:38, 6:48, 8:34; 127 stands for a cell that has none.

@@ -11,8 +11,7 @@ use Rattle.answers.specs.declared.Place.the-variants as P
 use Rattle.answers.specs.declared.Answer.the-variants as A
 use Rattle.model.specs.Decision.{decide}
 use Rattle.model.specs.Compute.{compute}
-use Rattle.worked.proofs.Hall.{hall, job, figures, state, fresh, buffer, leaves, refuses}
-use Rattle.worked.proofs.More.{rowJob}
+use Rattle.worked.proofs.Hall.{hall, job, figures, state, fresh, buffer, leaves, refuses, rowJob}
 
 abbrev Refused : Job → List ℕ → State → (table path moves : List ℕ) → (from number : ℕ) → Place → Type 0
 Refused j bytes s table path moves from number place = decide j bytes s table path moves from ≡ leaves (refuses number place) s table path moves

@@ -10,9 +10,7 @@ use Rattle.answers.specs.declared.Answer.{Answer}
 use Rattle.answers.specs.declared.Answer.the-variants as A
 use Rattle.model.specs.Decision.{Outcome, decide}
 use Rattle.model.specs.Compute.{compute}
-use Rattle.worked.proofs.Hall.{hall, job, figures, state, fresh, buffer, leaves, refuses}
-use Rattle.worked.proofs.Cases.{firstOf}
-use Rattle.worked.proofs.More.{rowJob}
+use Rattle.worked.proofs.Hall.{hall, job, figures, state, fresh, buffer, leaves, refuses, firstOf, rowJob}
 
 -- on the worked floor, moves from place 0 on
 abbrev on : Job → State → (table path : List ℕ) → Outcome

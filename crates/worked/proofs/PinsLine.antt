@@ -8,7 +8,7 @@ use lib.ListN.{replicate}
 use Rattle.answers.specs.declared.Place.the-variants as P
 use Rattle.model.specs.Line.{Settings, asked, readLine, decimal, refusalLine, aisle}
 use Rattle.model.specs.Compute.{compute}
-use Rattle.worked.proofs.More.{hallText}
+use Rattle.worked.proofs.Hall.{hallText}
 use Rattle.worked.proofs.Text.{bytes}
 
 -- what a line says, and what `aisle` prints of a line and the worked floor, and of a line and any text

@@ -18,9 +18,7 @@ use Rattle.model.specs.Checks.{floorOf}
 use Rattle.model.specs.Opening.{openJob, openTrial, openRun, openTable, filled}
 use Rattle.model.specs.Ride.{TrialOutcome, RunOutcome, trial, run}
 use Rattle.model.specs.Compute.{compute}
-use Rattle.worked.proofs.Hall.{hall, job, openingOf, figures, fresh, no}
-use Rattle.worked.proofs.Cases.{shut, made}
-use Rattle.worked.proofs.More.{blank, learnt}
+use Rattle.worked.proofs.Hall.{hall, job, openingOf, figures, fresh, no, shut, made, blank, learnt}
 
 -- filling the table of a free floor
 abbrev fills : (width height bytes table : ℕ) → Verdict

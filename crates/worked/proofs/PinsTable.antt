@@ -11,8 +11,7 @@ use Rattle.answers.specs.declared.Written.the-variants as Wr
 use Rattle.model.specs.Floor.{Floor, openingTable}
 use Rattle.model.specs.TableFile.{checkTrailer, findRecords, readVerdict, readTable, writeTable}
 use Rattle.model.specs.Compute.{compute}
-use Rattle.worked.proofs.Hall.{hall, figures, no}
-use Rattle.worked.proofs.More.{learnt, workedFile}
+use Rattle.worked.proofs.Hall.{hall, figures, no, learnt, workedFile}
 
 abbrev floor : Floor
 floor = record { width = 3; height = 3; bytes = hall }
