@@ -5,9 +5,11 @@ pub mod More
 pub mod PinsDecision
 pub mod PinsChecks
 pub mod PinsOpening
+pub mod PinsRide
 pub mod PinsTable
 pub mod PinsText
 pub mod PinsLine
+pub mod PinsSays
 -- What they share:
 pub mod Hall
 pub mod Text

@@ -1,5 +1,5 @@
--- What opening a job, a trial and a run judge, 1 to 7: each limit on both sides, each fault alone, and the lower number first;
--- and what trial and run answer and leave. Limits that several calls share are tried on one of them.
+-- What opening a job, a trial and a run judge, 1 to 7, and filling a table: each limit on both sides, each fault alone, and the lower number first.
+-- Limits that several calls share are tried on one of them.
 use Prim.Native.Nat.{ℕ, _*_}
 use mathlib.Core.Path.{_≡_, refl}
 use mathlib.Core.Bool.{true, false}
@@ -18,7 +18,7 @@ use Rattle.model.specs.Checks.{floorOf}
 use Rattle.model.specs.Opening.{openJob, openTrial, openRun, openTable, filled}
 use Rattle.model.specs.Ride.{TrialOutcome, RunOutcome, trial, run}
 use Rattle.model.specs.Compute.{compute}
-use Rattle.worked.proofs.Hall.{hall, job, openingOf, figures, fresh, no, shut, made, blank, learnt}
+use Rattle.worked.proofs.Hall.{hall, job, openingOf, figures, fresh, no, shut, blank}
 
 -- filling the table of a free floor
 abbrev fills : (width height bytes table : ℕ) → Verdict
@@ -103,17 +103,6 @@ pub record PinsOpening : Type 0 where
   pub reports-short : runs 1 9 10 9 ≡ no 2 P.Nowhere
   pub trials-1000 : runs 1 9 1000 1000 ≡ Vd.Done
   pub trials-1001 : runs 1 9 1001 1001 ≡ no 3 P.Nowhere
-  -- Start equal to goal gives one trial, all four 0
-  pub at-goal : trial (job 1 1 1 0) hall 0 figures fresh ≡ made 0 0 0 0 figures fresh
-  pub run-at-goal : run (job 1 1 1 0) hall 0 2 figures fresh (blank ∷ blank ∷ [])
-      ≡ record { answer = Rn.Made 1 true; table = figures; path = fresh; reports = record { decisions = 0; learned = 0; kept = 0; travel = 0 } ∷ blank ∷ [] }
-  -- a trial on a table of true figures, where nothing is left to learn, comes to the goal too
-  pub nothing-left : trial (job 1 1 1 0) hall 6 (set learnt 8 34) fresh ≡ made 4 0 48 48 (set learnt 8 34) (6 ∷ 7 ∷ 5 ∷ 1 ∷ replicate 5 77)
-  -- trials until the number asked for is used: one that learns more than 0 is not settled
-  pub unsettled : run (job 1 1 1 0) hall 6 1 figures fresh (blank ∷ [])
-      ≡ record { answer = Rn.Made 1 false; table = learnt; path = 6 ∷ 7 ∷ 5 ∷ 1 ∷ replicate 5 77; reports = record { decisions = 8; learned = 42; kept = 48; travel = 68 } ∷ [] }
-  -- kept cost: the legs along the path at the end, each at its own cost
-  pub kept : trial (job 2 1 1 1000) hall 6 figures fresh ≡ made 2 28 48 48 (set figures 6 48) (6 ∷ 5 ∷ replicate 7 77)
   -- Filling a table with opening figures: 1 before 3, q alone, before 4, the goal alone
   pub fill-1-3 : openTable (record { width = 3; height = 3; bytes = hall }) 0 (0 ∷ []) 8 ≡ no 1 P.Nowhere
   pub fill-3-4 : openTable (record { width = 3; height = 3; bytes = hall }) 17 (4 ∷ []) 9 ≡ no 3 P.Nowhere
@@ -176,11 +165,6 @@ pinsOpening = record {
   reports-short = refl;
   trials-1000 = refl;
   trials-1001 = refl;
-  at-goal = refl;
-  run-at-goal = refl;
-  nothing-left = refl;
-  unsettled = refl;
-  kept = refl;
   fill-1-3 = refl;
   fill-3-4 = refl;
   fill-q-0 = refl;
