@@ -92,6 +92,7 @@ pub record PinsOpening : Type 0 where
   pub trial-2-3 : TrialRefused (job 0 1 1 0) hall 6 figures (replicate 8 77) 2 P.Nowhere
   pub trial-3-4 : TrialRefused (job 0 1 1 0) hall 3 figures fresh 3 P.Nowhere
   pub trial-4 : TrialRefused (goalAt 0) hall 3 figures fresh 4 P.Nowhere
+  pub trial-5 : TrialRefused (goalAt 0) hall 6 (set figures 4 917281) fresh 5 (P.Cell 4)
   -- a run its path list, then its reports, its settings and its trials, 1 to 1,000
   pub run-1-2 : RunRefused (job 0 1 1 0) hall 6 0 (take 8 figures) [] [] 1 P.Nowhere
   pub run-path : RunRefused (job 0 1 1 0) hall 6 1 figures (replicate 8 77) (blank ∷ []) 2 P.Nowhere
@@ -99,6 +100,7 @@ pub record PinsOpening : Type 0 where
   pub run-settings : RunRefused (job 0 1 1 0) hall 3 1 figures fresh (blank ∷ []) 3 P.Nowhere
   pub run-trials-0 : RunRefused (job 1 1 1 0) hall 3 0 figures fresh (blank ∷ []) 3 P.Nowhere
   pub run-4 : RunRefused (job 1 1 1 0) hall 3 1 figures fresh (blank ∷ []) 4 P.Nowhere
+  pub run-5 : RunRefused (goalAt 0) hall 6 1 (set figures 4 917281) fresh (blank ∷ []) 5 (P.Cell 4)
   pub reports-meet : runs 1 9 10 10 ≡ Vd.Done
   pub reports-short : runs 1 9 10 9 ≡ no 2 P.Nowhere
   pub trials-1000 : runs 1 9 1000 1000 ≡ Vd.Done
@@ -155,12 +157,14 @@ pinsOpening = record {
   trial-2-3 = refl;
   trial-3-4 = refl;
   trial-4 = refl;
+  trial-5 = refl;
   run-1-2 = refl;
   run-path = refl;
   run-reports = refl;
   run-settings = refl;
   run-trials-0 = refl;
   run-4 = refl;
+  run-5 = refl;
   reports-meet = refl;
   reports-short = refl;
   trials-1000 = refl;
