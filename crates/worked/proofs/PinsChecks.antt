@@ -67,7 +67,7 @@ pub record PinsChecks : Type 0 where
   pub path-repeated : Unheld 0 0 3 (6 ∷ 7 ∷ 6 ∷ [])
   pub path-current : Unheld 6 0 2 (7 ∷ 6 ∷ [])
   pub path-first : Unheld 6 0 2 (6 ∷ 7 ∷ [])
-  pub path-next : Unheld 0 0 2 (6 ∷ 6 ∷ [])
+  pub path-later : Unheld 0 0 3 (7 ∷ 6 ∷ 6 ∷ [])
   -- done before 9
   pub done-first : decide (rowJob 2 0 1 0) (0 ∷ 1 ∷ []) (state 0 0 0) (0 ∷ 10 ∷ []) fresh buffer 0 .answer ≡ A.Arrived
   -- 8's first part before 9
@@ -113,7 +113,7 @@ pinsChecks = record {
   path-repeated = refl;
   path-current = refl;
   path-first = refl;
-  path-next = refl;
+  path-later = refl;
   done-first = refl;
   eight-nine = refl;
   nine-eight = refl;
