@@ -116,8 +116,8 @@ pub record PinsTable : Type 0 where
   -- Figures that differ from the opening figure: none
   pub write-none : writeTable floor 1 (0 ∷ []) figures (replicate 17 5) ≡ record { answer = Wr.Length 16; buffer = ending 0 16 ++ 5 ∷ [] }
   -- up to the ceiling, the first cell and the last; numbers are big-endian
-  pub write-ends : writeTable floor 1 (0 ∷ []) (set (set figures 0 917280) 8 256) (replicate 28 5)
-      ≡ record { answer = Wr.Length 28; buffer = 0 ∷ 0 ∷ 0 ∷ 13 ∷ 255 ∷ 32 ∷ 0 ∷ 8 ∷ 0 ∷ 0 ∷ 1 ∷ 0 ∷ ending 2 28 }
+  pub write-ends : writeTable floor 1 (0 ∷ []) (set (set (set figures 0 917280) 7 131071) 8 131072) (replicate 34 5)
+      ≡ record { answer = Wr.Length 34; buffer = 0 ∷ 0 ∷ 0 ∷ 13 ∷ 255 ∷ 32 ∷ 0 ∷ 7 ∷ 0 ∷ 1 ∷ 255 ∷ 255 ∷ 0 ∷ 8 ∷ 0 ∷ 2 ∷ 0 ∷ 0 ∷ ending 3 34 }
   -- cell and goal take two bytes, figure and back four, and are read as they are written
   pub write-long : writeTable long 2 (257 ∷ []) (set longTable 300 70000) (replicate 22 5) ≡ record { answer = Wr.Length 22; buffer = longFile }
   pub read-long : reading long 2 257 longFile (replicate 320 5) ≡ (Vd.Done, set longTable 300 70000)
