@@ -27,9 +27,9 @@ Off j current = Refused j hall (state current 0 0) (set figures 8 917281) fresh 
 abbrev goalAt : ℕ → Job
 goalAt goal = record { width = 3; height = 3; goal = goal; depth = 1; p = 1; q = 1; quota = 1000 }
 
--- 8 for this state and the path's first cells
-abbrev Unheld : (current learned length : ℕ) → List ℕ → Type 0
-Unheld current learned length cells = Refused (job 1 1 2 5) hall (state current learned length) figures (cells ++ replicate 9 77) buffer 0 8 P.Nowhere
+-- 8 for this state and the path's first cells, where the quota would let it go forward
+abbrev Unheld : (current length : ℕ) → List ℕ → Type 0
+Unheld current length cells = Refused (job 1 1 1 1000) hall (state current 0 length) figures (cells ++ replicate 9 77) buffer 0 8 P.Nowhere
 
 pub record PinsChecks : Type 0 where
   -- 1: floor or table length not width × height; before 2
@@ -56,18 +56,18 @@ pub record PinsChecks : Type 0 where
   pub above : Refused (job 1 1 1 10) hall (state 0 11 0) (set (set figures 3 917281) 8 917281) fresh buffer 0 5 (P.Cell 3)
   pub at-ceiling : decide (job 1 1 1 1000) hall (state 6 0 0) (set (set figures 3 917280) 1 917280) fresh buffer 0 .answer ≡ A.Forward 7 14 1
   -- 8: u above q × T; before done
-  pub u-above : Unheld 0 11 0 []
+  pub u-above : Refused (job 1 1 2 5) hall (state 0 11 0) figures fresh buffer 0 8 P.Nowhere
   pub u-meets : decide (job 1 1 2 5) hall (state 0 10 0) figures fresh buffer 0 .answer ≡ A.Arrived
   -- path longer than width × height
-  pub too-long : Unheld 6 0 10 []
+  pub too-long : Unheld 6 10 []
   -- a path cell off the floor, blocked, the goal, repeated or equal to the current one, wherever it stands on the path
-  pub path-off : Unheld 0 0 2 (6 ∷ 9 ∷ [])
-  pub path-blocked : Unheld 0 0 2 (6 ∷ 3 ∷ [])
-  pub path-goal : Unheld 6 0 2 (7 ∷ 0 ∷ [])
-  pub path-repeated : Unheld 0 0 3 (6 ∷ 7 ∷ 6 ∷ [])
-  pub path-current : Unheld 6 0 2 (7 ∷ 6 ∷ [])
-  pub path-first : Unheld 6 0 2 (6 ∷ 7 ∷ [])
-  pub path-later : Unheld 0 0 3 (7 ∷ 6 ∷ 6 ∷ [])
+  pub path-off : Unheld 0 2 (6 ∷ 9 ∷ [])
+  pub path-blocked : Unheld 0 2 (6 ∷ 3 ∷ [])
+  pub path-goal : Unheld 6 2 (7 ∷ 0 ∷ [])
+  pub path-repeated : Unheld 0 3 (6 ∷ 7 ∷ 6 ∷ [])
+  pub path-current : Unheld 6 2 (7 ∷ 6 ∷ [])
+  pub path-first : Unheld 6 2 (6 ∷ 7 ∷ [])
+  pub path-later : Unheld 0 3 (7 ∷ 6 ∷ 6 ∷ [])
   -- done before 9
   pub done-first : decide (rowJob 2 0 1 0) (0 ∷ 1 ∷ []) (state 0 0 0) (0 ∷ 10 ∷ []) fresh buffer 0 .answer ≡ A.Arrived
   -- 8's first part before 9
