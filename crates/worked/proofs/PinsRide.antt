@@ -6,7 +6,7 @@ use lib.ListN.{set, replicate}
 use Rattle.answers.specs.declared.Ran.the-variants as Rn
 use Rattle.model.specs.Ride.{trial, run}
 use Rattle.model.specs.Compute.{compute}
-use Rattle.worked.proofs.Hall.{hall, job, figures, fresh, made, blank, learnt}
+use Rattle.worked.proofs.Hall.{hall, job, figures, fresh, made, rowJob, blank, learnt}
 
 pub record PinsRide : Type 0 where
   -- Start equal to goal gives one trial, all four 0
@@ -15,6 +15,9 @@ pub record PinsRide : Type 0 where
       ≡ record { answer = Rn.Made 1 true; table = figures; path = fresh; reports = record { decisions = 0; learned = 0; kept = 0; travel = 0 } ∷ blank ∷ [] }
   -- a trial on a table of true figures, where nothing is left to learn, comes to the goal too
   pub nothing-left : trial (job 1 1 1 0) hall 6 (set learnt 8 34) fresh ≡ made 4 0 48 48 (set learnt 8 34) (6 ∷ 7 ∷ 5 ∷ 1 ∷ replicate 5 77)
+  -- and one that learns least at each decision, backs out all the way and goes again: decisions until done
+  pub there-and-back : trial (rowJob 6 5 1 0) (replicate 6 0) 0 (49 ∷ 39 ∷ 29 ∷ 19 ∷ 9 ∷ 0 ∷ []) fresh
+      ≡ made 14 5 50 130 (50 ∷ 40 ∷ 30 ∷ 20 ∷ 10 ∷ 0 ∷ []) (0 ∷ 1 ∷ 2 ∷ 3 ∷ 4 ∷ replicate 4 77)
   -- trials until the number asked for is used: one that learns more than 0 is not settled
   pub unsettled : run (job 1 1 1 0) hall 6 1 figures fresh (blank ∷ [])
       ≡ record { answer = Rn.Made 1 false; table = learnt; path = 6 ∷ 7 ∷ 5 ∷ 1 ∷ replicate 5 77; reports = record { decisions = 8; learned = 42; kept = 48; travel = 68 } ∷ [] }
@@ -35,6 +38,7 @@ pinsRide = record {
   at-goal = refl;
   run-at-goal = refl;
   nothing-left = refl;
+  there-and-back = refl;
   unsettled = refl;
   kept = refl;
   carried = refl;
