@@ -45,6 +45,13 @@ abbrev Unwritten : Floor → (q goal : ℕ) → (table buffer : List ℕ) → (n
 Unwritten f q goal table buffer number place =
     writeTable f q (goal ∷ []) table buffer ≡ record { answer = Wr.Refused (record { number = number; place = place }); buffer = buffer }
 
+-- one row of two free cells, and its file with q 3 where cell 1 is at 31
+abbrev oblong : Floor
+oblong = record { width = 2; height = 1; bytes = 0 ∷ 0 ∷ [] }
+
+abbrev oblongFile : List ℕ
+oblongFile = 0 ∷ 1 ∷ 0 ∷ 0 ∷ 0 ∷ 31 ∷ 2 ∷ 1 ∷ 0 ∷ 0 ∷ 3 ∷ 1 ∷ 0 ∷ 1 ∷ 0 ∷ 0 ∷ 0 ∷ 22 ∷ 80 ∷ 68 ∷ 76 ∷ 84 ∷ []
+
 -- 64 × 5 free cells, goal 257: numbers that take both bytes
 abbrev long : Floor
 long = record { width = 64; height = 5; bytes = replicate 320 0 }
@@ -79,9 +86,10 @@ pub record PinsTable : Type 0 where
   pub past-start : reads (drop 1 workedFile) ≡ no 13 P.Nowhere
   -- 14: width, height, goal or q not this job's; after 13 and before 15
   pub thirteen-first : Unread floor 2 0 (set workedFile 27 85) (replicate 9 5) 13 P.Nowhere
-  pub width-other : with 0 4 ≡ no 14 P.Nowhere
-  pub height-other : with 1 4 ≡ no 14 P.Nowhere
+  pub width-other : map (with 0) (2 ∷ 4 ∷ []) ≡ no 14 P.Nowhere ∷ no 14 P.Nowhere ∷ []
+  pub height-other : map (with 1) (2 ∷ 4 ∷ []) ≡ no 14 P.Nowhere ∷ no 14 P.Nowhere ∷ []
   pub goal-other : map (with 3) (1 ∷ []) ++ map (with 2) (1 ∷ []) ≡ no 14 P.Nowhere ∷ no 14 P.Nowhere ∷ []
+  pub goal-lower : Unread floor 1 5 (ending 0 16) (replicate 9 5) 14 P.Nowhere
   pub q-other : with 4 2 ≡ no 14 P.Nowhere
   pub fourteen-first : Unread floor 2 0 (entry 3 48 ++ ending 1 22) (replicate 9 5) 14 P.Nowhere
   -- 15: off the floor, blocked, not above the cell before, not above the opening figure, or above the ceiling; names the first such record
@@ -118,6 +126,9 @@ pub record PinsTable : Type 0 where
   -- up to the ceiling, the first cell and the last; numbers are big-endian
   pub write-ends : writeTable floor 1 (0 ∷ []) (set (set (set figures 0 917280) 7 131071) 8 131072) (replicate 34 5)
       ≡ record { answer = Wr.Length 34; buffer = 0 ∷ 0 ∷ 0 ∷ 13 ∷ 255 ∷ 32 ∷ 0 ∷ 7 ∷ 0 ∷ 1 ∷ 255 ∷ 255 ∷ 0 ∷ 8 ∷ 0 ∷ 2 ∷ 0 ∷ 0 ∷ ending 3 34 }
+  -- width before height
+  pub write-oblong : writeTable oblong 3 (0 ∷ []) (0 ∷ 31 ∷ []) (replicate 22 5) ≡ record { answer = Wr.Length 22; buffer = oblongFile }
+  pub read-oblong : reading oblong 3 0 oblongFile (5 ∷ 5 ∷ []) ≡ (Vd.Done, 0 ∷ 31 ∷ [])
   -- cell and goal take two bytes, figure and back four, and are read as they are written
   pub write-long : writeTable long 2 (257 ∷ []) (set longTable 300 70000) (replicate 22 5) ≡ record { answer = Wr.Length 22; buffer = longFile }
   pub read-long : reading long 2 257 longFile (replicate 320 5) ≡ (Vd.Done, set longTable 300 70000)
@@ -145,6 +156,7 @@ pinsTable = record {
   width-other = refl;
   height-other = refl;
   goal-other = refl;
+  goal-lower = refl;
   q-other = refl;
   fourteen-first = refl;
   off = refl;
@@ -173,6 +185,8 @@ pinsTable = record {
   room = refl;
   write-none = refl;
   write-ends = refl;
+  write-oblong = refl;
+  read-oblong = refl;
   write-long = refl;
   read-long = refl;
   count-long = refl;
