@@ -43,6 +43,8 @@ pub record PinsText : Type 0 where
   pub swamp : Unread "type octile\nheight 1\nwidth 1\nmap\nS\n" 1 12 (P.Line 5)
   pub water : Unread "type octile\nheight 1\nwidth 1\nmap\nW\n" 1 12 (P.Line 5)
   pub small : Unread "type octile\nheight 1\nwidth 1\nmap\ng\n" 1 12 (P.Line 5)
+  pub hyphen : Unread "type octile\nheight 1\nwidth 1\nmap\n-\n" 1 12 (P.Line 5)
+  pub between : Unread "type octile\nheight 1\nwidth 1\nmap\nN\n" 1 12 (P.Line 5)
   -- 11: header: no byte of it may be another, or be left out
   pub header : map (λ i. floorVerdict (set dot i 120) 1) (listOf 33 (λ i. i)) ≡ replicate 33 (no 11 P.Nowhere)
   pub header-short : map (λ i. floorVerdict (listOf i (λ k. k)) 1) (0 ∷ 1 ∷ []) ≡ no 11 P.Nowhere ∷ no 11 P.Nowhere ∷ []
@@ -55,6 +57,10 @@ pub record PinsText : Type 0 where
       ≡ replicate 11 (no 11 P.Nowhere)
   pub no-width : wide "0" 0 ∷ wide "01" 1 ∷ wide "65" 65 ∷ wide "100" 100 ∷ wide "" 0 ∷ wide "1 " 1 ∷ wide " 1" 1 ∷ wide "1:" 20 ∷ wide "1/" 9 ∷ wide ":" 10 ∷ wide "/" 1 ∷ []
       ≡ replicate 11 (no 11 P.Nowhere)
+  -- each line ended by LF
+  pub line-ends : map (λ t. floorVerdict (bytes t ++ times 10 (bytes ".\n")) 64)
+      ("type octile\nheight 1\twidth 1\nmap\n" ∷ "type octile\nheight 10\twidth 1\nmap\n" ∷ "type octile\nheight :\nxwidth 1\nmap\n" ∷ [])
+      ≡ replicate 3 (no 11 P.Nowhere)
   -- in floor text 11 comes before 2
   pub eleven-first : Unread "type octile\nheight 2\nwidth 2\nmao\n..\n..\n" 3 11 P.Nowhere
   -- 2: floor buffer too short; before 12
@@ -64,6 +70,7 @@ pub record PinsText : Type 0 where
   pub row-short : Unread "type octile\nheight 2\nwidth 2\nmap\n.\n..\n" 4 12 (P.Line 5)
   pub row-long : Unread "type octile\nheight 2\nwidth 2\nmap\n..\n...\n" 4 12 (P.Line 6)
   pub row-unended : Unread "type octile\nheight 2\nwidth 2\nmap\n..\n.." 4 12 (P.Line 6)
+  pub row-tab : Unread "type octile\nheight 1\nwidth 1\nmap\n.\t" 1 12 (P.Line 5)
   pub row-missing : Unread "type octile\nheight 2\nwidth 2\nmap\n..\n" 4 12 (P.Line 6)
   pub no-rows : Unread "type octile\nheight 2\nwidth 2\nmap\n" 4 12 (P.Line 5)
   pub row-first : Unread "type octile\nheight 3\nwidth 2\nmap\n.x\n..\n.x\nx" 6 12 (P.Line 5)
@@ -78,6 +85,8 @@ pinsText = record {
   swamp = refl;
   water = refl;
   small = refl;
+  hyphen = refl;
+  between = refl;
   header = refl;
   header-short = refl;
   header-cut = refl;
@@ -86,12 +95,14 @@ pinsText = record {
   widths = refl;
   no-height = refl;
   no-width = refl;
+  line-ends = refl;
   eleven-first = refl;
   two = refl;
   room = refl;
   row-short = refl;
   row-long = refl;
   row-unended = refl;
+  row-tab = refl;
   row-missing = refl;
   no-rows = refl;
   row-first = refl;
