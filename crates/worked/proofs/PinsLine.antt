@@ -35,7 +35,7 @@ pub record PinsLine : Type 0 where
   pub zeros : says "0000006 05 004\n" ≡ asked 6 5 4 1 1 1000000 10
   pub eight-digits : map says ("00000006 0\n" ∷ "6 12345678\n" ∷ []) ≡ replicate 2 none
   pub spaces : map says (" 6 0\n" ∷ "6  0\n" ∷ "6 0 \n" ∷ "6\t0\n" ∷ []) ≡ replicate 4 none
-  pub letters : map says ("6 x\n" ∷ "6 0/\n" ∷ "6 0:\n" ∷ "-6 0\n" ∷ "6 0\r\n" ∷ []) ≡ replicate 5 none
+  pub letters : map says ("6 x\n" ∷ "6 0/\n" ∷ "6 0:\n" ∷ "-6 0\n" ∷ "6 0\r\n" ∷ "6 0\t\n" ∷ []) ≡ replicate 6 none
   pub no-end : map says ("" ∷ "6 0" ∷ []) ≡ replicate 2 none
   -- what stands after the line is no part of it
   pub after : says "6 5\nx\n" ≡ asked 6 5 1 1 1 1000000 10
