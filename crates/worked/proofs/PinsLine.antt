@@ -54,6 +54,8 @@ pub record PinsLine : Type 0 where
   -- a trial line is its moves (`-` if none), decisions, learned, kept cost, travel
   pub at-goal : onHall "0 0\n" ≡ bytes "- 0 0 0 0\nsettled 1\n"
   pub defaults : onHall "6 0\n" ≡ bytes "2176 4 28 48 48\n2176 4 14 48 48\n2176 4 0 48 48\nsettled 3\n"
+  -- a path longer than width and height together
+  pub long-path : prints "0 12 1 1 1 1000000 1\n" "type octile\nheight 4\nwidth 4\nmap\n.@..\n....\n@@@.\n....\n" ≡ bytes "4220244566 10 74 104 104\nunsettled 1\n"
   -- its table is the opening one, by q
   pub scaled : onHall "6 0 1 1 2 0 10\n" ≡ bytes "262176 8 46 48 68\n2176 4 0 48 48\nsettled 2\n"
   -- the last line is `settled` or `unsettled` and the trials made
@@ -92,6 +94,7 @@ pinsLine = record {
   greatest = refl;
   at-goal = refl;
   defaults = refl;
+  long-path = refl;
   scaled = refl;
   unsettled = refl;
   decimals = refl;
