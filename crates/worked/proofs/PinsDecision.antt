@@ -1,6 +1,7 @@
 -- What P1 to P12 leave open of a decision past its checks: the lookahead, the path, backing out and the moves.
 use Prim.Native.Nat.{ℕ, _*_}
 use mathlib.Core.Path.{_≡_, refl}
+use mathlib.Core.Bool.{true, false}
 use mathlib.Core.List.{List, [], _∷_, map}
 use lib.ListN.{set, replicate, take}
 use Rattle.answers.specs.declared.Job.{Job}
@@ -8,6 +9,7 @@ use Rattle.answers.specs.declared.State.{State}
 use Rattle.answers.specs.declared.Place.the-variants as P
 use Rattle.answers.specs.declared.Answer.{Answer}
 use Rattle.answers.specs.declared.Answer.the-variants as A
+use Rattle.model.specs.Floor.{allowed}
 use Rattle.model.specs.Decision.{Outcome, decide}
 use Rattle.model.specs.Compute.{compute}
 use Rattle.worked.proofs.Hall.{hall, job, figures, state, fresh, buffer, leaves, refuses, firstOf, rowJob}
@@ -44,6 +46,11 @@ pub record PinsDecision : Type 0 where
       ≡ (0 ∷ []) ∷ (1 ∷ []) ∷ (2 ∷ []) ∷ (3 ∷ []) ∷ (4 ∷ []) ∷ (5 ∷ []) ∷ (6 ∷ []) ∷ (7 ∷ []) ∷ []
   pub costs : map (λ g. towards g .answer) (1 ∷ 2 ∷ 5 ∷ 8 ∷ 7 ∷ 6 ∷ 3 ∷ 0 ∷ [])
       ≡ A.Forward 1 1 1 ∷ A.Forward 2 5 1 ∷ A.Forward 5 1 1 ∷ A.Forward 8 5 1 ∷ A.Forward 7 1 1 ∷ A.Forward 6 5 1 ∷ A.Forward 3 1 1 ∷ A.Forward 0 5 1 ∷ []
+  -- A move is allowed when the cell moved into is on the floor and free: from 7, and from the middle of one column
+  pub allows : map (allowed (record { width = 3; height = 3; bytes = hall }) 7) (0 ∷ 1 ∷ 2 ∷ 3 ∷ 4 ∷ 5 ∷ 6 ∷ 7 ∷ [])
+      ≡ false ∷ true ∷ true ∷ false ∷ false ∷ false ∷ true ∷ false ∷ []
+  pub allows-column : map (allowed (record { width = 1; height = 3; bytes = 0 ∷ 0 ∷ 0 ∷ [] }) 1) (0 ∷ 1 ∷ 2 ∷ 3 ∷ 4 ∷ 5 ∷ 6 ∷ 7 ∷ [])
+      ≡ true ∷ false ∷ false ∷ false ∷ true ∷ false ∷ false ∷ false ∷ []
   -- the cell moved into is on the floor: a move is named by where it goes, at every edge
   pub edge-east : firstMove (clear 3 1 2 1 0 (0 ∷ 0 ∷ 0 ∷ [])) ≡ 2 ∷ []
   pub edge-south : firstMove (clear 1 3 2 1 0 (0 ∷ 0 ∷ 0 ∷ [])) ≡ 4 ∷ []
@@ -103,6 +110,8 @@ unfolding compute
 pinsDecision = record {
   moves = refl;
   costs = refl;
+  allows = refl;
+  allows-column = refl;
   edge-east = refl;
   edge-south = refl;
   edge-north = refl;
