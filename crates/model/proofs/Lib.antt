@@ -7,3 +7,5 @@ pub mod Accepted
 pub mod Figures
 pub mod Parts
 pub mod Files
+pub mod Records
+pub mod RoundTrip
