@@ -26,3 +26,5 @@ pub mod OpeningSound
 pub mod Figures
 pub mod Parts
 pub mod Files
+pub mod Records
+pub mod RoundTrip
