@@ -3,3 +3,5 @@
 pub mod Cells
 pub mod Moves
 pub mod Accepted
+pub mod Held
+pub mod Deeds
