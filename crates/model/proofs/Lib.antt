@@ -1,7 +1,9 @@
 -- Laws of the definitions, for code to cite. Cells: columns and rows. Moves: the eight moves and the price of a move.
--- Accepted: what each check says and gives.
+-- Looking: the goal, empty rings, and the moves along a route. Accepted: what each check says and gives.
+-- Held: the decision's own checks. Deeds: a decision past them, case by case.
 pub mod Cells
 pub mod Moves
+pub mod Looking
 pub mod Accepted
 pub mod Held
 pub mod Deeds
