@@ -1,21 +1,18 @@
 -- A decision past its checks, case by case: what each test leads to. Proofs of code go by these and leave the definitions shut.
 -- And a cart on the last ring of a cell has no empty ring on the way there, by a walk that crosses each of them. Assumes nothing.
-use Prim.Native.Nat.{ℕ, zero, suc, _+_, _-_, _*_, _≤_, _<_}
-use mathlib.Core.Path.{_≡_, refl, sym, ap, _∙_, subst}
-use mathlib.Core.Bool.{Bool, true, false, _&&_, _||_}
+use Prim.Native.Nat.{ℕ, _+_, _-_, _*_, _≤_, _<_}
+use mathlib.Core.Path.{_≡_, subst}
+use mathlib.Core.Bool.{Bool, true, false, _&&_}
 use mathlib.Core.List.{List}
 use native.Mathlib.Omega.{arith}
-use borrow.Author.Tests.{lt-leb, eqb-true}
 use lib.Dec.{T, leb, ltb, eqb, eqb→eq}
 use lib.ListN.{length, getD}
-use Rattle.learning.specs.Walk.{Walk}
 use Rattle.learning.specs.Ground.{Ground, Goal, netOf, ringOf, lastOf, legOf, View}
-use Rattle.learning.specs.Look.{lowest}
 use Rattle.learning.specs.Ahead as learning
 use Rattle.learning.proofs.Walks.{turn}
 use Rattle.learning.proofs.Ground.{window}
 use Rattle.learning.proofs.Sound.{ring-self, crosses}
-use Rattle.learning.proofs.Look.{lowest-low, eqb-of, walk-inside}
+use Rattle.learning.proofs.Look.{walk-inside}
 use Rattle.answers.specs.declared.Job.{Job}
 use Rattle.answers.specs.declared.State.{State}
 use Rattle.answers.specs.declared.Refusal.{Refusal}
@@ -24,7 +21,8 @@ use Rattle.answers.specs.declared.Answer.the-variants as A
 use Rattle.model.specs.Floor.{size, free}
 use Rattle.model.specs.Checks.{ceiling, floorOf, groundIn}
 use Rattle.model.specs.Lookahead.{seen, ring, emptyRing, newFigure, target}
-use Rattle.model.specs.Decision.{Deed, Outcome, atGoal, judge, unchanged, refused, rise, stored, forward, backOut, stay, goBack, learn, act, outcomeOf, decide}
+use Rattle.model.specs.Decision.{atGoal, judge, unchanged, refused, rise, forward, backOut, stay, goBack, learn, act, outcomeOf, decide}
+use Rattle.model.proofs.Looking.{empty-false}
 use Rattle.model.proofs.Held.{free-below, at-goal}
 
 module _ (j : Job) (bytes : List ℕ) (s : State) (table path : List ℕ) where
@@ -112,9 +110,6 @@ module _ (j : Job) (bytes : List ℕ) (s : ℕ) (deep : 1 ≤ j .depth) (here : 
   unfolding ringOf lastOf
   near-below x h = walk-inside G (free-below (floorOf j bytes) s here) (turn (W .attained x h .1))
 
-  or-none : (a b : Bool) → a ≡ false → b ≡ false → (a || b) ≡ false
-  or-none a b p q = rw (p, q)
-
   module _ (x : ℕ) (on : ring j bytes (seen j bytes s) x ≡ seen j bytes s .last) where
     crossed : (k : ℕ) → k ≤ seen j bytes s .last → (y : ℕ) × (y < n) × (ring j bytes (seen j bytes s) y ≡ k)
     unfolding ringOf lastOf
@@ -122,9 +117,5 @@ module _ (j : Job) (bytes : List ℕ) (s : ℕ) (deep : 1 ≤ j .depth) (here : 
         let c = crosses W {k = k} {a = s} {z = x} h (omega (arith, ring-self W)) (omega (arith, on)) (W .attained x (omega (arith, on)) .1) in
         (c .at, walk-inside G (free-below (floorOf j bytes) s here) (turn (c .inside .1)), c .on)
 
-    pub full : (k : ℕ) → k ≤ seen j bytes s .last → emptyRing j bytes (seen j bytes s) k ≡ false
-    unfolding emptyRing
-    full zero h = refl
-    full (suc k) h =
-        let (y, b, e) = crossed (suc k) h in
-        or-none _ _ (full k (omega arith)) (lt-leb n _ (omega (arith, lowest-low n (λ z. eqb (ring j bytes (seen j bytes s) z) (suc k)) y b (eqb-of _ (suc k) e))))
+    pub full : emptyRing j bytes (seen j bytes s) (seen j bytes s .last) ≡ false
+    full = empty-false j bytes (seen j bytes s) (seen j bytes s .last) (λ k l h. crossed k h)

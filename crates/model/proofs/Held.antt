@@ -6,8 +6,8 @@ use mathlib.Core.Logic.{_≢_}
 use mathlib.Core.Bool.{Bool, true, false, not, _&&_, _||_}
 use mathlib.Core.List.{List, [], _∷_}
 use native.Mathlib.Omega.{arith}
-use borrow.Author.Tests.{lt-ltb, eqb-true, eqb-false, eq-eqb, ne-eqb, not-true}
-use lib.Dec.{T, ltb, leb, eqb}
+use borrow.Author.Tests.{lt-ltb, eqb-false, ne-eqb, not-true}
+use lib.Dec.{T, eqb}
 use lib.ListN.{length, getD, take}
 use lib.Seq.{length-take-le, getD-take}
 use Rattle.learning.specs.Path.{All, end, also, Distinct, alone, apart}
