@@ -4,9 +4,9 @@ ghost use mathlib.Core.Bool.{true};
 ghost use mathlib.Core.List.{[], _∷_};
 ghost use lib.ListN.{length};
 ghost use Rattle.model.specs.Basics.{refuseAt};
-ghost use Rattle.model.specs.Floor.{Floor, size, Sized, free};
+ghost use Rattle.model.specs.Floor.{Floor, size, Sized};
 ghost use Rattle.model.specs.Checks.{sizes, pathRoom, settings, scale, benches, places, figures};
-ghost use Rattle.checks.specs.Here.{here};
+ghost use Rattle.floor.specs.Moves.{flat};
 use answers::Job;
 use answers::Place;
 use answers::Refusal;
@@ -33,7 +33,7 @@ pub fn refuse_at(number: usize, place: Place) -> Verdict
 
 // 1: width or height outside 1 to 64; floor or table length not width × height.
 pub fn sizes(width: usize, height: usize, floor: &[u8], figures: usize) -> Verdict
-    ensures { λ r. ⌜ r ≡ sizes (here width height (now (floor .entry))) figures ⌝ }
+    ensures { λ r. ⌜ r ≡ sizes (flat width height (now (floor .entry))) figures ⌝ }
 {
     if width < 1 {
         return refuse(1);
@@ -106,10 +106,10 @@ pub fn scale(q: usize) -> Verdict
 
 // 4 where the goal is all that is taken: it is off the floor or blocked.
 pub fn bench(width: usize, height: usize, floor: &[u8], goal: usize) -> Verdict
-    requires { ⌜ Sized (here width height (now floor)) ⌝ }
-    ensures { λ r. ⌜ r ≡ benches (here width height (now (floor .entry))) (goal ∷ []) ⌝ }
+    requires { ⌜ Sized (flat width height (now floor)) ⌝ }
+    ensures { λ r. ⌜ r ≡ benches (flat width height (now (floor .entry))) (goal ∷ []) ⌝ }
 {
-    if is_free(width, height, floor, goal) {
+    if floor::is_free(width, height, floor, goal) {
         return Verdict::Done;
     }
     refuse(4)
@@ -117,10 +117,10 @@ pub fn bench(width: usize, height: usize, floor: &[u8], goal: usize) -> Verdict
 
 // 4: start or current cell, or goal off the floor or blocked.
 pub fn places(width: usize, height: usize, floor: &[u8], cell: usize, goal: usize) -> Verdict
-    requires { ⌜ Sized (here width height (now floor)) ⌝ }
-    ensures { λ r. ⌜ r ≡ places (here width height (now (floor .entry))) cell (goal ∷ []) ⌝ }
+    requires { ⌜ Sized (flat width height (now floor)) ⌝ }
+    ensures { λ r. ⌜ r ≡ places (flat width height (now (floor .entry))) cell (goal ∷ []) ⌝ }
 {
-    if is_free(width, height, floor, cell) {
+    if floor::is_free(width, height, floor, cell) {
         return bench(width, height, floor, goal);
     }
     refuse(4)
@@ -138,15 +138,4 @@ pub fn figures(table: &[u32]) -> Verdict
         x += 1;
     }
     Verdict::Done
-}
-
-fn is_free(width: usize, height: usize, floor: &[u8], x: usize) -> bool
-    requires { ⌜ Sized (here width height (now floor)) ⌝ }
-    ensures { λ r. ⌜ r ≡ free (here width height (now (floor .entry))) x ⌝ }
-{
-    if x < width * height {
-        floor[x] == 0
-    } else {
-        false
-    }
 }

@@ -1,18 +1,17 @@
 -- What each check says, for the code that makes it and for whoever was let through by it.
 -- A check judges a fact: it is done where the fact holds, and else refused by its number. A search that names the lowest cell has laws of its own.
-use Prim.Native.Nat.{ℕ, zero, suc, _*_, _≤_, _<_, min}
-use mathlib.Core.Path.{_≡_, refl, sym, ap, ap₂, _∙_, subst}
+use Prim.Native.Nat.{ℕ, zero, suc, _≤_, _<_, min}
+use mathlib.Core.Path.{_≡_, refl, sym, ap, ap₂, _∙_}
 use mathlib.Core.Bool.{Bool, true, false, _&&_}
 use mathlib.Core.List.{List, [], _∷_}
-use native.Mathlib.Nat.{le-trans, mul-le-mul-left}
 use native.Mathlib.Omega.{arith}
 use native.Mathlib.Decide.{decLe}
 use borrow.Author.Tests.{leb-true, ltb-true, eqb-true, ltb-false, le-leb, lt-ltb, le-ltb, eq-eqb}
-use lib.Dec.{T, leb, ltb, eqb}
+use lib.Dec.{leb, ltb, eqb}
 use lib.ListN.{length, getD}
 use Rattle.learning.specs.Ground.{pick, leastOver}
 use Rattle.learning.specs.Look.{lowest}
-use Rattle.learning.proofs.Spread.{over-top, over-low, over-met, pick-first, pick-true}
+use Rattle.learning.proofs.Spread.{over-low, over-met}
 use Rattle.answers.specs.declared.Job.{Job}
 use Rattle.answers.specs.declared.Refusal.{Refusal}
 use Rattle.answers.specs.declared.Place.the-variants as P
@@ -22,14 +21,7 @@ use Rattle.model.specs.Basics.{choose, between, every, then, refuseAt, u
 use Rattle.model.specs.Floor.{Floor, size, Sized, free}
 use Rattle.model.specs.Checks.{ceiling, sizes, pathRoom, settings, scale, benches, places, figures}
 use Rattle.model.specs.Opening.{reportsRoom, trialsHold}
-
--- ---- a floor that passed 1 has at most 4,096 cells
-
-pub within-floor : {a b : ℕ} → a ≤ 64 → b ≤ 64 → a * b ≤ 4096
-within-floor {a} {b} h k = le-trans (mul-le-mul-left a k) (omega arith)
-
-pub sized-cells : {f : Floor} → Sized f → size f ≤ 4096
-sized-cells s = within-floor (s .narrow) (s .low)
+use Rattle.model.proofs.Moves.{both, both-of}
 
 -- ---- one check after another
 
@@ -38,6 +30,13 @@ then-next w e = ap (λ u. then u w) e
 
 pub then-refused : {v : Verdict} {r : Refusal} (w : Verdict) → v ≡ Vd.Refused r → then v w ≡ Vd.Refused r
 then-refused w e = ap (λ u. then u w) e
+
+-- the same of an answer that is the first check's, and of one that is what comes after it
+pub then-stops : {v a : Verdict} {r : Refusal} (w : Verdict) → a ≡ v → a ≡ Vd.Refused r → a ≡ then v w
+then-stops w e q = q ∙ sym (then-refused w (sym e ∙ q))
+
+pub then-goes : {v a b : Verdict} (w : Verdict) → a ≡ v → a ≡ Vd.Done → b ≡ w → b ≡ then v w
+then-goes w e q g = g ∙ sym (then-next w (sym e ∙ q))
 
 pub then-done : (v w : Verdict) → then v w ≡ Vd.Done → (v ≡ Vd.Done) × (w ≡ Vd.Done)
 then-done Vd.Done w e = (refl, e)
@@ -63,21 +62,10 @@ eq-tells a b = record { holds = eqb-true a b; shown = eq-eqb a b }
 pub is-tells : (b : Bool) → Tells b (b ≡ true)
 is-tells b = record { holds = λ e. e; shown = λ e. e }
 
-both-first : (a b : Bool) → (a && b) ≡ true → a ≡ true
-both-first true b e = refl
-both-first false b e = e
-
-both-second : (a b : Bool) → (a && b) ≡ true → b ≡ true
-both-second true b e = e
-both-second false b e = let z : _≡_ {A = ℕ} 0 1 = cc in absurd (omega arith)
-
-both-shown : (a b : Bool) → a ≡ true → b ≡ true → (a && b) ≡ true
-both-shown a b e f = rw (e, f)
-
 pub and-tells : {a b : Bool} {F H : Type 0} → Tells a F → Tells b H → Tells (a && b) (F × H)
 and-tells {a} {b} s t = record {
-  holds = λ e. (s .holds (both-first a b e), t .holds (both-second a b e));
-  shown = λ h. both-shown a b (s .shown (h .0)) (t .shown (h .1));
+  holds = λ e. (s .holds (both a b e .0), t .holds (both a b e .1));
+  shown = λ h. both-of a b (s .shown (h .0)) (t .shown (h .1));
 }
 
 pub told : {b : Bool} {F H : Type 0} → Tells b F → (F → H) → (H → F) → Tells b H
@@ -207,6 +195,31 @@ module _ (n : ℕ) (fault : ℕ → Bool) where
       by : (b : Bool) → fault k ≡ b → b ≡ false
       by true q = let w = some-named number k h q in let z : _≡_ {A = ℕ} 0 1 = cc in absurd (omega arith)
       by false q = refl
+
+-- what a search that refuses has found
+pub record Named (n : ℕ) (fault : ℕ → Bool) (number x : ℕ) (v : Verdict) : Type 0 where
+  pub inside : x < n
+  pub faulty : fault x ≡ true
+  pub first : NoneBelow fault x
+  pub answer : v ≡ refuseAt number (P.Cell x)
+
+pub naming-found : (n number : ℕ) (fault : ℕ → Bool) {r : Refusal} → naming n fault number ≡ Vd.Refused r → (x : ℕ) × Named n fault number x (naming n fault number)
+unfolding naming
+naming-found n number fault e = by (ltb (lowest n fault) n) refl e
+  where
+    here : lowest n fault < n → Named n fault number (lowest n fault) (naming n fault number)
+    here l =
+        let met = lowest-met n fault l in
+        record { inside = l; faulty = met; first = λ k h. below k h (fault k) refl; answer = some-named n fault number (lowest n fault) l met }
+      where
+        below : (k : ℕ) → k < lowest n fault → (b : Bool) → fault k ≡ b → b ≡ false
+        below k h true q = absurd (omega (arith, lowest-low n fault k (omega arith) q))
+        below k h false q = refl
+
+    by : {r : Refusal} (b : Bool) → ltb (lowest n fault) n ≡ b → choose b (refuseAt number (P.Cell (lowest n fault))) Vd.Done ≡ Vd.Refused r
+        → (x : ℕ) × Named n fault number x (naming n fault number)
+    by true q e = (lowest n fault, here (ltb-true (lowest n fault) n q))
+    by false q e = let z : _≡_ {A = ℕ} 0 1 = cc in absurd (omega arith)
 
 over-same : (t n : ℕ) (f g : ℕ → ℕ) → ((k : ℕ) → k < n → f k ≡ g k) → leastOver t n f ≡ leastOver t n g
 over-same t zero f g e = refl

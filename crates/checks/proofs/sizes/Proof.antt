@@ -4,7 +4,8 @@ use mathlib.Core.Path.{sym, _∙_}
 use native.Mathlib.Nat.{lt-of-le-of-lt}
 use lib.Dec.{lit<}
 use native.Mathlib.Omega.{arith}
-use Rattle.model.proofs.Accepted.{sizes-judges, within-floor}
+use Rattle.model.proofs.Accepted.{sizes-judges}
+use Rattle.model.proofs.Cells.{cells-le}
 use borrow.Author.Needs.{needs}
 use Rattle.checks.proofs.sizes.Statement.{statement}
 use Rattle.checks.proofs.sizes.Tie as tie
@@ -34,7 +35,7 @@ returns-4 : tie.Need-returns-4
 returns-4 c = c .refuse4 .ensures ∙ sym (sizes-judges _ _ .refused (λ h. omega arith))
 
 mul-if5 : tie.Need-mul-if5
-mul-if5 c = record { fits = lt-of-le-of-lt (within-floor (omega arith) (omega arith)) (lit< tt) }
+mul-if5 c = record { fits = lt-of-le-of-lt (cells-le _ _ (omega arith) (omega arith)) (lit< tt) }
 
 refuse-requires-5 : tie.Need-refuse-requires-5
 refuse-requires-5 c κs = search needs
