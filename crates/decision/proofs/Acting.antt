@@ -1,6 +1,6 @@
 -- A decision past its checks, put together from what its parts promise: one law for each way through it.
 -- Assumes nothing.
-use Prim.Native.Nat.{ℕ, zero, suc, _+_, _-_, _*_, _≤_, _<_}
+use Prim.Native.Nat.{ℕ, _+_, _-_, _*_, _≤_, _<_}
 use mathlib.Core.Path.{_≡_, refl, sym, ap, ap₂, _∙_, subst}
 use mathlib.Core.Bool.{Bool, true, false, _&&_}
 use mathlib.Core.List.{List, [], _++_}
@@ -26,7 +26,8 @@ use Rattle.model.proofs.Deeds.{act-arrived, act-blind, act-learns, learn-over, 
 use Rattle.lookahead.specs.declared.Ahead.{Ahead}
 use Rattle.lookahead.specs.declared.Around.{Around}
 use Rattle.lookahead.specs.declared.Around.the-variants as R
-use Rattle.lookahead.specs.Contract.{Marks, Fresh, Used, Asked, Near, Window, Looked, Aimed, Figures, movesTo}
+use Rattle.lookahead.specs.Contract.{Fresh, Used, Asked, Near, Window, Looked, Aimed, Figures, movesTo}
+use Rattle.lookahead.proofs.Fresh.{marks-zeros}
 use Rattle.decision.specs.declared.Acted.{Acted}
 use Rattle.decision.specs.Ready.{Places, Ready, Acts, Decides}
 use Rattle.decision.specs.Inner.{Open, Extended, Lays, wayBack, refusing, learns, Leaves}
@@ -110,23 +111,12 @@ module _ (j : Job) (bytes : List ℕ) (s base : ℕ) (mark cost list : List ℕ)
 pub used-at : {b base : ℕ} {mark cost list : List ℕ} → b ≡ base → Used base mark cost list → Used b mark cost list
 used-at {mark = mark} {cost = cost} {list = list} e u = subst (λ b. Used b mark cost list) (sym e) u
 
-pub window-used : {j : Job} {bytes : List ℕ} {s base last n : ℕ} {mark cost list : List ℕ} (b : ℕ) → b ≡ base → Window j bytes s base mark cost list n last → Used b mark cost list
-window-used b e h = used-at e (record { marks = h .view .spent; costs = h .view .size; cells = h .room })
-
-pub renewed : {base next : ℕ} {mark mark′ cost list : List ℕ} → Used base mark cost list → Marks next mark′ → Fresh next mark′ cost list
-renewed u m = record { marks = m; costs = u .costs; cells = u .cells }
-
-zero-at : (n x : ℕ) → _≡_ {A = ℕ} (getD (replicate n 0) x 0) 0
-zero-at zero x = refl
-zero-at (suc n) zero = refl
-zero-at (suc n) (suc x) = zero-at n x
+-- n is a variable so that the lists are not written out
+zeros-fresh : (n : ℕ) → n ≡ 4096 → Fresh 1 (replicate n 0) (replicate n 0) (replicate n 0)
+zeros-fresh n e = record { marks = marks-zeros n e; costs = length-replicate {A = ℕ} n 0 ∙ e; cells = length-replicate {A = ℕ} n 0 ∙ e }
 
 pub fresh-zeros : Fresh 1 (replicate 4096 0) (replicate 4096 0) (replicate 4096 0)
-fresh-zeros = record {
-  marks = record { size = length-replicate {A = ℕ} 4096 0; room = omega arith; below = λ x. omega (arith, zero-at 4096 x) };
-  costs = length-replicate {A = ℕ} 4096 0;
-  cells = length-replicate {A = ℕ} 4096 0;
-}
+fresh-zeros = zeros-fresh 4096 refl
 
 pub leaves-refused : {r : Acted} {s : State} {number base : ℕ} {mark cost list place path : List ℕ} → r ≡ refusing s number base → Used base mark cost list
     → Places place path (s .length) → Leaves r mark cost list place path

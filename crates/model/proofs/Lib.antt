@@ -1,34 +1,30 @@
--- Laws of the definitions, for code to cite. Cells: columns and rows. Moves: the eight moves and the price of a move.
--- Accepted: what each check says, and what it gives. Openings: what an accepted job is. Refusals: what a refusal for no way, or of a table, says.
--- Rings: the search for an empty ring. Meaning: what the definitions mean, in document 01's words.
--- Cases: a decision, test by test. Steps: a decision in a trial is one of `learning`. Judged: and its call is not refused. Rides: a trial, and a run's trials.
--- Tables: what becomes of the figures. Demand: demand 3 of the mission, sentence by sentence.
--- Looking: the goal, empty rings, and the moves along a route. Accepted: what each check says and gives.
--- Held: the decision's own checks. Deeds: a decision past them, case by case.
+-- Laws of the definitions, by what they are of, and the theorems that rest on them.
+-- Columns and rows; the eight moves and the price of a move; parts of a list as code takes them.
 pub mod Cells
 pub mod Moves
+pub mod Parts
+-- What each check says and gives; the path that a decision is handed; an accepted job; 6 and 7 by walks.
 pub mod Accepted
+pub mod Held
 pub mod Openings
 pub mod Refusals
+pub mod Soundness
+pub mod Figures
+pub mod OpeningSound
+-- The lookahead: empty rings, the goal and moves along a route; what the definitions mean, in document 01's words.
 pub mod Rings
+pub mod Looking
 pub mod Meaning
+-- A decision test by test, and as code makes it; in a trial it is one of `learning` and is never refused; trials and runs; the figures.
 pub mod Cases
+pub mod Deeds
 pub mod Steps
 pub mod Judged
 pub mod Rides
 pub mod Tables
+-- Demand 3 of the mission, sentence by sentence.
 pub mod Demand
--- Looking: the goal, empty rings, and the moves along a route.
-pub mod Looking
--- Accepted: what each check says, and what it gives. Soundness: 6 and 7 by walks. OpeningSound: opening figures pass neither 5 nor 7.
-pub mod Soundness
-pub mod OpeningSound
--- Accepted: what each check says, and what it gives. Figures: the opening figure is within the ceiling.
--- Parts: parts of a list as code takes them. Files: the table file, check by check and step by step.
-pub mod Figures
-pub mod Parts
+-- The table file: its checks and its records; the round trip of demand 2.
 pub mod Files
 pub mod Records
 pub mod RoundTrip
-pub mod Held
-pub mod Deeds

@@ -1,7 +1,8 @@
 -- `decision::act` meets its contract: arrived, or what `go` promises with the marks renewed for the next lookahead.
 -- Assumes nothing.
 use borrow.Author.Needs.{needs}
-use Rattle.decision.proofs.Acting.{asked, renewed, act-here, acts-as, acts-arrived, acts-renewed}
+use Rattle.lookahead.proofs.Fresh.{renewed}
+use Rattle.decision.proofs.Acting.{asked, act-here, acts-as, acts-arrived, acts-renewed}
 use Rattle.decision.proofs.act.Statement.{statement}
 use Rattle.decision.proofs.act.Tie as tie
 

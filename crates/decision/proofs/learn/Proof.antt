@@ -1,12 +1,13 @@
 -- `decision::learn` meets its contract: one law of the model for each way by the ceiling and the quota, with what the called function promises.
 -- Assumes nothing.
 use Prim.Native.Nat.{_-_}
-use mathlib.Core.Path.{refl, sym, ap, _∙_}
+use mathlib.Core.Path.{sym, ap, _∙_}
 use native.Mathlib.Nat.{lt-of-le-of-lt}
 use native.Mathlib.Omega.{arith}
 use borrow.Author.Needs.{needs}
 use lib.Dec.{lit<}
-use Rattle.decision.proofs.Acting.{current-in, table-short, quota-low, weighed, window-used, leaves-refused, acts-as, acts-refused, learns-over, learns-forward, learns-back}
+use Rattle.lookahead.proofs.Fresh.{window-used}
+use Rattle.decision.proofs.Acting.{current-in, table-short, quota-low, weighed, used-at, leaves-refused, acts-as, acts-refused, learns-over, learns-forward, learns-back}
 use Rattle.decision.proofs.Noting.{places-down}
 use Rattle.decision.proofs.learn.Statement.{statement}
 use Rattle.decision.proofs.learn.Tie as tie
@@ -45,7 +46,7 @@ returns : tie.Need-returns
 returns c =
     let q = c .refuse .ensures in (
       acts-as _ _ (learns-over _ _ _ _ _ _ (c .before .before .before .before .before .aim .ensures) _ (c .before .before .before .wide32 .ensures .0) (sym (c .before .before .too-high .ensures) ∙ c .before .if1 .taken)) (acts-refused _ _ _ _ q),
-      leaves-refused q (window-used _ refl (c .before .before .before .before .before .before .before .before .before .before .before .before .before .before .before .before .before .before .pre .1 .1 .0)) (c .before .before .before .before .before .before .before .before .before .before .before .before .before .before .before .before .before .before .pre .1 .1 .1),
+      leaves-refused q (window-used (c .before .before .before .before .before .before .before .before .before .before .before .before .before .before .before .before .before .before .pre .1 .1 .0)) (c .before .before .before .before .before .before .before .before .before .before .before .before .before .before .before .before .before .before .pre .1 .1 .1),
     )
 
 rise-of-requires : tie.Need-rise-of-requires
@@ -84,11 +85,11 @@ same-length-11 c = search needs
 returns-2 : tie.Need-returns-2
 returns-2 c = (
   acts-as _ _ (learns-forward _ _ _ _ _ _ (c .before .before .before .before .before .before .before .before .before .before .before .before .before .before .before .before .before .before .before .before .before .before .before .aim .ensures) _ (c .before .before .before .before .before .before .before .before .before .before .before .before .before .before .before .before .before .before .before .before .before .wide32 .ensures .0) (sym (c .before .before .before .before .before .before .before .before .before .before .before .before .before .before .before .before .before .before .before .before .too-high .ensures) ∙ c .before .before .before .before .before .before .before .before .before .before .before .before .before .before .before .before .before .before .before .if1 .left) _ (c .before .before .before .before .before .before .before .before .before .before .before .before .before .before .before .before .before .before .rise-of .ensures ∙ ap (λ x. c .before .before .before .before .before .before .before .before .before .before .before .before .before .before .before .before .before .before .before .before .before .before .before .aim .result .figure - x) (c .before .before .before .before .before .before .before .before .before .before .before .before .before .before .before .before .before .before .before .before .before .wide32 .ensures .0)) (c .before .before .before .before .before .before .before .before .before .before .before .before .before .before .before .if2 .taken)) (c .before .before .before .before .before .before .before .before .forward .ensures .0),
-  record { used = window-used _ (c .before .before .before .before .before .before .before .before .forward .ensures .1 .0) (c .before .before .before .before .before .before .before .before .before .before .before .before .before .before .before .before .before .before .before .before .before .before .before .before .before .before .before .before .before .before .before .before .before .before .before .before .pre .1 .1 .0); places = c .before .before .before .before .before .before .before .before .forward .ensures .1 .1 },
+  record { used = used-at (c .before .before .before .before .before .before .before .before .forward .ensures .1 .0) (window-used (c .before .before .before .before .before .before .before .before .before .before .before .before .before .before .before .before .before .before .before .before .before .before .before .before .before .before .before .before .before .before .before .before .before .before .before .before .pre .1 .1 .0)); places = c .before .before .before .before .before .before .before .before .forward .ensures .1 .1 },
 )
 
 go-back-requires : tie.Need-go-back-requires
-go-back-requires c κs = (c .before .before .before .before .before .before .before .before .before .before .before .before .before .before .before .before .before .before .before .before .before .before .before .before .before .before .before .pre .0, (window-used _ refl (c .before .before .before .before .before .before .before .before .before .before .before .before .before .before .before .before .before .before .before .before .before .before .before .before .before .before .before .pre .1 .1 .0), (c .before .before .before .before .before .before .before .before .before .before .before .before .before .before .aim .ensures .high, (c .before .before .before .before .before .before .before .before .before .rise-of .ensures ∙ ap (λ x. c .before .before .before .before .before .before .before .before .before .before .before .before .before .before .aim .result .figure - x) (c .before .before .before .before .before .before .before .before .before .before .before .before .wide32 .ensures .0)))))
+go-back-requires c κs = (c .before .before .before .before .before .before .before .before .before .before .before .before .before .before .before .before .before .before .before .before .before .before .before .before .before .before .before .pre .0, (window-used (c .before .before .before .before .before .before .before .before .before .before .before .before .before .before .before .before .before .before .before .before .before .before .before .before .before .before .before .pre .1 .1 .0), (c .before .before .before .before .before .before .before .before .before .before .before .before .before .before .aim .ensures .high, (c .before .before .before .before .before .before .before .before .before .rise-of .ensures ∙ ap (λ x. c .before .before .before .before .before .before .before .before .before .before .before .before .before .before .aim .result .figure - x) (c .before .before .before .before .before .before .before .before .before .before .before .before .wide32 .ensures .0)))))
 
 same-length-12 : tie.Need-same-length-12
 same-length-12 c = search needs

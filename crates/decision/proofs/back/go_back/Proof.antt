@@ -3,8 +3,9 @@
 use mathlib.Core.Path.{refl, ap, _∙_}
 use native.Mathlib.Omega.{arith}
 use borrow.Author.Needs.{needs}
+use Rattle.lookahead.proofs.Fresh.{window-used, renewed}
 use Rattle.decision.specs.declared.Acted.{Acted}
-use Rattle.decision.proofs.Acting.{current-in, table-short, asked-last, renewed, looked-window, looked-empty, window-used, used-at, lost, acts-stays, acts-lost}
+use Rattle.decision.proofs.Acting.{current-in, table-short, asked-last, looked-window, looked-empty, used-at, lost, acts-stays, acts-lost}
 use Rattle.decision.proofs.back.go_back.Statement.{statement}
 use Rattle.decision.proofs.back.go_back.Tie as tie
 
@@ -69,7 +70,7 @@ same-length-6 c = search needs
 returns-2 : tie.Need-returns-2
 returns-2 c =
     let v = looked-window _ _ _ _ _ _ _ (c .before .before .before .before .before .before .before .before .before .before .before .before .before .before .before .before .before .before .look .ensures) (c .before .before .before .before .before .before .before .before .before .before .last .given .1) in
-    (c .before .before .before .before .back-to .ensures .0 _ (c .before .before .before .before .before .before .before .before .before .before .before .before .before .before .before .before .before .before .before .before .before .before .before .before .before .before .wide16 .ensures .0), (window-used _ (c .before .before .before .before .back-to .ensures .1 .0) v, c .before .before .before .before .back-to .ensures .1 .1))
+    (c .before .before .before .before .back-to .ensures .0 _ (c .before .before .before .before .before .before .before .before .before .before .before .before .before .before .before .before .before .before .before .before .before .before .before .before .before .before .wide16 .ensures .0), (used-at (c .before .before .before .before .back-to .ensures .1 .0) (window-used v), c .before .before .before .before .back-to .ensures .1 .1))
 
 same-length-7 : tie.Need-same-length-7
 same-length-7 c = search needs
