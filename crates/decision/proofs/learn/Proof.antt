@@ -113,8 +113,10 @@ returns-2 c =
     let at-too-high = at-if1 .before in
     let at-wide32 = at-too-high .before in
     let at-aim = at-wide32 .before .before in
-    let start = at-aim .before .before .before .before .before .before .before .before .before .before .before .before .before in (
-      acts-as _ _ (learns-forward _ _ _ _ _ _ (at-aim .aim .ensures) _ (at-wide32 .wide32 .ensures .0) (sym (at-too-high .too-high .ensures) ∙ at-if1 .if1 .left) _ (at-rise-of .rise-of .ensures ∙ ap (λ x. at-aim .aim .result .figure - x) (at-wide32 .wide32 .ensures .0)) (at-if2 .if2 .taken)) (at-forward .forward .ensures .0),
+    let start = at-aim .before .before .before .before .before .before .before .before .before .before .before .before .before in
+    let low = sym (at-too-high .too-high .ensures) ∙ at-if1 .if1 .left in
+    let risen = at-rise-of .rise-of .ensures ∙ ap (λ x. at-aim .aim .result .figure - x) (at-wide32 .wide32 .ensures .0) in (
+      acts-as _ _ (learns-forward _ _ _ _ _ _ (at-aim .aim .ensures) _ (at-wide32 .wide32 .ensures .0) low _ risen (at-if2 .if2 .taken)) (at-forward .forward .ensures .0),
       record { used = used-at (at-forward .forward .ensures .1 .0) (window-used (start .pre .1 .1 .0)); places = at-forward .forward .ensures .1 .1 },
     )
 
@@ -153,8 +155,10 @@ returns-3 c =
     let at-too-high = at-if1 .before in
     let at-wide32 = at-too-high .before in
     let at-aim = at-wide32 .before .before in
-    let start = at-aim .before .before .before .before .before .before .before .before .before .before .before .before .before in (
-      acts-as _ _ (learns-back _ _ _ _ _ _ (at-aim .aim .ensures) _ (at-wide32 .wide32 .ensures .0) (sym (at-too-high .too-high .ensures) ∙ at-if1 .if1 .left) _ (at-rise-of .rise-of .ensures ∙ ap (λ x. at-aim .aim .result .figure - x) (at-wide32 .wide32 .ensures .0)) (at-if2 .if2 .left)) (at-go-back .go-back .ensures .0),
+    let start = at-aim .before .before .before .before .before .before .before .before .before .before .before .before .before in
+    let low = sym (at-too-high .too-high .ensures) ∙ at-if1 .if1 .left in
+    let risen = at-rise-of .rise-of .ensures ∙ ap (λ x. at-aim .aim .result .figure - x) (at-wide32 .wide32 .ensures .0) in (
+      acts-as _ _ (learns-back _ _ _ _ _ _ (at-aim .aim .ensures) _ (at-wide32 .wide32 .ensures .0) low _ risen (at-if2 .if2 .left)) (at-go-back .go-back .ensures .0),
       record { used = at-go-back .go-back .ensures .1 .0; places = places-down _ (at-go-back .go-back .ensures .1 .1) (start .pre .1 .1 .1) },
     )
 

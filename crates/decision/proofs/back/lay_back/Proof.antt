@@ -3,9 +3,7 @@
 use Prim.Native.Nat.{_+_, _-_}
 use native.Mathlib.Omega.{arith}
 use borrow.Author.Needs.{needs}
-use lib.ListN.{drop, length-drop}
-use lib.Seq.{length-take-le}
-use Rattle.decision.proofs.Laying.{traced-moves, lays-back}
+use Rattle.decision.proofs.Laying.{part-long, traced-moves, lays-back}
 use Rattle.decision.proofs.back.lay_back.Statement.{statement}
 use Rattle.decision.proofs.back.lay_back.Tie as tie
 
@@ -36,7 +34,7 @@ turn-requires : tie.Need-turn-requires
 turn-requires c κs =
     let at-trace = c .before .before .before in
     let start = at-trace .before .before .before .before .before .before in
-    ((omega (arith, at-trace .trace .ensures .few), omega (arith, at-trace .trace .ensures .few, length-take-le (start .args .from + 288 - start .args .from) (drop (start .args .from) (start .args .moves .now)) (omega (arith, length-drop (start .args .from) (start .args .moves .now))))), traced-moves (at-trace .trace .ensures))
+    ((omega (arith, at-trace .trace .ensures .few), omega (arith, at-trace .trace .ensures .few, part-long (start .args .moves .now) (start .args .from) (start .pre .1 .1 .1))), traced-moves (at-trace .trace .ensures))
 
 same-length : tie.Need-same-length
 same-length c = search needs

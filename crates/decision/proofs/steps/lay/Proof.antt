@@ -3,9 +3,7 @@
 use Prim.Native.Nat.{_+_, _-_}
 use native.Mathlib.Omega.{arith}
 use borrow.Author.Needs.{needs}
-use lib.ListN.{drop, length-drop}
-use lib.Seq.{length-take-le}
-use Rattle.decision.proofs.Laying.{lays}
+use Rattle.decision.proofs.Laying.{part-long, lays}
 use Rattle.decision.proofs.steps.lay.Statement.{statement}
 use Rattle.decision.proofs.steps.lay.Tie as tie
 
@@ -24,7 +22,7 @@ part-trace-end c = search needs
 trace-requires : tie.Need-trace-requires
 trace-requires c κs =
     let start = c .before .before .before .before .before in
-    (start .pre .0, (start .pre .1 .0, (start .pre .1 .1 .0, omega (arith, length-take-le (start .args .from + 288 - start .args .from) (drop (start .args .from) (start .args .moves .now)) (omega (arith, length-drop (start .args .from) (start .args .moves .now)))))))
+    (start .pre .0, (start .pre .1 .0, (start .pre .1 .1 .0, omega (arith, part-long (start .args .moves .now) (start .args .from) (start .pre .1 .1 .1)))))
 
 same-length : tie.Need-same-length
 same-length c = search needs
