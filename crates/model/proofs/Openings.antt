@@ -1,0 +1,169 @@
+-- What an accepted job is: a lawful job of `learning`, with a sound table and a start that can reach the goal.
+-- The checks 1 to 7 give just this, and whatever is this passes them: so acceptance can be carried from trial to trial.
+use Prim.Native.Nat.{ℕ, _≤_, _<_}
+use mathlib.Core.Path.{_≡_, refl, sym, ap, subst, _∙_}
+use mathlib.Core.Bool.{Bool, true, false, _&&_}
+use mathlib.Core.List.{List}
+use native.Mathlib.Omega.{arith}
+use borrow.Author.Tests.{ltb-false, le-ltb}
+use lib.Dec.{T, ltb}
+use lib.ListN.{length, getD}
+use Rattle.learning.specs.Trial.{Lawful, CanReach, Sound}
+use Rattle.learning.specs.Ground.{reachOf, distOf}
+use Rattle.learning.proofs.Ground.{lawful, on-floor, reach-of, reach-true}
+use Rattle.answers.specs.declared.Job.{Job}
+use Rattle.answers.specs.declared.Verdict.{Verdict}
+use Rattle.answers.specs.declared.Verdict.the-variants as Vd
+use Rattle.model.specs.Basics.{unless}
+use Rattle.model.specs.Floor.{Floor, size, Sized, free}
+use Rattle.model.specs.Checks.{ceiling, floorOf, goals, groundIn, sizes, pathRoom, settings, places, figures}
+use Rattle.model.specs.Opening.{distances, reaches, trueFigure, soundness, accepts, openJob, openTrial, reportsRoom, trialsHold, openRun}
+use Rattle.model.specs.Ride.{learningJob}
+use Rattle.model.proofs.Accepted.{then-next, then-done, Settings, sizes-judges, path-judges, reports-judges, settings-judges, trials-judges, places-judges, NoneBelow, naming-done, naming-none, figures-accepted}
+
+-- ---- whether a cell can reach the goal, as the opening computes it
+
+T-true : (b : Bool) → T b → b ≡ true
+T-true true t = refl
+T-true false t = absurd t
+
+module _ (j : Job) (bytes : List ℕ) where
+  pub reaches-of : (x : ℕ) → CanReach (learningJob j bytes) x → reaches j bytes (distances j bytes) x ≡ true
+  unfolding reachOf
+  reaches-of x r = T-true _ (reach-of (groundIn j bytes) x r)
+
+  pub reaches-means : (x : ℕ) → reaches j bytes (distances j bytes) x ≡ true → CanReach (learningJob j bytes) x
+  unfolding reachOf
+  reaches-means x e = reach-true (groundIn j bytes) x (subst T (sym e) tt)
+
+-- ---- what acceptance gives
+
+-- of the job and its floor
+pub record Held (j : Job) (bytes : List ℕ) : Type 0 where
+  pub sized : Sized (floorOf j bytes)
+  pub settings : Settings j
+  pub bench : free (floorOf j bytes) (j .goal) ≡ true
+  pub lawful : Lawful (learningJob j bytes)
+
+-- and of the start and the table
+pub record Opened (j : Job) (bytes : List ℕ) (start : ℕ) (table : List ℕ) : Type 0 where
+  pub held : Held j bytes
+  pub long : length table ≡ size (floorOf j bytes)
+  pub free-start : free (floorOf j bytes) start ≡ true
+  pub fits : (x : ℕ) → x < size (floorOf j bytes) → getD table x 0 ≤ ceiling
+  pub sound : Sound (learningJob j bytes) table
+  pub reach : CanReach (learningJob j bytes) start
+
+-- and a path list that is long enough
+pub record Ready (j : Job) (bytes : List ℕ) (start : ℕ) (table path : List ℕ) : Type 0 where
+  pub opened : Opened j bytes start table
+  pub room : size (floorOf j bytes) ≤ length path
+
+-- and a run's trials and reports
+pub record ReadyRun (j : Job) (bytes : List ℕ) (start : ℕ) (table path : List ℕ) (trials records : ℕ) : Type 0 where
+  pub ready : Ready j bytes start table path
+  pub some : 1 ≤ trials
+  pub few : trials ≤ 1000
+  pub reports : trials ≤ records
+
+passed : (b : Bool) (number : ℕ) → unless b number ≡ Vd.Done → b ≡ true
+passed true number e = refl
+passed false number e = let z : _≡_ {A = ℕ} 0 1 = cc in absurd (omega arith)
+
+second-false : (a b : Bool) → a ≡ true → (a && b) ≡ false → b ≡ false
+second-false a b e f = rw e at f
+
+not-both : (a b : Bool) → (a ≡ true → b ≡ false) → (a && b) ≡ false
+not-both true b h = h refl
+not-both false b h = refl
+
+module _ (j : Job) (bytes : List ℕ) (start : ℕ) (table : List ℕ) where
+  -- the fault that 7 names
+  abbrev above : ℕ → Bool
+  above x = reaches j bytes (distances j bytes) x && ltb (trueFigure j bytes (distances j bytes) x) (getD table x 0)
+
+  below : Sound (learningJob j bytes) table → (x : ℕ) → above x ≡ false
+  unfolding distOf
+  below S x = not-both _ _ (λ e. le-ltb _ _ (S .low x (reaches-means j bytes x e)))
+
+  from-accepts : Sized (floorOf j bytes) → length table ≡ size (floorOf j bytes) → Settings j → accepts j bytes start table ≡ Vd.Done → Opened j bytes start table
+  unfolding accepts soundness distOf
+  from-accepts z l s e =
+      let f = floorOf j bytes in
+      let (p, rest) = then-done (places f start (goals j)) _ e in
+      let (g, judged) = then-done (figures f table) _ rest in
+      let (way, low) = then-done (unless (reaches j bytes (distances j bytes) start) 6) _ judged in
+      let free-both = places-judges f start (j .goal) .gives p in
+      record {
+        held = record {
+          sized = z;
+          settings = s;
+          bench = free-both .1;
+          lawful = lawful (groundIn j bytes) (j .depth) (j .p) (j .q) (j .quota) (s .deep) (s .light) (s .weight);
+        };
+        long = l;
+        free-start = free-both .0;
+        fits = figures-accepted f table g;
+        sound = record { size = l; low = λ x r. ltb-false _ _ (second-false _ _ (reaches-of j bytes x r) (naming-none (size f) above 7 low x (on-floor (groundIn j bytes) x r))) };
+        reach = reaches-means j bytes start (passed _ 6 way);
+      }
+
+  to-accepts : Opened j bytes start table → accepts j bytes start table ≡ Vd.Done
+  unfolding accepts soundness figures
+  to-accepts o =
+      let f = floorOf j bytes in
+      then-next _ (places-judges f start (j .goal) .done (o .free-start, o .held .bench))
+      ∙ then-next _ (naming-done (size f) (λ x. ltb ceiling (getD table x 0)) 5 (λ x h. le-ltb ceiling (getD table x 0) (o .fits x h)))
+      ∙ then-next _ (ap (λ b. unless b 6) (reaches-of j bytes start (o .reach)))
+      ∙ naming-done (size f) above 7 (λ x h. below (o .sound) x)
+
+  pub opened : openJob j bytes start table ≡ Vd.Done → Opened j bytes start table
+  unfolding openJob
+  opened e =
+      let (z, rest) = then-done (sizes (floorOf j bytes) (length table)) _ e in
+      let (s, a) = then-done (settings j) _ rest in
+      let h = sizes-judges (floorOf j bytes) (length table) .gives z in
+      from-accepts (h .0) (h .1) (settings-judges j .gives s) a
+
+  pub accepted : Opened j bytes start table → openJob j bytes start table ≡ Vd.Done
+  unfolding openJob
+  accepted o =
+      then-next _ (sizes-judges (floorOf j bytes) (length table) .done (o .held .sized, o .long))
+      ∙ then-next _ (settings-judges j .done (o .held .settings)) ∙ to-accepts o
+
+  module _ (path : List ℕ) where
+    pub ready : openTrial j bytes start table path ≡ Vd.Done → Ready j bytes start table path
+    unfolding openTrial
+    ready e =
+        let f = floorOf j bytes in
+        let (z, rest) = then-done (sizes f (length table)) _ e in
+        let (r, more) = then-done (pathRoom f (length path)) _ rest in
+        let (s, a) = then-done (settings j) _ more in
+        let h = sizes-judges f (length table) .gives z in
+        record { opened = from-accepts (h .0) (h .1) (settings-judges j .gives s) a; room = path-judges f (length path) .gives r }
+
+    pub accepted-trial : Ready j bytes start table path → openTrial j bytes start table path ≡ Vd.Done
+    unfolding openTrial
+    accepted-trial o =
+        let f = floorOf j bytes in
+        then-next _ (sizes-judges f (length table) .done (o .opened .held .sized, o .opened .long))
+        ∙ then-next _ (path-judges f (length path) .done (o .room))
+        ∙ then-next _ (settings-judges j .done (o .opened .held .settings)) ∙ to-accepts (o .opened)
+
+    pub ready-run : (trials records : ℕ) → openRun j bytes start table path trials records ≡ Vd.Done → ReadyRun j bytes start table path trials records
+    unfolding openRun
+    ready-run trials records e =
+        let f = floorOf j bytes in
+        let (z, rest) = then-done (sizes f (length table)) _ e in
+        let (r, more) = then-done (pathRoom f (length path)) _ rest in
+        let (q, yet) = then-done (reportsRoom trials records) _ more in
+        let (s, last) = then-done (settings j) _ yet in
+        let (t, a) = then-done (trialsHold trials) _ last in
+        let h = sizes-judges f (length table) .gives z in
+        let n = trials-judges trials .gives t in
+        record {
+          ready = record { opened = from-accepts (h .0) (h .1) (settings-judges j .gives s) a; room = path-judges f (length path) .gives r };
+          some = n .0;
+          few = n .1;
+          reports = reports-judges trials records .gives q;
+        }
