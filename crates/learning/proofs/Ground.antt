@@ -73,7 +73,7 @@ module _ (G : Ground) where
     near-row : (x : ℕ) → ℕ
     near-row x = getD (spread (unitOf G) everywhere (λ y. eqb y s)) x (far (unitOf G))
 
-    ring-low : (x c n : ℕ) → Walk (netOf G) Any s x c n → ringOf G d s x ≤ n
+    pub ring-low : (x c n : ℕ) → Walk (netOf G) Any s x c n → ringOf G d s x ≤ n
     unfolding ringOf viewOf near-row
     ring-low x c n w =
         let a : ArrivesIn (netOf (unitOf G)) Any (λ y. T (eqb y s)) x n = (s, eqb-refl s, (n, to-unit G (turn w))) in

@@ -31,7 +31,7 @@ most-met (suc n) f = go (most-met n f) (decLe (most (suc n) f) (f (suc n)))
 pub eqb-of : (a b : ℕ) → a ≡ b → T (eqb a b)
 eqb-of a b e = subst (λ c. T (eqb a c)) e (eqb-refl a)
 
-lowest-low : (n : ℕ) (test : ℕ → Bool) (x : ℕ) → x < n → T (test x) → lowest n test ≤ x
+pub lowest-low : (n : ℕ) (test : ℕ → Bool) (x : ℕ) → x < n → T (test x) → lowest n test ≤ x
 lowest-low n test x h t = omega (arith, over-low n n (λ y. pick (test y) y n) x h, pick-true (test x) x n t)
 
 pub lowest-met : (n : ℕ) (test : ℕ → Bool) (x : ℕ) → x < n → T (test x) → T (test (lowest n test))

@@ -1,21 +1,21 @@
 -- The route is a walk in the window from the cell to the target, at the target's cost.
 use Prim.Native.Nat.{ℕ, zero, suc, _+_, _*_, _≤_, _<_}
-use mathlib.Core.Path.{_≡_, refl, sym, subst}
+use mathlib.Core.Path.{_≡_, refl, sym, ap, subst}
 use mathlib.Core.Bool.{Bool, true, false, _&&_}
 use mathlib.Core.Logic.{_≢_}
 use mathlib.Core.List.{List, [], _∷_, _++_}
 use native.Mathlib.Nat.{le-trans, mul-le-mul-left}
 use native.Mathlib.Omega.{arith}
-use lib.Dec.{T, eqb, leb, eqb→eq, leb→le, le→leb}
+use lib.Dec.{T, eqb, leb, eqb→eq, eqb-refl, leb→le, le→leb}
 use lib.ListN.{length}
-use Rattle.learning.specs.Walk.{Network, Walk, stop, move}
+use Rattle.learning.specs.Walk.{Network, Walk, stop, move, Least}
 use Rattle.learning.specs.Ahead.{Window}
 use Rattle.learning.specs.Ground.{Ground, Goal, netOf, viewOf, ringOf, lastOf, legOf}
 use Rattle.learning.specs.Route.{Chain, ended, step, priorIn, routeFrom, routeIn, routeOf}
 use Rattle.learning.proofs.Sound.{ring-self}
 use Rattle.learning.proofs.Spread.{both-true, first-true, second-true}
 use Rattle.learning.proofs.Ground.{window}
-use Rattle.learning.proofs.Look.{lowest-met, eqb-of}
+use Rattle.learning.proofs.Look.{lowest-low, lowest-met, eqb-of}
 use Rattle.learning.proofs.Route.{Before, some-before, leg-moves}
 
 -- a chain is a walk of as many moves as it has cells
@@ -69,6 +69,19 @@ module _ (G : Ground) (d s : ℕ) (deep : 1 ≤ d) (floor : s < G .cells) (g : �
         exact = eqb→eq (legOf G d s b + G .price b x) (legOf G d s x) (second-true (priced x b) (exact x b) u);
       }
 
+  -- it is the lowest from which one move gives exactly the cost of x
+  pub prior-least : (x : ℕ) → ringOf G d s x ≤ lastOf G d s → x ≢ s
+      → Least (λ b. (ringOf G d s b ≤ lastOf G d s) × (1 ≤ G .price b x) × (legOf G d s b + G .price b x ≡ legOf G d s x)) (priorIn G d s (viewOf G d s) x)
+  unfolding prior prior-before priorIn ringOf lastOf legOf
+  prior-least x h o =
+      let y = prior-before x h o in
+      record {
+        met = (y .near, y .edge .0, y .exact);
+        low = λ b (n, c, e). lowest-low (G .cells) (λ v. near v && (priced x v && exact x v)) b (G .inside b x c)
+            (both-true (near b) (priced x b && exact x b) (le→leb (ringOf G d s b) (lastOf G d s) n)
+            (both-true (priced x b) (exact x b) (le→leb 1 (G .price b x) c) (eqb-of (legOf G d s b + G .price b x) (legOf G d s x) e)));
+      }
+
   self-near : ringOf G d s s ≤ lastOf G d s
   self-near = omega (arith, ring-self W)
 
@@ -92,6 +105,35 @@ module _ (G : Ground) (d s : ℕ) (deep : 1 ≤ d) (floor : s < G .cells) (g : �
   pub route-chain : (x : ℕ) → ringOf G d s x ≤ lastOf G d s → Chain (netOf G) (λ y. ringOf G d s y ≤ lastOf G d s) s (routeOf G d s x) x (legOf G d s x)
   unfolding routeIn legOf
   route-chain x l = from-chain (suc (legOf G d s x)) (eqb x s) x refl (omega arith) l
+
+  -- the route to s is empty; to any other cell it is the route to the cell before it, and then the cell
+  enough : (n m : ℕ) (b : Bool) (x : ℕ) → eqb x s ≡ b → legOf G d s x < n → legOf G d s x < m → ringOf G d s x ≤ lastOf G d s
+      → routeFrom G d s (viewOf G d s) n b x ≡ routeFrom G d s (viewOf G d s) m b x
+  unfolding routeFrom prior prior-before
+  enough zero m b x e h k l = absurd (omega arith)
+  enough (suc n) zero b x e h k l = absurd (omega arith)
+  enough (suc n) (suc m) true x e h k l = refl
+  enough (suc n) (suc m) false x e h k l =
+      let y = prior-before x l (λ q. subst T e (eqb-of x s q)) in
+      ap (λ xs. xs ++ x ∷ []) (enough n m (eqb (prior x) s) (prior x) refl (omega (arith, y .exact, y .edge .0)) (omega (arith, y .exact, y .edge .0)) (y .near))
+
+  pub route-self : routeOf G d s s ≡ []
+  unfolding routeIn routeFrom legOf
+  route-self = by (eqb s s) (eqb-refl s)
+    where
+      by : (b : Bool) → T b → routeFrom G d s (viewOf G d s) (suc (legOf G d s s)) b s ≡ []
+      by true t = refl
+      by false t = absurd t
+
+  pub route-back : (x : ℕ) → ringOf G d s x ≤ lastOf G d s → x ≢ s → routeOf G d s x ≡ routeOf G d s (priorIn G d s (viewOf G d s) x) ++ x ∷ []
+  unfolding routeIn routeFrom prior prior-before legOf
+  route-back x l o = by (eqb x s) refl
+    where
+      by : (b : Bool) → eqb x s ≡ b → routeFrom G d s (viewOf G d s) (suc (legOf G d s x)) b x ≡ routeOf G d s (prior x) ++ x ∷ []
+      by true e = absurd (o (eqb→eq x s (subst T (sym e) tt)))
+      by false e =
+          let y = prior-before x l o in
+          ap (λ xs. xs ++ x ∷ []) (enough (legOf G d s x) (suc (legOf G d s (prior x))) (eqb (prior x) s) (prior x) refl (omega (arith, y .exact, y .edge .0)) (omega arith) (y .near))
 
   -- its number of moves
   pub route-short : (x : ℕ) → ringOf G d s x ≤ lastOf G d s → length (routeOf G d s x) * G .least ≤ G .dearest * d

@@ -21,6 +21,7 @@ use Rattle.model.specs.Basics.{choose, between, every, then, refuseAt, u
 use Rattle.model.specs.Floor.{Floor, size, Sized, free}
 use Rattle.model.specs.Checks.{ceiling, sizes, pathRoom, settings, scale, benches, places, figures}
 use Rattle.model.specs.Opening.{reportsRoom, trialsHold}
+use Rattle.model.proofs.Moves.{both, both-of}
 
 -- ---- one check after another
 
@@ -54,21 +55,10 @@ eq-tells a b = record { holds = eqb-true a b; shown = eq-eqb a b }
 is-tells : (b : Bool) → Tells b (b ≡ true)
 is-tells b = record { holds = λ e. e; shown = λ e. e }
 
-both-first : (a b : Bool) → (a && b) ≡ true → a ≡ true
-both-first true b e = refl
-both-first false b e = e
-
-both-second : (a b : Bool) → (a && b) ≡ true → b ≡ true
-both-second true b e = e
-both-second false b e = let z : _≡_ {A = ℕ} 0 1 = cc in absurd (omega arith)
-
-both-shown : (a b : Bool) → a ≡ true → b ≡ true → (a && b) ≡ true
-both-shown a b e f = rw (e, f)
-
 and-tells : {a b : Bool} {F H : Type 0} → Tells a F → Tells b H → Tells (a && b) (F × H)
 and-tells {a} {b} s t = record {
-  holds = λ e. (s .holds (both-first a b e), t .holds (both-second a b e));
-  shown = λ h. both-shown a b (s .shown (h .0)) (t .shown (h .1));
+  holds = λ e. (s .holds (both a b e .0), t .holds (both a b e .1));
+  shown = λ h. both-of a b (s .shown (h .0)) (t .shown (h .1));
 }
 
 told : {b : Bool} {F H : Type 0} → Tells b F → (F → H) → (H → F) → Tells b H
@@ -160,7 +150,7 @@ module _ (n : ℕ) (fault : ℕ → Bool) where
   lowest-low : (x : ℕ) → x < n → fault x ≡ true → lowest n fault ≤ x
   lowest-low x h e = rw e at (over-low n n (λ y. pick (fault y) y n) x h)
 
-  lowest-met : lowest n fault < n → fault (lowest n fault) ≡ true
+  pub lowest-met : lowest n fault < n → fault (lowest n fault) ≡ true
   lowest-met h = let (i, l, e) = over-met n n (λ y. pick (fault y) y n) h in by i (fault i) refl e
     where
       by : (i : ℕ) (b : Bool) → fault i ≡ b → lowest n fault ≡ pick (fault i) i n → fault (lowest n fault) ≡ true

@@ -1,2 +1,18 @@
+-- Laws of the definitions, for code to cite. Cells: columns and rows. Moves: the eight moves and the price of a move.
+-- Accepted: what each check says, and what it gives. Openings: what an accepted job is. Refusals: what a refusal for no way, or of a table, says.
+-- Rings: the search for an empty ring. Meaning: what the definitions mean, in document 01's words.
+-- Cases: a decision, test by test. Steps: a decision in a trial is one of `learning`. Judged: and its call is not refused. Rides: a trial, and a run's trials.
+-- Tables: what becomes of the figures. Demand: demand 3 of the mission, sentence by sentence.
+pub mod Cells
+pub mod Moves
 pub mod Accepted
 pub mod Openings
+pub mod Refusals
+pub mod Rings
+pub mod Meaning
+pub mod Cases
+pub mod Steps
+pub mod Judged
+pub mod Rides
+pub mod Tables
+pub mod Demand

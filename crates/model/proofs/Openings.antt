@@ -12,25 +12,21 @@ use Rattle.learning.specs.Trial.{Lawful, CanReach, Sound}
 use Rattle.learning.specs.Ground.{reachOf, distOf}
 use Rattle.learning.proofs.Ground.{lawful, on-floor, reach-of, reach-true}
 use Rattle.answers.specs.declared.Job.{Job}
-use Rattle.answers.specs.declared.Verdict.{Verdict}
 use Rattle.answers.specs.declared.Verdict.the-variants as Vd
 use Rattle.model.specs.Basics.{unless}
-use Rattle.model.specs.Floor.{Floor, size, Sized, free}
+use Rattle.model.specs.Floor.{size, Sized, free}
 use Rattle.model.specs.Checks.{ceiling, floorOf, goals, groundIn, sizes, pathRoom, settings, places, figures}
 use Rattle.model.specs.Opening.{distances, reaches, trueFigure, soundness, accepts, openJob, openTrial, reportsRoom, trialsHold, openRun}
 use Rattle.model.specs.Ride.{learningJob}
-use Rattle.model.proofs.Accepted.{then-next, then-done, Settings, sizes-judges, path-judges, reports-judges, settings-judges, trials-judges, places-judges, NoneBelow, naming-done, naming-none, figures-accepted}
+use Rattle.model.proofs.Moves.{is-true}
+use Rattle.model.proofs.Accepted.{then-next, then-done, Settings, sizes-judges, path-judges, reports-judges, settings-judges, trials-judges, places-judges, naming-done, naming-none, figures-accepted}
 
 -- ---- whether a cell can reach the goal, as the opening computes it
-
-T-true : (b : Bool) → T b → b ≡ true
-T-true true t = refl
-T-true false t = absurd t
 
 module _ (j : Job) (bytes : List ℕ) where
   pub reaches-of : (x : ℕ) → CanReach (learningJob j bytes) x → reaches j bytes (distances j bytes) x ≡ true
   unfolding reachOf
-  reaches-of x r = T-true _ (reach-of (groundIn j bytes) x r)
+  reaches-of x r = is-true _ (reach-of (groundIn j bytes) x r)
 
   pub reaches-means : (x : ℕ) → reaches j bytes (distances j bytes) x ≡ true → CanReach (learningJob j bytes) x
   unfolding reachOf
@@ -70,16 +66,16 @@ passed : (b : Bool) (number : ℕ) → unless b number ≡ Vd.Done → b ≡ tru
 passed true number e = refl
 passed false number e = let z : _≡_ {A = ℕ} 0 1 = cc in absurd (omega arith)
 
-second-false : (a b : Bool) → a ≡ true → (a && b) ≡ false → b ≡ false
+pub second-false : (a b : Bool) → a ≡ true → (a && b) ≡ false → b ≡ false
 second-false a b e f = rw e at f
 
-not-both : (a b : Bool) → (a ≡ true → b ≡ false) → (a && b) ≡ false
+pub not-both : (a b : Bool) → (a ≡ true → b ≡ false) → (a && b) ≡ false
 not-both true b h = h refl
 not-both false b h = refl
 
 module _ (j : Job) (bytes : List ℕ) (start : ℕ) (table : List ℕ) where
   -- the fault that 7 names
-  abbrev above : ℕ → Bool
+  abbrev pub above : ℕ → Bool
   above x = reaches j bytes (distances j bytes) x && ltb (trueFigure j bytes (distances j bytes) x) (getD table x 0)
 
   below : Sound (learningJob j bytes) table → (x : ℕ) → above x ≡ false

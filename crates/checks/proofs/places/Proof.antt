@@ -1,0 +1,26 @@
+-- `checks::places` meets its contract: the first cell is judged here, and the goal by `bench`.
+-- Assumes nothing.
+use mathlib.Core.Path.{sym, _∙_}
+use Rattle.model.proofs.Accepted.{places-judges, places-next, never}
+use borrow.Author.Needs.{needs}
+use Rattle.checks.proofs.places.Statement.{statement}
+use Rattle.checks.proofs.places.Tie as tie
+
+is-free-requires : tie.Need-is-free-requires
+is-free-requires c κs = search needs
+
+bench-requires : tie.Need-bench-requires
+bench-requires c κs = search needs
+
+returns : tie.Need-returns
+returns c = c .bench .ensures ∙ sym (places-next _ _ _ (sym (c .before .before .is-free .ensures) ∙ c .before .if1 .taken))
+
+refuse-requires : tie.Need-refuse-requires
+refuse-requires c κs = search needs
+
+returns-2 : tie.Need-returns-2
+returns-2 c = c .refuse .ensures ∙ sym (places-judges _ _ _ .refused (λ h. never (h .0) (sym (c .before .before .is-free .ensures) ∙ c .before .if1 .left)))
+
+pub places-spec : {M : Type 1} → statement M
+places-spec =
+    tie.close (tie.spec is-free-requires bench-requires returns refuse-requires returns-2)

@@ -1,0 +1,2 @@
+-- Laws of one move as code finds it.
+pub mod Steps

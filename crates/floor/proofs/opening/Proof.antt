@@ -1,0 +1,103 @@
+-- `floor::opening` meets its contract: both gaps are below 64, so the figure fits.
+-- Assumes nothing.
+use mathlib.Core.Path.{_≡_}
+use Prim.Native.Nat.{ℕ, zero, suc, _+_, _-_, _*_, _/_, _%_, _≤_, _<_, min, max}
+use native.Mathlib.Omega.{arith}
+use native.Mathlib.Nat.{mod-lt, mul-le-mul}
+use borrow.Author.Needs.{needs}
+use Rattle.model.specs.Floor.{apart, octile, opening}
+use Rattle.model.proofs.Cells.{row-lt}
+use Rattle.floor.proofs.opening.Statement.{statement}
+use Rattle.floor.proofs.opening.Tie as tie
+
+gap-lt : (n a b : ℕ) → a < n → b < n → apart a b < n
+gap-lt n a b p q = omega arith
+
+min-lt : (n a b : ℕ) → a < n → min a b < n
+min-lt n a b p = omega arith
+
+-- the gap in columns, and in rows
+dx-lt : (c : tie.After-gap2) → c .before .gap .result < 64
+dx-lt c =
+    let a = c .before .before .args in
+    rw (c .before .gap .ensures)
+    (gap-lt 64 (a .cell % a .width) (a .goal % a .width)
+    (omega (arith, mod-lt (a .cell) {m = a .width} (c .before .before .pre .0)))
+    (omega (arith, mod-lt (a .goal) {m = a .width} (c .before .before .pre .0))))
+
+dy-lt : (c : tie.After-gap2) → c .gap2 .result < 64
+dy-lt c =
+    let a = c .before .before .args in
+    let p = c .before .before .pre in
+    rw (c .gap2 .ensures)
+    (gap-lt 64 (a .cell / a .width) (a .goal / a .width)
+    (omega (arith, row-lt (a .width) (a .height) (a .cell) (p .0) (search needs)))
+    (omega (arith, row-lt (a .width) (a .height) (a .goal) (p .0) (search needs))))
+
+smaller-lt : (c : tie.After-smaller) → c .smaller .result < 64
+smaller-lt c = rw (c .smaller .ensures) (min-lt 64 (c .before .before .gap .result) (c .before .gap2 .result) (dx-lt (c .before)))
+
+gap3-lt : (c : tie.After-gap3) → c .gap3 .result < 64
+gap3-lt c =
+    rw (c .gap3 .ensures)
+    (gap-lt 64 (c .before .before .before .gap .result) (c .before .before .gap2 .result) (dx-lt (c .before .before)) (dy-lt (c .before .before)))
+
+rem-gap : tie.Need-rem-gap
+rem-gap c = search needs
+
+rem-gap-2 : tie.Need-rem-gap-2
+rem-gap-2 c = search needs
+
+gap-requires : tie.Need-gap-requires
+gap-requires c κs = search needs
+
+div-gap : tie.Need-div-gap
+div-gap c = search needs
+
+div-gap-2 : tie.Need-div-gap-2
+div-gap-2 c = search needs
+
+gap-requires-2 : tie.Need-gap-requires-2
+gap-requires-2 c κs = search needs
+
+smaller-requires : tie.Need-smaller-requires
+smaller-requires c κs = search needs
+
+mul-result : tie.Need-mul-result
+mul-result c = omega (arith, smaller-lt c)
+
+gap-requires-3 : tie.Need-gap-requires-3
+gap-requires-3 c κs = search needs
+
+mul-result-2 : tie.Need-mul-result-2
+mul-result-2 c = omega (arith, gap3-lt c)
+
+add-result : tie.Need-add-result
+add-result c = omega (arith, smaller-lt (c .before), gap3-lt c)
+
+mul-result-3 : tie.Need-mul-result-3
+mul-result-3 c =
+    let a = c .before .before .before .before .args in
+    omega (arith, mul-le-mul {n₁ = a .q} {m₁ = 14 * c .before .smaller .result + 10 * c .gap3 .result} {n₂ = 16} {m₂ = 2000} (search needs) (omega (arith, smaller-lt (c .before), gap3-lt c)))
+
+returns : tie.Need-returns
+unfolding opening octile
+returns c bytes = cc
+
+pub opening-spec : {M : Type 1} → statement M
+opening-spec =
+    tie.close
+    (tie.spec
+    rem-gap
+    rem-gap-2
+    gap-requires
+    div-gap
+    div-gap-2
+    gap-requires-2
+    smaller-requires
+    mul-result
+    gap-requires-3
+    mul-result-2
+    add-result
+    mul-result-3
+    returns)

@@ -1,0 +1,2 @@
+-- The definitions that the contracts of `floor` cite.
+pub mod Moves

@@ -1,0 +1,65 @@
+-- A decision past its checks, case by case: what each test leads to.
+-- Proofs of code and of trials go by these equations, and leave the definitions shut.
+use Prim.Native.Nat.{ℕ, _+_, _-_, _*_}
+use mathlib.Core.Path.{_≡_}
+use mathlib.Core.Bool.{true, false, _&&_}
+use mathlib.Core.List.{List}
+use lib.Dec.{ltb, leb, eqb}
+use lib.ListN.{getD}
+use Rattle.learning.specs.Ground.{View}
+use Rattle.answers.specs.declared.Job.{Job}
+use Rattle.answers.specs.declared.State.{State}
+use Rattle.answers.specs.declared.Answer.the-variants as A
+use Rattle.model.specs.Checks.{ceiling}
+use Rattle.model.specs.Lookahead.{seen, ring, emptyRing, newFigure, target}
+use Rattle.model.specs.Decision.{atGoal, unchanged, refused, rise, forward, backOut, stay, goBack, learn, act}
+
+module _ (j : Job) (bytes : List ℕ) (s : State) (table path : List ℕ) where
+  pub act-arrived : atGoal j bytes (s .current) ≡ true → act j bytes s table path ≡ unchanged s table path A.Arrived
+  unfolding act
+  act-arrived e = rw (e, act)
+
+  pub act-blind : atGoal j bytes (s .current) ≡ false → emptyRing j bytes (seen j bytes (s .current)) (seen j bytes (s .current) .last) ≡ true
+      → act j bytes s table path ≡ refused s table path 9
+  unfolding act
+  act-blind e f = rw (e, f, act)
+
+  pub act-learns : atGoal j bytes (s .current) ≡ false → emptyRing j bytes (seen j bytes (s .current)) (seen j bytes (s .current) .last) ≡ false
+      → act j bytes s table path
+      ≡ learn j bytes s (seen j bytes (s .current)) table path (newFigure j bytes (seen j bytes (s .current)) table) (target j bytes (seen j bytes (s .current)) table)
+  unfolding act
+  act-learns e f = rw (e, f, act)
+
+  module _ (v : View) (new t : ℕ) where
+    pub learn-over : (ltb (getD table (s .current) 0) new && ltb ceiling new) ≡ true → learn j bytes s v table path new t ≡ refused s table path 10
+    unfolding learn
+    learn-over e = rw (e, learn)
+
+    pub learn-forward : (ltb (getD table (s .current) 0) new && ltb ceiling new) ≡ false → leb (s .learned + rise table (s .current) new) (j .q * j .quota) ≡ true
+        → learn j bytes s v table path new t ≡ forward j bytes s v table path new t
+    unfolding learn
+    learn-forward e f = rw (e, f, learn)
+
+    pub learn-back : (ltb (getD table (s .current) 0) new && ltb ceiling new) ≡ false → leb (s .learned + rise table (s .current) new) (j .q * j .quota) ≡ false
+        → learn j bytes s v table path new t ≡ goBack j bytes s table path new
+    unfolding learn
+    learn-back e f = rw (e, f, learn)
+
+  module _ (new : ℕ) where
+    -- the cell taken off
+    abbrev pub last-cell : ℕ
+    last-cell = getD path (s .length - 1) 0
+
+    pub back-stays : eqb (s .length) 0 ≡ true → goBack j bytes s table path new ≡ stay s table path new
+    unfolding goBack
+    back-stays e = rw (e, goBack)
+
+    pub back-lost : eqb (s .length) 0 ≡ false → eqb (ring j bytes (seen j bytes last-cell) (s .current)) (seen j bytes last-cell .last) ≡ false
+        → goBack j bytes s table path new ≡ refused s table path 8
+    unfolding goBack
+    back-lost e f = rw (e, f, goBack)
+
+    pub back-goes : eqb (s .length) 0 ≡ false → eqb (ring j bytes (seen j bytes last-cell) (s .current)) (seen j bytes last-cell .last) ≡ true
+        → goBack j bytes s table path new ≡ backOut j bytes s (seen j bytes last-cell) table path new last-cell
+    unfolding goBack
+    back-goes e f = rw (e, f, goBack)

@@ -1,0 +1,161 @@
+-- What the definitions mean, in document 01's words: moves, rings, the window, w, the new figure, the target, the route, true distances, and number 9.
+-- All are what `learning` proves of any ground; here they are said of the model's own names.
+use Prim.Native.Nat.{ℕ, zero, suc, _+_, _≤_, _<_}
+use mathlib.Core.Path.{_≡_, refl, subst}
+use mathlib.Core.Logic.{_⊎_, inl, inr, _≢_}
+use mathlib.Core.Bool.{Bool, true, false, _||_}
+use mathlib.Core.List.{List, [], _∷_, _++_}
+use native.Mathlib.Nat.{le-trans}
+use native.Mathlib.Decide.{decLe}
+use native.Mathlib.Omega.{arith}
+use borrow.Author.Tests.{eqb-true, eq-eqb, lt-ltb}
+use lib.Dec.{T, ltb, eqb}
+use lib.ListN.{getD}
+use Rattle.learning.specs.Walk.{Network, Walk, Any, Least, Leads, Arrives}
+use Rattle.learning.specs.Ahead.{Window, Ahead}
+use Rattle.learning.specs.Ground.{Goal, netOf, distIn, distOf, ringOf, lastOf, legOf}
+use Rattle.learning.specs.Route.{Chain, priorIn}
+use Rattle.learning.proofs.Sound.{ring-self}
+use Rattle.learning.proofs.Ground.{window, ring-low, ring-walk}
+use Rattle.learning.proofs.Look.{answer-if}
+use Rattle.learning.proofs.Routes.{route-chain, route-self, route-back, prior-least}
+use Rattle.learning.proofs.Certificate.{dist-least}
+use Rattle.answers.specs.declared.Job.{Job}
+use Rattle.model.specs.Basics.{member}
+use Rattle.model.specs.Floor.{Floor, size, Sized, free, price, ahead, allowed}
+use Rattle.model.specs.Checks.{floorOf, groundIn}
+use Rattle.model.specs.Lookahead.{seen, ring, w, emptyRing, newFigure, target, route}
+use Rattle.model.specs.Opening.{distances, reaches}
+use Rattle.model.specs.Decision.{atGoal}
+use Rattle.model.proofs.Moves.{both, toll, price-move, price-ahead, allowed-inside, allowed-free, is-true}
+use Rattle.model.proofs.Openings.{reaches-of, reaches-means}
+use Rattle.model.proofs.Rings.{Bare, empty-some, empty-full, empty-of}
+use Rattle.model.specs.Grounds.{price-free}
+
+-- ---- "A move is allowed when the cell moved into is on the floor and free. A straight move costs 10, a diagonal one 14."
+
+-- where there is a price, one of the eight moves leads there, and the price is that move's
+pub price-means : (f : Floor) → Sized f → (x y : ℕ) → 1 ≤ price f x y → (m : ℕ) × (m < 8) × (allowed f x m ≡ true) × (ahead f x m ≡ y) × (price f x y ≡ toll m)
+price-means f z x y h =
+    let (m, l, a, e) = price-move f z x y h in
+    let here = is-true (free f x) (price-free f x y h) in
+    (m, l, a, e, subst (λ c. price f x c ≡ toll m) e (price-ahead f z x m l here (allowed-inside f z x m a) (allowed-free f z x m a)))
+
+-- ---- the goal
+
+pub goal-means : (j : Job) (bytes : List ℕ) (x : ℕ) → atGoal j bytes x ≡ true → x ≡ j .goal
+unfolding member
+goal-means j bytes x e = eqb-true x (j .goal) (one (eqb x (j .goal)) (both (ltb x (size (floorOf j bytes))) _ e .1))
+  where
+    one : (b : Bool) → (b || false) ≡ true → b ≡ true
+    one true e = refl
+    one false e = e
+
+pub goal-is : (j : Job) (bytes : List ℕ) → j .goal < size (floorOf j bytes) → atGoal j bytes (j .goal) ≡ true
+unfolding member
+goal-is j bytes h = rw (lt-ltb (j .goal) (size (floorOf j bytes)) h, eq-eqb (j .goal) (j .goal) refl)
+
+-- ---- "The true distance of a free cell is the least cost of any walk of allowed moves to the goal."
+
+-- the walks of a floor
+abbrev pub net : Job → List ℕ → Network
+net j bytes = netOf (groundIn j bytes)
+
+-- some walk leads from x to the goal at cost c
+abbrev pub Gets : Job → List ℕ → ℕ → ℕ → Type 0
+Gets j bytes x c = Arrives (net j bytes) (Goal (groundIn j bytes)) x c
+
+module _ (j : Job) (bytes : List ℕ) (x : ℕ) where
+  pub distance-means : reaches j bytes (distances j bytes) x ≡ true → Least (Gets j bytes x) (distIn (groundIn j bytes) (distances j bytes) x)
+  unfolding distOf
+  distance-means e = dist-least (groundIn j bytes) x (reaches-means j bytes x e)
+
+  pub no-distance-means : reaches j bytes (distances j bytes) x ≡ false → (c : ℕ) → ¬ Gets j bytes x c
+  no-distance-means e c g = let t = reaches-of j bytes x (c, g) in let z : _≡_ {A = ℕ} 0 1 = cc in absurd (omega arith)
+
+-- ---- the lookahead from a cell s of the floor that isn't the goal
+
+module _ (j : Job) (bytes : List ℕ) (s : ℕ) (deep : 1 ≤ j .depth) (floor : s < size (floorOf j bytes)) (aside : atGoal j bytes s ≡ false) where
+  off : ¬ Goal (groundIn j bytes) s
+  off g = subst T aside g
+
+  -- 1 and 2, all at once
+  pub window-means : Window (net j bytes) (Goal (groundIn j bytes)) (j .depth) s (seen j bytes s .last) (ring j bytes (seen j bytes s)) (w j bytes (seen j bytes s))
+  unfolding ringOf lastOf legOf
+  window-means = window (groundIn j bytes) (j .depth) s floor deep off
+
+  -- "A cell's ring is the fewest moves to it from s." Up to the depth; a cell beyond has a greater number
+  pub ring-means : (x : ℕ) → ring j bytes (seen j bytes s) x ≤ j .depth → Least (λ n. (c : ℕ) × Walk (net j bytes) Any s x c n) (ring j bytes (seen j bytes s) x)
+  unfolding ringOf
+  ring-means x h = record { met = ring-walk (groundIn j bytes) (j .depth) s floor x h; low = λ n (c, t). ring-low (groundIn j bytes) (j .depth) s floor x c n t }
+
+  pub ring-beyond : (x : ℕ) → j .depth < ring j bytes (seen j bytes s) x → (c n : ℕ) → Walk (net j bytes) Any s x c n → j .depth < n
+  unfolding ringOf
+  ring-beyond x h c n t = le-trans h (ring-low (groundIn j bytes) (j .depth) s floor x c n t)
+
+  -- "The last ring m is d, or the goal's ring if that is smaller."
+  pub last-means : Least (λ k. (k ≡ j .depth) ⊎ ((z : ℕ) × Goal (groundIn j bytes) z × (ring j bytes (seen j bytes s) z ≡ k))) (seen j bytes s .last)
+  last-means = record { met = window-means .ends; low = low }
+    where
+      low : (k : ℕ) → (k ≡ j .depth) ⊎ ((z : ℕ) × Goal (groundIn j bytes) z × (ring j bytes (seen j bytes s) z ≡ k)) → seen j bytes s .last ≤ k
+      low k (inl e) = omega (arith, window-means .depth)
+      low k (inr (z, g, e)) = omega (arith, e, window-means .goals z g)
+
+  -- "The window is all cells of ring 0 to m. w(x) is the least cost of a walk from s to x that stays in the window."
+  abbrev pub InWindow : ℕ → Type 0
+  InWindow x = ring j bytes (seen j bytes s) x ≤ seen j bytes s .last
+
+  pub w-means : (x : ℕ) → InWindow x → Least (Leads (net j bytes) InWindow s x) (w j bytes (seen j bytes s) x)
+  w-means x h = window-means .cheapest x h
+
+  -- "For each ring k from 1 to m, the ring's best is the least p × w(x) + figure(x) over its cells. The new figure is the greatest of the m bests.
+  -- The target is the cell of ring m with the least p × w + figure; ties go to the lower cell number."
+  pub ahead-means : (table : List ℕ) → emptyRing j bytes (seen j bytes s) (seen j bytes s .last) ≡ false
+      → Ahead (j .p) (seen j bytes s .last) (ring j bytes (seen j bytes s)) (w j bytes (seen j bytes s)) (λ x. getD table x 0) (newFigure j bytes (seen j bytes s) table) (target j bytes (seen j bytes s) table)
+  unfolding ringOf lastOf legOf
+  ahead-means table e = answer-if (groundIn j bytes) (j .depth) (j .p) (j .q) (j .quota) deep s table floor off full
+    where
+      full : (k : ℕ) → k ≤ seen j bytes s .last → (x : ℕ) × (ring j bytes (seen j bytes s) x ≡ k)
+      full zero h = (s, omega (arith, ring-self window-means))
+      full (suc k) h = let (x, l, q) = empty-full j bytes (seen j bytes s) (seen j bytes s .last) e (suc k) (omega arith) h in (x, q)
+
+  -- "The route is found backward from the target": it is a walk of the window at the cost w
+  pub route-means : (x : ℕ) → InWindow x → Chain (net j bytes) InWindow s (route j bytes s (seen j bytes s) x) x (w j bytes (seen j bytes s) x)
+  unfolding ringOf lastOf legOf
+  route-means x h = route-chain (groundIn j bytes) (j .depth) s deep floor off x h
+
+  -- "each time the lowest-numbered window cell from which one allowed move, added to its w, gives exactly the w of the cell reached"
+  abbrev pub prior : ℕ → ℕ
+  prior x = priorIn (groundIn j bytes) (j .depth) s (seen j bytes s) x
+
+  pub prior-means : (x : ℕ) → InWindow x → x ≢ s
+      → Least (λ b. InWindow b × (1 ≤ price (floorOf j bytes) b x) × (w j bytes (seen j bytes s) b + price (floorOf j bytes) b x ≡ w j bytes (seen j bytes s) x)) (prior x)
+  unfolding ringOf lastOf legOf
+  prior-means x h o = prior-least (groundIn j bytes) (j .depth) s deep floor off x h o
+
+  pub route-goes-back : (x : ℕ) → InWindow x → x ≢ s → route j bytes s (seen j bytes s) x ≡ route j bytes s (seen j bytes s) (prior x) ++ x ∷ []
+  unfolding ringOf lastOf
+  route-goes-back x h o = route-back (groundIn j bytes) (j .depth) s deep floor off x h o
+
+  pub route-ends : route j bytes s (seen j bytes s) s ≡ []
+  route-ends = route-self (groundIn j bytes) (j .depth) s deep floor off
+
+  -- 9: "a ring up to d is empty and the goal is in none before it"
+  abbrev pub Lost : ℕ → Type 0
+  Lost k = (1 ≤ k) × (k ≤ j .depth) × Bare j bytes (seen j bytes s) k × ((z : ℕ) → Goal (groundIn j bytes) z → ring j bytes (seen j bytes s) z < k → ⊥)
+
+  pub nine-means : emptyRing j bytes (seen j bytes s) (seen j bytes s .last) ≡ true → (k : ℕ) × Lost k
+  nine-means e =
+      let (k, h, i, bare) = empty-some j bytes (seen j bytes s) (seen j bytes s .last) e in
+      (k, (h, le-trans i (window-means .depth), bare, λ z g l. omega (arith, i, window-means .goals z g, l)))
+
+  pub nine-is : (k : ℕ) → Lost k → emptyRing j bytes (seen j bytes s) (seen j bytes s .last) ≡ true
+  nine-is k (h, i, bare, none) = empty-of j bytes (seen j bytes s) (seen j bytes s .last) k h (upto (window-means .ends)) bare
+    where
+      upto : (seen j bytes s .last ≡ j .depth) ⊎ ((z : ℕ) × Goal (groundIn j bytes) z × (ring j bytes (seen j bytes s) z ≡ seen j bytes s .last)) → k ≤ seen j bytes s .last
+      upto (inl e) = omega arith
+      upto (inr (z, g, e)) = by (decLe k (seen j bytes s .last))
+        where
+          by : Dec (k ≤ seen j bytes s .last) → k ≤ seen j bytes s .last
+          by (yes l) = l
+          by (no l) = absurd (none z g (omega (arith, e, l)))

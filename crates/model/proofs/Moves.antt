@@ -1,0 +1,300 @@
+-- The eight moves and the price of a move: where a move leads, what it costs, the way back, and that each price is one move's.
+-- Code knows movement by these laws alone. Assumes nothing.
+use mathlib.Core.Path.{_≡_, refl, ap, ap₂, sym, _∙_, subst}
+use mathlib.Core.List.{[], _∷_}
+use mathlib.Core.Bool.{Bool, true, false, _&&_}
+use Prim.Native.Nat.{ℕ, zero, suc, _+_, _-_, _*_, _/_, _%_, _≤_, _<_}
+use native.Mathlib.Omega.{arith}
+use native.Mathlib.Nat.{mod-lt}
+use lib.Dec.{T, ltb, leb, eqb, lit≤, lit<}
+use lib.ListN.{getD}
+use borrow.Author.Tests.{ltb-true, leb-true, eqb-true, lt-ltb, le-leb, eq-eqb}
+use Rattle.learning.specs.Ground.{pick}
+use Rattle.learning.specs.Look.{lowest}
+use Rattle.learning.proofs.Look.{lowest-low, lowest-met}
+use Rattle.model.specs.Floor.{Floor, Sized, size, column, row, free, apart, tariff, fare, price, east, south, ahead, inside, allowed, heading, opposite}
+use Rattle.model.specs.Grounds.{price-low, price-high, price-same, price-free, free-inside, apart-comm}
+use Rattle.model.proofs.Cells.{cell-lt, row-lt, col-at, row-at, cell-at}
+
+-- tests
+pub is-true : (b : Bool) → T b → b ≡ true
+is-true true t = refl
+is-true false t = absurd t
+
+pub both : (a b : Bool) → (a && b) ≡ true → (a ≡ true) × (b ≡ true)
+both true b e = (refl, e)
+both false b e = absurd (let z : _≡_ {A = ℕ} 0 1 = cc in omega arith)
+
+pub both-of : (a b : Bool) → a ≡ true → b ≡ true → (a && b) ≡ true
+both-of a b p q = ap₂ _&&_ p q
+
+-- what holds of each of the eight moves
+pub all8 : (P : ℕ → Type 0) → P 0 → P 1 → P 2 → P 3 → P 4 → P 5 → P 6 → P 7 → (m : ℕ) → m < 8 → P m
+all8 P a b c d e f g h zero l = a
+all8 P a b c d e f g h (suc zero) l = b
+all8 P a b c d e f g h (suc (suc zero)) l = c
+all8 P a b c d e f g h (suc (suc (suc zero))) l = d
+all8 P a b c d e f g h (suc (suc (suc (suc zero)))) l = e
+all8 P a b c d e f g h (suc (suc (suc (suc (suc zero))))) l = f
+all8 P a b c d e f g h (suc (suc (suc (suc (suc (suc zero)))))) l = g
+all8 P a b c d e f g h (suc (suc (suc (suc (suc (suc (suc zero))))))) l = h
+all8 P a b c d e f g h (suc (suc (suc (suc (suc (suc (suc (suc m)))))))) l = absurd (omega arith)
+
+pub east-le : (m : ℕ) → m < 8 → east m ≤ 2
+east-le = all8 (λ m. east m ≤ 2) (lit≤ tt) (lit≤ tt) (lit≤ tt) (lit≤ tt) (lit≤ tt) (lit≤ tt) (lit≤ tt) (lit≤ tt)
+
+pub south-le : (m : ℕ) → m < 8 → south m ≤ 2
+south-le = all8 (λ m. south m ≤ 2) (lit≤ tt) (lit≤ tt) (lit≤ tt) (lit≤ tt) (lit≤ tt) (lit≤ tt) (lit≤ tt) (lit≤ tt)
+
+-- a straight move costs 10, a diagonal one 14
+abbrev pub toll : ℕ → ℕ
+toll m = getD (10 ∷ 14 ∷ 10 ∷ 14 ∷ 10 ∷ 14 ∷ 10 ∷ 14 ∷ []) m 0
+
+toll-some : (m : ℕ) → m < 8 → 1 ≤ toll m
+toll-some = all8 (λ m. 1 ≤ toll m) (lit≤ tt) (lit≤ tt) (lit≤ tt) (lit≤ tt) (lit≤ tt) (lit≤ tt) (lit≤ tt) (lit≤ tt)
+
+-- by the columns and rows moved
+toll-tariff : (m : ℕ) → m < 8 → tariff (apart 1 (east m) + apart 1 (south m)) ≡ toll m
+toll-tariff = all8 (λ m. tariff (apart 1 (east m) + apart 1 (south m)) ≡ toll m) refl refl refl refl refl refl refl refl
+
+-- the move that goes back goes as far the other way
+pub opposite-lt : (m : ℕ) → m < 8 → opposite m < 8
+opposite-lt = all8 (λ m. opposite m < 8) (lit< tt) (lit< tt) (lit< tt) (lit< tt) (lit< tt) (lit< tt) (lit< tt) (lit< tt)
+
+opposite-east : (m : ℕ) → m < 8 → east (opposite m) + east m ≡ 2
+opposite-east = all8 (λ m. east (opposite m) + east m ≡ 2) refl refl refl refl refl refl refl refl
+
+opposite-south : (m : ℕ) → m < 8 → south (opposite m) + south m ≡ 2
+opposite-south = all8 (λ m. south (opposite m) + south m ≡ 2) refl refl refl refl refl refl refl refl
+
+-- a move is known by where it goes, and each way but none is a move's
+moveOf : ℕ → ℕ → ℕ
+moveOf e s = getD (7 ∷ 0 ∷ 1 ∷ 6 ∷ 8 ∷ 2 ∷ 5 ∷ 4 ∷ 3 ∷ []) (s * 3 + e) 0
+
+moved : (m : ℕ) → m < 8 → moveOf (east m) (south m) ≡ m
+unfolding moveOf
+moved = all8 (λ m. moveOf (east m) (south m) ≡ m) refl refl refl refl refl refl refl refl
+
+moveFor : (e s : ℕ) → e ≤ 2 → s ≤ 2 → 1 ≤ apart 1 e + apart 1 s → (m : ℕ) × (m < 8) × (east m ≡ e) × (south m ≡ s)
+moveFor zero zero a b c = (7, lit< tt, refl, refl)
+moveFor zero (suc zero) a b c = (6, lit< tt, refl, refl)
+moveFor zero (suc (suc zero)) a b c = (5, lit< tt, refl, refl)
+moveFor (suc zero) zero a b c = (0, lit< tt, refl, refl)
+moveFor (suc zero) (suc zero) a b c = absurd (omega arith)
+moveFor (suc zero) (suc (suc zero)) a b c = (4, lit< tt, refl, refl)
+moveFor (suc (suc zero)) zero a b c = (1, lit< tt, refl, refl)
+moveFor (suc (suc zero)) (suc zero) a b c = (2, lit< tt, refl, refl)
+moveFor (suc (suc zero)) (suc (suc zero)) a b c = (3, lit< tt, refl, refl)
+moveFor (suc (suc (suc e))) s a b c = absurd (omega arith)
+moveFor zero (suc (suc (suc s))) a b c = absurd (omega arith)
+moveFor (suc zero) (suc (suc (suc s))) a b c = absurd (omega arith)
+moveFor (suc (suc zero)) (suc (suc (suc s))) a b c = absurd (omega arith)
+
+-- the move m from x stays on the floor
+pub record Inside (f : Floor) (x m : ℕ) : Type 0 where
+  pub west : 1 ≤ column f x + east m
+  pub east : column f x + east m ≤ f .width
+  pub north : 1 ≤ row f x + south m
+  pub south : row f x + south m ≤ f .height
+
+module _ (f : Floor) (x m : ℕ) where
+  abbrev a : Bool
+  a = leb 1 (column f x + east m)
+
+  abbrev b : Bool
+  b = leb (column f x + east m) (f .width)
+
+  abbrev c : Bool
+  c = leb 1 (row f x + south m)
+
+  abbrev d : Bool
+  d = leb (row f x + south m) (f .height)
+
+  pub inside-of : inside f x m ≡ true → Inside f x m
+  unfolding inside
+  inside-of e =
+      let p = both (a && b && c) d e in
+      let q = both (a && b) c (p .0) in
+      let r = both a b (q .0) in
+      record { west = leb-true 1 _ (r .0); east = leb-true _ (f .width) (r .1); north = leb-true 1 _ (q .1); south = leb-true _ (f .height) (p .1) }
+
+  pub inside-true : Inside f x m → inside f x m ≡ true
+  unfolding inside
+  inside-true i =
+      both-of (a && b && c) d (both-of (a && b) c (both-of a b (le-leb 1 _ (i .west)) (le-leb _ (f .width) (i .east))) (le-leb 1 _ (i .north))) (le-leb _ (f .height) (i .south))
+
+  -- where it leads
+  pub ahead-lt : Inside f x m → ahead f x m < size f
+  unfolding ahead
+  ahead-lt i = cell-lt (f .width) (f .height) (column f x + east m - 1) (row f x + south m - 1) (omega (arith, i .west, i .east)) (omega (arith, i .north, i .south))
+
+  pub ahead-column : Inside f x m → column f (ahead f x m) ≡ column f x + east m - 1
+  unfolding ahead
+  ahead-column i = col-at (f .width) (column f x + east m - 1) (row f x + south m - 1) (omega (arith, i .west, i .east))
+
+  pub ahead-row : Inside f x m → row f (ahead f x m) ≡ row f x + south m - 1
+  unfolding ahead
+  ahead-row i = row-at (f .width) (column f x + east m - 1) (row f x + south m - 1) (omega (arith, i .west, i .east))
+
+-- the price of a move between two free cells
+fare-free : (dx dy : ℕ) → dx ≤ 1 → dy ≤ 1 → fare true true dx dy ≡ tariff (dx + dy)
+fare-free dx dy p q = ap (λ t. pick t (tariff (dx + dy)) 0) (both-of (leb dx 1) (leb dy 1) (le-leb dx 1 p) (le-leb dy 1 q))
+
+-- what a price says
+record Fared (a b : Bool) (dx dy : ℕ) : Type 0 where
+  other : b ≡ true
+  columns : dx ≤ 1
+  rows : dy ≤ 1
+  apart : 1 ≤ dx + dy
+
+some-tariff : (n : ℕ) → 1 ≤ tariff n → 1 ≤ n
+some-tariff zero h = h
+some-tariff (suc n) h = omega arith
+
+picked : (t : Bool) (n : ℕ) → 1 ≤ pick t n 0 → (t ≡ true) × (1 ≤ n)
+picked true n h = (refl, h)
+picked false n h = absurd (omega arith)
+
+fared : (a b : Bool) (dx dy : ℕ) → 1 ≤ fare a b dx dy → Fared a b dx dy
+fared s t dx dy h =
+    let p = picked (s && t && leb dx 1 && leb dy 1) (tariff (dx + dy)) h in
+    let q = both (s && t && leb dx 1) (leb dy 1) (p .0) in
+    let r = both (s && t) (leb dx 1) (q .0) in
+    record { other = both s t (r .0) .1; columns = leb-true dx 1 (r .1); rows = leb-true dy 1 (q .1); apart = some-tariff (dx + dy) (p .1) }
+
+near-one : (x e : ℕ) → 1 ≤ x + e → apart x (x + e - 1) ≡ apart 1 e
+near-one x e h = omega arith
+
+-- the way from x to y, counted so that 1 is not at all
+abbrev way : ℕ → ℕ → ℕ
+way x y = y + 1 - x
+
+way-apart : (x y : ℕ) → apart x y ≤ 1 → apart 1 (way x y) ≡ apart x y
+way-apart x y h = omega arith
+
+way-le : (x y : ℕ) → apart x y ≤ 1 → way x y ≤ 2
+way-le x y h = omega arith
+
+way-to : (x y : ℕ) → apart x y ≤ 1 → x + way x y ≡ y + 1
+way-to x y h = omega arith
+
+near-le : (e : ℕ) → e ≤ 2 → apart 1 e ≤ 1
+near-le e h = omega arith
+
+module _ (f : Floor) (z : Sized f) where
+  -- the price of a move to a free cell
+  pub price-ahead : (x m : ℕ) → m < 8 → free f x ≡ true → Inside f x m → free f (ahead f x m) ≡ true → price f x (ahead f x m) ≡ toll m
+  unfolding price
+  price-ahead x m l p i q =
+      let dx : apart (column f x) (column f (ahead f x m)) ≡ apart 1 (east m) = ap (apart (column f x)) (ahead-column f x m i) ∙ near-one (column f x) (east m) (i .west) in
+      let dy : apart (row f x) (row f (ahead f x m)) ≡ apart 1 (south m) = ap (apart (row f x)) (ahead-row f x m i) ∙ near-one (row f x) (south m) (i .north) in
+      ap₂ (λ s t. fare s t (apart (column f x) (column f (ahead f x m))) (apart (row f x) (row f (ahead f x m)))) p q
+      ∙ ap₂ (fare true true) dx dy
+      ∙ fare-free (apart 1 (east m)) (apart 1 (south m)) (near-le (east m) (east-le m l)) (near-le (south m) (south-le m l))
+      ∙ toll-tariff m l
+
+  -- a move is allowed just where it leads to a free cell
+  pub allowed-true : (x m : ℕ) → m < 8 → free f x ≡ true → Inside f x m → free f (ahead f x m) ≡ true → allowed f x m ≡ true
+  unfolding allowed
+  allowed-true x m l p i q =
+      both-of (inside f x m) (leb 1 (price f x (ahead f x m))) (inside-true f x m i) (le-leb 1 (price f x (ahead f x m)) (omega (arith, price-ahead x m l p i q, toll-some m l)))
+
+  pub allowed-inside : (x m : ℕ) → allowed f x m ≡ true → Inside f x m
+  unfolding allowed
+  allowed-inside x m e = inside-of f x m (both (inside f x m) (leb 1 (price f x (ahead f x m))) e .0)
+
+  pub allowed-some : (x m : ℕ) → allowed f x m ≡ true → 1 ≤ price f x (ahead f x m)
+  unfolding allowed
+  allowed-some x m e = leb-true 1 _ (both (inside f x m) (leb 1 (price f x (ahead f x m))) e .1)
+
+  pub allowed-free : (x m : ℕ) → allowed f x m ≡ true → free f (ahead f x m) ≡ true
+  allowed-free x m e = is-true _ (price-free f (ahead f x m) x (omega (arith, price-same f x (ahead f x m), allowed-some x m e)))
+
+  pub free-lt : (x : ℕ) → free f x ≡ true → x < size f
+  free-lt x e = free-inside f x (subst T (sym e) tt)
+
+  -- the way back
+  module _ (x m : ℕ) (l : m < 8) (e : allowed f x m ≡ true) where
+    abbrev y : ℕ
+    y = ahead f x m
+
+    i : Inside f x m
+    i = allowed-inside x m e
+
+    here : free f x ≡ true
+    here = is-true _ (price-free f x y (allowed-some x m e))
+
+    col-lt : column f x < f .width
+    col-lt = mod-lt x (z .wide)
+
+    line-lt : row f x < f .height
+    line-lt = row-lt (f .width) (f .height) x (z .wide) (free-lt x here)
+
+    back-column : column f y + east (opposite m) ≡ column f x + 1
+    back-column = omega (arith, ahead-column f x m i, opposite-east m l, i .west)
+
+    back-row : row f y + south (opposite m) ≡ row f x + 1
+    back-row = omega (arith, ahead-row f x m i, opposite-south m l, i .north)
+
+    back-ahead : ahead f y (opposite m) ≡ x
+    unfolding ahead
+    back-ahead =
+        let p : column f y + east (opposite m) - 1 ≡ column f x = omega (arith, back-column) in
+        let q : row f y + south (opposite m) - 1 ≡ row f x = omega (arith, back-row) in
+        ap₂ (λ r c. r * f .width + c) q p ∙ cell-at (f .width) x
+
+    back-inside : Inside f y (opposite m)
+    back-inside =
+        record { west = omega (arith, back-column); east = omega (arith, back-column, col-lt); north = omega (arith, back-row); south = omega (arith, back-row, line-lt) }
+
+    pub opposite-ahead : ahead f (ahead f x m) (opposite m) ≡ x
+    opposite-ahead = back-ahead
+
+    pub opposite-allowed : allowed f (ahead f x m) (opposite m) ≡ true
+    opposite-allowed = allowed-true y (opposite m) (opposite-lt m l) (allowed-free x m e) back-inside (ap (free f) back-ahead ∙ here)
+
+  -- different moves lead to different cells
+  pub ahead-one : (x m m′ : ℕ) → m < 8 → m′ < 8 → allowed f x m ≡ true → allowed f x m′ ≡ true → ahead f x m ≡ ahead f x m′ → m ≡ m′
+  ahead-one x m m′ l l′ e e′ s =
+      let i = allowed-inside x m e in
+      let i′ = allowed-inside x m′ e′ in
+      let p : east m ≡ east m′ = omega (arith, ap (column f) s, ahead-column f x m i, ahead-column f x m′ i′, i .west, i′ .west) in
+      let q : south m ≡ south m′ = omega (arith, ap (row f) s, ahead-row f x m i, ahead-row f x m′ i′, i .north, i′ .north) in
+      sym (moved m l) ∙ ap₂ moveOf p q ∙ moved m′ l′
+
+  -- each price is a move's
+  arrive : (x y m : ℕ) → m < 8 → free f x ≡ true → free f y ≡ true → column f y < f .width → row f y < f .height → column f x + east m ≡ column f y + 1
+      → row f x + south m ≡ row f y + 1 → (m : ℕ) × (m < 8) × (allowed f x m ≡ true) × (ahead f x m ≡ y)
+  unfolding ahead
+  arrive x y m l u v cx ry p q =
+      let p′ : column f x + east m - 1 ≡ column f y = omega (arith, p) in
+      let q′ : row f x + south m - 1 ≡ row f y = omega (arith, q) in
+      let same : ahead f x m ≡ y = ap₂ (λ r c. r * f .width + c) q′ p′ ∙ cell-at (f .width) y in
+      let i : Inside f x m = record { west = omega (arith, p); east = omega (arith, p, cx); north = omega (arith, q); south = omega (arith, q, ry) } in
+      (m, l, allowed-true x m l u i (ap (free f) same ∙ v), same)
+
+  pub price-move : (x y : ℕ) → 1 ≤ price f x y → (m : ℕ) × (m < 8) × (allowed f x m ≡ true) × (ahead f x m ≡ y)
+  unfolding price
+  price-move x y h =
+      let free-x : free f x ≡ true = is-true (free f x) (price-free f x y h) in
+      let t = fared (free f x) (free f y) (apart (column f x) (column f y)) (apart (row f x) (row f y)) h in
+      let cx : column f y < f .width = mod-lt y (z .wide) in
+      let ry : row f y < f .height = row-lt (f .width) (f .height) y (z .wide) (free-lt y (t .other)) in
+      let dx = way-apart (column f x) (column f y) (t .columns) in
+      let dy = way-apart (row f x) (row f y) (t .rows) in
+      let (m, l, p, q) =
+      moveFor (way (column f x) (column f y)) (way (row f x) (row f y)) (way-le (column f x) (column f y) (t .columns)) (way-le (row f x) (row f y) (t .rows)) (subst (λ k. 1 ≤ k) (sym (ap₂ _+_ dx dy)) (t .apart)) in
+      let p′ : column f x + east m ≡ column f y + 1 = ap (λ k. column f x + k) p ∙ way-to (column f x) (column f y) (t .columns) in
+      let q′ : row f x + south m ≡ row f y + 1 = ap (λ k. row f x + k) q ∙ way-to (row f x) (row f y) (t .rows) in
+      arrive x y m l free-x (t .other) cx ry p′ q′
+
+  -- the move that leads from a cell to another is the heading
+  pub heading-is : (x m : ℕ) → m < 8 → allowed f x m ≡ true → heading f x (ahead f x m) ≡ m
+  unfolding heading
+  heading-is x m l e =
+      let test : ℕ → Bool = λ k. allowed f x k && eqb (ahead f x k) (ahead f x m) in
+      let t : T (test m) = subst T (sym (both-of (allowed f x m) (eqb (ahead f x m) (ahead f x m)) e (eq-eqb (ahead f x m) (ahead f x m) refl))) tt in
+      let k = lowest 8 test in
+      let k-lt : k < 8 = omega (arith, lowest-low 8 test m l t) in
+      let u = both (allowed f x k) (eqb (ahead f x k) (ahead f x m)) (is-true _ (lowest-met 8 test m l t)) in
+      ahead-one x k m k-lt l (u .0) e (eqb-true (ahead f x k) (ahead f x m) (u .1))
