@@ -94,3 +94,14 @@ pub enum Written {
     Length(usize),
     Refused(Refusal),
 }
+
+// What a line of the program `aisle` asks for.
+pub struct Settings {
+    pub start: usize,
+    pub goal: usize,
+    pub depth: usize,
+    pub p: usize,
+    pub q: usize,
+    pub quota: usize,
+    pub trials: usize,
+}

@@ -1,16 +1,17 @@
 -- The route is a walk in the window from the cell to the target, at the target's cost.
 use Prim.Native.Nat.{ℕ, zero, suc, _+_, _*_, _≤_, _<_}
-use mathlib.Core.Path.{_≡_, refl, sym, ap, subst}
+use mathlib.Core.Path.{_≡_, refl, sym, ap, _∙_, subst}
 use mathlib.Core.Bool.{Bool, true, false, _&&_}
 use mathlib.Core.Logic.{_≢_}
 use mathlib.Core.List.{List, [], _∷_, _++_}
-use native.Mathlib.Nat.{le-trans, mul-le-mul-left}
+use native.Mathlib.Nat.{le-trans, le-antisymm, mul-le-mul-left}
 use native.Mathlib.Omega.{arith}
 use lib.Dec.{T, eqb, leb, eqb→eq, eqb-refl, leb→le, le→leb}
 use lib.ListN.{length}
 use Rattle.learning.specs.Walk.{Network, Walk, stop, move, Least}
 use Rattle.learning.specs.Ahead.{Window}
-use Rattle.learning.specs.Ground.{Ground, Goal, netOf, viewOf, ringOf, lastOf, legOf}
+use Rattle.learning.specs.Ground.{Ground, Goal, netOf, viewOf, costIn, ringOf, lastOf, legOf}
+use Rattle.learning.specs.Look.{lowest}
 use Rattle.learning.specs.Route.{Chain, ended, step, priorIn, routeFrom, routeIn, routeOf}
 use Rattle.learning.proofs.Sound.{ring-self}
 use Rattle.learning.proofs.Spread.{both-true, first-true, second-true}
@@ -143,3 +144,54 @@ module _ (G : Ground) (d s : ℕ) (deep : 1 ≤ d) (floor : s < G .cells) (g : �
         leg-moves W (G .dearest) (λ a b c e. omega (arith, e .1, G .high a b)) x (length (routeOf G d s x)) l (chain-walk (route-chain x l)),
         mul-le-mul-left (G .dearest) (le-trans l (W .depth)),
       )
+
+  -- the lowest such cell is the cell before x
+  pub prior-is : (x y : ℕ) → ringOf G d s y ≤ lastOf G d s → 1 ≤ G .price y x → legOf G d s y + G .price y x ≡ legOf G d s x
+      → ((b : ℕ) → ringOf G d s b ≤ lastOf G d s → 1 ≤ G .price b x → legOf G d s b + G .price b x ≡ legOf G d s x → y ≤ b)
+      → priorIn G d s (viewOf G d s) x ≡ y
+  unfolding priorIn ringOf lastOf legOf
+  prior-is x y h p e low =
+      let test : ℕ → Bool = λ b. near b && (priced x b && exact x b) in
+      let l : y < G .cells = G .inside y x p in
+      let t : T (test y) =
+      both-true (near y) (priced x y && exact x y) (le→leb (ringOf G d s y) (lastOf G d s) h)
+      (both-true (priced x y) (exact x y) (le→leb 1 (G .price y x) p) (eqb-of (legOf G d s y + G .price y x) (legOf G d s x) e)) in
+      let b = lowest (G .cells) test in
+      let k : T (test b) = lowest-met (G .cells) test y l t in
+      let u = second-true (near b) (priced x b && exact x b) k in
+      le-antisymm (lowest-low (G .cells) test y l t)
+      (low b (leb→le (ringOf G d s b) (lastOf G d s) (first-true (near b) (priced x b && exact x b) k)) (leb→le 1 (G .price b x) (first-true (priced x b) (exact x b) u))
+      (eqb→eq (legOf G d s b + G .price b x) (legOf G d s x) (second-true (priced x b) (exact x b) u)))
+
+  -- more fuel than the cost changes nothing
+  fuel-free : (fuel fuel′ : ℕ) (b : Bool) (x : ℕ) → eqb x s ≡ b → legOf G d s x < fuel → legOf G d s x < fuel′ → ringOf G d s x ≤ lastOf G d s
+      → routeFrom G d s (viewOf G d s) fuel b x ≡ routeFrom G d s (viewOf G d s) fuel′ b x
+  unfolding routeFrom prior prior-before
+  fuel-free zero fuel′ b x e h h′ l = absurd (omega arith)
+  fuel-free (suc fuel) zero b x e h h′ l = absurd (omega arith)
+  fuel-free (suc fuel) (suc fuel′) true x e h h′ l = refl
+  fuel-free (suc fuel) (suc fuel′) false x e h h′ l =
+      let y = prior-before x l (λ q. subst T e (eqb-of x s q)) in
+      ap (λ xs. xs ++ x ∷ [])
+      (fuel-free fuel fuel′ (eqb (prior x) s) (prior x) refl (omega (arith, y .exact, y .edge .0)) (omega (arith, y .exact, y .edge .0)) (y .near))
+
+  -- the route to s, and to any other cell of the window by the cell before it
+  pub route-none : routeOf G d s s ≡ []
+  unfolding routeIn routeFrom
+  route-none = go (eqb s s) (eqb-refl s)
+    where
+      go : (b : Bool) → T b → routeFrom G d s (viewOf G d s) (suc (costIn G (viewOf G d s .costs) s)) b s ≡ []
+      go true t = refl
+      go false t = absurd t
+
+  pub route-more : (x y : ℕ) → ringOf G d s x ≤ lastOf G d s → x ≢ s → priorIn G d s (viewOf G d s) x ≡ y → routeOf G d s x ≡ routeOf G d s y ++ x ∷ []
+  unfolding routeIn routeFrom legOf prior prior-before
+  route-more x y l o e = go (eqb x s) refl
+    where
+      go : (b : Bool) → eqb x s ≡ b → routeFrom G d s (viewOf G d s) (suc (legOf G d s x)) b x ≡ routeOf G d s y ++ x ∷ []
+      go true q = absurd (o (eqb→eq x s (subst T (sym q) tt)))
+      go false q =
+          let z = prior-before x l o in
+          ap (λ xs. xs ++ x ∷ [])
+          (fuel-free (legOf G d s x) (suc (legOf G d s (prior x))) (eqb (prior x) s) (prior x) refl (omega (arith, z .exact, z .edge .0)) (omega arith) (z .near)
+          ∙ ap (λ b. routeOf G d s b) e)

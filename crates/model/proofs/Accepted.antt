@@ -31,6 +31,13 @@ then-next w e = ap (λ u. then u w) e
 pub then-refused : {v : Verdict} {r : Refusal} (w : Verdict) → v ≡ Vd.Refused r → then v w ≡ Vd.Refused r
 then-refused w e = ap (λ u. then u w) e
 
+-- the same of an answer that is the first check's, and of one that is what comes after it
+pub then-stops : {v a : Verdict} {r : Refusal} (w : Verdict) → a ≡ v → a ≡ Vd.Refused r → a ≡ then v w
+then-stops w e q = q ∙ sym (then-refused w (sym e ∙ q))
+
+pub then-goes : {v a b : Verdict} (w : Verdict) → a ≡ v → a ≡ Vd.Done → b ≡ w → b ≡ then v w
+then-goes w e q g = g ∙ sym (then-next w (sym e ∙ q))
+
 pub then-done : (v w : Verdict) → then v w ≡ Vd.Done → (v ≡ Vd.Done) × (w ≡ Vd.Done)
 then-done Vd.Done w e = (refl, e)
 then-done (Vd.Refused r) w e = let z : _≡_ {A = ℕ} 0 1 = cc in absurd (omega arith)

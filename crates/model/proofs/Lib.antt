@@ -16,3 +16,6 @@ pub mod Judged
 pub mod Rides
 pub mod Tables
 pub mod Demand
+-- Looking: the goal, empty rings, and the moves along a route.
+pub mod Looking
+pub mod OpeningSound

@@ -12,7 +12,7 @@ use Rattle.model.specs.Opening.{soundness, accepts, openJob, openTrial, 
 use Rattle.model.specs.Ride.{next, rideFrom, bound, ride, kept, trial, courseFrom, run}
 use Rattle.model.specs.TableFile.{trailerHolds, checkTrailer, findRecords, sameJob, recordFault, judgeRecords, applied, readVerdict, readTable, changed, recordsOf, trailerOf, fileOf, unlike, fileRoom, writeVerdict, writeTable}
 use Rattle.model.specs.FloorText.{begins, sizeIn, header, rowHolds, rows, cellsOf, floorVerdict, readFloor}
-use Rattle.model.specs.Line.{lineOf, afterLine, numbersFrom, readLine, decimalIn, movesField, trialLine, trialLines, courseLines, refusalLine, judgeAisle, aisle}
+use Rattle.model.specs.Line.{numbersIn, afterLine, readLine, decimalIn, movesField, trialLine, trialLines, courseLines, refusalLine, judgeAisle, aisle}
 
 unfoldable pub compute : Unit {0}
 unfolding decLe ℕ-discrete
@@ -27,5 +27,5 @@ unfolding decLe ℕ-discrete
     next rideFrom bound ride kept trial courseFrom run
     trailerHolds checkTrailer findRecords sameJob recordFault judgeRecords applied readVerdict readTable changed recordsOf trailerOf fileOf unlike fileRoom writeVerdict writeTable
     begins sizeIn header rowHolds rows cellsOf floorVerdict readFloor
-    lineOf afterLine numbersFrom readLine decimalIn movesField trialLine trialLines courseLines refusalLine judgeAisle aisle
+    numbersIn afterLine readLine decimalIn movesField trialLine trialLines courseLines refusalLine judgeAisle aisle
 compute = tt

@@ -9,6 +9,7 @@ use Rattle.answers.specs.declared.Job.{Job}
 use Rattle.answers.specs.declared.Place.{Place}
 use Rattle.answers.specs.declared.Place.the-variants as P
 use Rattle.answers.specs.declared.Refusal.{Refusal}
+use Rattle.answers.specs.declared.Settings.{Settings}
 use Rattle.answers.specs.declared.Verdict.{Verdict}
 use Rattle.answers.specs.declared.Verdict.the-variants as Vd
 use Rattle.model.specs.Basics.{choose, then, unless}
@@ -18,37 +19,25 @@ use Rattle.model.specs.Opening.{trialsHold, openJob}
 use Rattle.model.specs.Ride.{Ride, Course, kept, courseFrom}
 use Rattle.model.specs.FloorText.{LF, isDigit, widthIn, heightIn, rowsIn, floorVerdict, cellsOf}
 
--- the bytes before the first LF and after it; nothing where there is no LF
-unfoldable pub lineOf : List ℕ → Option (List ℕ)
-lineOf [] = none
-lineOf (b ∷ bs) = elim (eqb b LF) [ true ↦ some [] | false ↦ elim (lineOf bs) [ none ↦ none | some l ↦ some (b ∷ l) ] ]
+-- The numbers of the line at the front of an input: single spaces, 1 to 7 digits each, LF at the end, zeros in front change nothing.
+-- `digits` and `value` are those of the number being read. None where the line is malformed, or has no LF
+unfoldable pub numbersIn : (digits value : ℕ) → List ℕ → Option (List ℕ)
+numbersIn digits value [] = none
+numbersIn digits value (b ∷ bs) =
+    elim (eqb b LF) [
+      | true ↦ choose (leb 1 digits) (some (value ∷ [])) none
+      | false ↦ elim (isDigit b && leb digits 6) [
+        | true ↦ numbersIn (suc digits) (10 * value + (b - 48)) bs
+        | false ↦ elim (eqb b 32 && leb 1 digits) [ true ↦ elim (numbersIn 0 0 bs) [ none ↦ none | some ns ↦ some (value ∷ ns) ] | false ↦ none ]
+      ]
+    ]
 
+-- what stands after the line
 unfoldable pub afterLine : List ℕ → List ℕ
 afterLine [] = []
 afterLine (b ∷ bs) = elim (eqb b LF) [ true ↦ bs | false ↦ afterLine bs ]
 
--- The numbers of a line: single spaces, 1 to 7 digits each, zeros in front change nothing. `digits` and `value` are those of the number being read.
-unfoldable pub numbersFrom : (digits value : ℕ) → List ℕ → Option (List ℕ)
-numbersFrom digits value [] = choose (leb 1 digits) (some (value ∷ [])) none
-numbersFrom digits value (b ∷ bs) =
-    elim (isDigit b && leb digits 6) [
-      | true ↦ numbersFrom (suc digits) (10 * value + (b - 48)) bs
-      | false ↦ elim (eqb b 32 && leb 1 digits) [
-        | true ↦ elim (numbersFrom 0 0 bs) [ none ↦ none | some ns ↦ some (value ∷ ns) ]
-        | false ↦ none
-      ]
-    ]
-
 -- `start goal depth p q quota trials`
-pub record Settings : Type 0 where
-  pub start : ℕ
-  pub goal : ℕ
-  pub depth : ℕ
-  pub p : ℕ
-  pub q : ℕ
-  pub quota : ℕ
-  pub trials : ℕ
-
 abbrev pub asked : (start goal depth p q quota trials : ℕ) → Option Settings
 asked start goal depth p q quota trials =
     some (record { start = start; goal = goal; depth = depth; p = p; q = q; quota = quota; trials = trials })
@@ -69,7 +58,7 @@ settingsOf (s ∷ g ∷ d ∷ p ∷ q ∷ t ∷ k ∷ []) = asked s g d p q t k
 settingsOf (s ∷ g ∷ d ∷ p ∷ q ∷ t ∷ k ∷ x ∷ xs) = none
 
 unfoldable pub readLine : List ℕ → Option Settings
-readLine input = elim (lineOf input) [ none ↦ none | some l ↦ elim (numbersFrom 0 0 l) [ none ↦ none | some ns ↦ settingsOf ns ] ]
+readLine input = elim (numbersIn 0 0 input) [ none ↦ none | some ns ↦ settingsOf ns ]
 
 -- the job that a line and a floor of that width and height make
 abbrev pub jobIn : Settings → (width height : ℕ) → Job

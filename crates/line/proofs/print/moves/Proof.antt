@@ -1,0 +1,82 @@
+-- `line::print::moves` meets its contract. The loop's invariant: the first i bytes are written, and nothing else has changed.
+-- Assumes nothing.
+use Prim.Native.Nat.{_+_, _-_, _≤_}
+use mathlib.Core.Path.{_≡_, refl, ap, _∙_}
+use native.Mathlib.Omega.{arith}
+use lib.ListN.{length, getD, set, take, length-set}
+use lib.Seq.{sets}
+use Rattle.line.specs.Printing.{moveDigits}
+use Rattle.line.proofs.Decimals.{bytes-more, bytes-all, digits-length, digit-at}
+use Rattle.line.proofs.print.moves.Statement.{statement}
+use Rattle.line.proofs.print.moves.Tie as tie
+
+abbrev Inv-loop : tie.InvT-loop
+Inv-loop out₀ at ms n i₀ out i = (i ≤ n) × (length out ≡ length out₀) × (out ≡ sets out₀ at (take i (moveDigits (take n ms))))
+
+abbrev μ-loop : tie.MeasureT-loop
+μ-loop out₀ at ms n i₀ out i = n - i
+
+loop-holds : tie.Need-loop-holds Inv-loop μ-loop
+loop-holds c = (omega arith, refl, refl)
+
+shared-slice-read-out : tie.Need-shared-slice-read-out Inv-loop μ-loop
+shared-slice-read-out c = omega arith
+
+add-out : tie.Need-add-out Inv-loop μ-loop
+add-out c = omega (arith, c .before .before .before .pre .2 (c .before .before .loop .i) (omega arith))
+
+add-out-2 : tie.Need-add-out-2 Inv-loop μ-loop
+add-out-2 c = omega arith
+
+slice-write-out : tie.Need-slice-write-out Inv-loop μ-loop
+slice-write-out c = omega arith
+
+add-i : tie.Need-add-i Inv-loop μ-loop
+add-i c = omega arith
+
+loop-less : tie.Need-loop-less Inv-loop μ-loop
+loop-less c = omega arith
+
+loop-again : tie.Need-loop-again Inv-loop μ-loop
+loop-again c =
+    let a = c .before .before .before in
+    let l = c .before .before .loop in
+    let ms = a .args .ms .now in
+    let n = a .args .n in
+    let d = digits-length ms n (a .pre .0) in
+    let e = digit-at ms n (l .i) (omega arith) (a .pre .0) in (
+      omega arith,
+      length-set (l .out) (a .args .at + l .i) (48 + getD ms (l .i) 0) ∙ l .inv .1,
+      ap (set (l .out) (a .args .at + l .i)) e ∙ bytes-more (a .args .out .now) (moveDigits (take n ms)) (l .out) (a .args .at) (l .i) (omega (arith, d)) (omega (arith, d)) (l .inv .2),
+    )
+
+add-result : tie.Need-add-result Inv-loop μ-loop
+add-result c = omega arith
+
+same-length : tie.Need-same-length Inv-loop μ-loop
+same-length c = omega arith
+
+returns : tie.Need-returns Inv-loop μ-loop
+returns c =
+    let a = c .before .before in
+    let l = c .before .loop in
+    let d = digits-length (a .args .ms .now) (a .args .n) (a .pre .0) in
+    bytes-all (a .args .out .now) (moveDigits (take (a .args .n) (a .args .ms .now))) (l .out) (a .args .at) (l .i) (omega (arith, d)) (omega (arith, d)) (l .inv .2)
+
+pub moves-spec : {M : Type 1} → statement M
+moves-spec =
+    tie.close
+    (tie.spec
+    Inv-loop
+    μ-loop
+    loop-holds
+    shared-slice-read-out
+    add-out
+    add-out-2
+    slice-write-out
+    add-i
+    loop-less
+    loop-again
+    add-result
+    same-length
+    returns)

@@ -1,0 +1,48 @@
+-- `line::push` meets its contract: each way out is one field of `Pushed`.
+-- Assumes nothing.
+use mathlib.Core.Path.{refl}
+use mathlib.Core.Logic.{inl, inr}
+use native.Mathlib.Omega.{arith}
+use Rattle.line.proofs.Laws.{no-both}
+use borrow.Author.Needs.{needs}
+use Rattle.line.proofs.push.Statement.{statement}
+use Rattle.line.proofs.push.Tie as tie
+
+blank-requires : tie.Need-blank-requires
+blank-requires c κs = search needs
+
+returns : tie.Need-returns
+returns c = record { good = λ t. no-both (c .blank .result .ok) t (c .blank .ensures .0); bad = λ f o. inl (omega arith) }
+
+blank-requires-2 : tie.Need-blank-requires-2
+blank-requires-2 c κs = search needs
+
+returns-2 : tie.Need-returns-2
+returns-2 c = record { good = λ t. no-both (c .blank2 .result .ok) t (c .blank2 .ensures .0); bad = λ f o. inr (omega arith) }
+
+mul-next : tie.Need-mul-next
+mul-next c = search needs
+
+element-write-next : tie.Need-element-write-next
+element-write-next c = search needs
+
+add-next : tie.Need-add-next
+add-next c = search needs
+
+returns-3 : tie.Need-returns-3
+returns-3 c =
+    let r = c .before .before .before .args .r in
+    record { good = λ t. (omega arith, omega arith, t, refl, refl, refl, refl, refl); bad = λ f o. no-both (r .ok) o f }
+
+pub push-spec : {M : Type 1} → statement M
+push-spec =
+    tie.close
+    (tie.spec
+    blank-requires
+    returns
+    blank-requires-2
+    returns-2
+    mul-next
+    element-write-next
+    add-next
+    returns-3)

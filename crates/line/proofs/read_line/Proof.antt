@@ -1,0 +1,40 @@
+-- `line::read_line` meets its contract: the scanned numbers ask for what the line asks for.
+-- Assumes nothing.
+use mathlib.Core.Path.{sym, ap, _∙_}
+use native.Mathlib.Omega.{arith}
+use borrow.Author.Tests.{not-true, not-false}
+use lib.ListN.{drop}
+use Rattle.line.proofs.Laws.{none-some}
+use borrow.Author.Needs.{needs}
+use Rattle.line.proofs.read_line.Statement.{statement}
+use Rattle.line.proofs.read_line.Tie as tie
+
+scan-requires : tie.Need-scan-requires
+scan-requires c κs = search needs
+
+returns : tie.Need-returns
+returns c =
+    let k = c .before .before .scan in
+    record { settings = sym (k .ensures .bad (not-true (k .result .ok) (c .if1 .taken))); text = λ s e. absurd (none-some s e) }
+
+settings-requires : tie.Need-settings-requires
+settings-requires c κs =
+    let k = c .before .before .before .scan in
+    let g = k .ensures .good (not-false (k .result .ok) (c .before .if1 .left)) in
+    (g .1, g .0)
+
+returns-2 : tie.Need-returns-2
+returns-2 c =
+    let k = c .before .before .before .before .scan in
+    let g = k .ensures .good (not-false (k .result .ok) (c .before .before .if1 .left)) in
+    let e = c .settings .ensures in
+    let input = c .before .before .before .before .before .before .args .input .now in
+    record {
+      settings = e .settings ∙ g .2;
+      text = λ s f.
+          let t = e .text s f in
+          (ap (λ n. drop n input) t ∙ g .3, omega (arith, t, g .4));
+    }
+
+pub read-line-spec : {M : Type 1} → statement M
+read-line-spec = tie.close (tie.spec scan-requires returns settings-requires returns-2)

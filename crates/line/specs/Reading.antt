@@ -1,0 +1,76 @@
+-- A line being read byte by byte: what each step keeps, and what the whole line says.
+use Prim.Native.Nat.{ℕ, zero, suc, _+_, _-_, _*_, _≤_, _<_}
+use mathlib.Core.Path.{_≡_}
+use mathlib.Core.Logic.{_⊎_}
+use mathlib.Core.Bool.{Bool, true, false}
+use mathlib.Core.Option.{Option, none, some}
+use mathlib.Core.List.{List, [], _∷_, _++_}
+use lib.ListN.{length, set, take, drop}
+use Rattle.answers.specs.declared.Settings.{Settings}
+use Rattle.model.specs.Line.{numbersIn, settingsOf, readLine, afterLine}
+use Rattle.line.specs.declared.Reading.{Reading}
+use Rattle.line.specs.declared.Line.{Line}
+use Rattle.line.specs.declared.Line.the-variants.{Asked, Malformed}
+
+-- a line's numbers with those before them, and the settings of numbers that may be none
+abbrev pub after : List ℕ → Option (List ℕ) → Option (List ℕ)
+after ns none = none
+after ns (some ms) = some (ns ++ ms)
+
+abbrev pub asksOf : Option (List ℕ) → Option Settings
+asksOf none = none
+asksOf (some ns) = settingsOf ns
+
+-- the numbers read so far, and what the whole line asks for, with the bytes that are left
+abbrev pub numbersOf : Reading → List ℕ
+numbersOf r = take (r .count) (r .numbers)
+
+abbrev pub whole : Reading → List ℕ → Option Settings
+whole r rest = asksOf (after (numbersOf r) (numbersIn (r .digits) (r .value) rest))
+
+unfoldable pub tens : ℕ → ℕ
+tens zero = 1
+tens (suc n) = 10 * tens n
+
+-- while a line is read: it is good so far, of at most 7 numbers, and the one being read has at most 7 digits
+pub record Goes (r : Reading) : Type 0 where
+  pub ok : r .ok ≡ true
+  pub room : length (r .numbers) ≡ 7
+  pub few : r .count ≤ 7
+  pub short : r .digits ≤ 7
+  pub small : r .value < tens (r .digits)
+
+-- a number is done: it stands after the others; there is none without a digit, and no eighth
+pub record Pushed (r : Reading) (end : ℕ) (n : Reading) : Type 0 where
+  pub good : n .ok ≡ true → (1 ≤ r .digits) × (r .count < 7) × (r .ok ≡ true) × (n .numbers ≡ set (r .numbers) (r .count) (r .value)) × (n .count ≡ r .count + 1)
+      × (n .digits ≡ 0) × (n .value ≡ 0) × (n .end ≡ end)
+  pub bad : n .ok ≡ false → (r .ok ≡ true) → (r .digits ≡ 0) ⊎ (7 ≤ r .count)
+
+-- one byte more: what the whole line asks for stays the same, and is nothing where that byte is malformed
+pub record Taken (r : Reading) (b : ℕ) (n : Reading) : Type 0 where
+  pub good : n .ok ≡ true → Goes n × ((rest : List ℕ) → whole n rest ≡ whole r (b ∷ rest))
+  pub bad : n .ok ≡ false → (rest : List ℕ) → whole r (b ∷ rest) ≡ none
+
+-- the line's numbers, and where the text after it begins
+pub record Scanned (input : List ℕ) (r : Reading) : Type 0 where
+  pub good : r .ok ≡ true → (length (r .numbers) ≡ 7) × (r .count ≤ 7) × (settingsOf (numbersOf r) ≡ readLine input) × (drop (r .end) input ≡ afterLine input)
+      × (r .end ≤ length input)
+  pub bad : r .ok ≡ false → readLine input ≡ none
+
+-- the settings that a line says
+abbrev pub asked : Line → Option Settings
+asked (Asked s t) = some s
+asked Malformed = none
+
+abbrev pub textOf : Line → ℕ
+textOf (Asked s t) = t
+textOf Malformed = 0
+
+pub record Said (ns : List ℕ) (count start : ℕ) (l : Line) : Type 0 where
+  pub settings : asked l ≡ settingsOf (take count ns)
+  pub text : (s : Settings) → asked l ≡ some s → textOf l ≡ start
+
+-- the line says what the model's says, and the text after it begins at its place
+pub record Reads (input : List ℕ) (l : Line) : Type 0 where
+  pub settings : asked l ≡ readLine input
+  pub text : (s : Settings) → asked l ≡ some s → (drop (textOf l) input ≡ afterLine input) × (textOf l ≤ length input)

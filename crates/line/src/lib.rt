@@ -1,0 +1,169 @@
+// What programs read and print: the line of the program `aisle`, its numbers and the settings that they ask for; and numbers in decimal.
+pub mod print;
+
+ghost use mathlib.Core.Path.{_≡_};
+ghost use Prim.Native.Nat.{_<_, _≤_};
+ghost use lib.ListN.{length};
+ghost use Rattle.line.specs.Reading.{Goes, Pushed, Taken, Scanned, Said, Reads};
+use answers::Settings;
+
+// What the line says: its settings and where the text after it begins; or that it is malformed.
+pub enum Line {
+    Asked { settings: Settings, text: usize },
+    Malformed,
+}
+
+// A line being read: the numbers so far, the digits and the value of the one that is being read, and where the line ends, once it has
+// ended. `ok` is false where it is malformed.
+pub struct Reading {
+    pub ok: bool,
+    pub numbers: [usize; 7],
+    pub count: usize,
+    pub digits: usize,
+    pub value: usize,
+    pub end: usize,
+}
+
+// A reading of nothing yet, good or malformed.
+fn blank(ok: bool) -> Reading
+    ensures { λ r. ⌜ (r .ok ≡ ok) × (r .count ≡ 0) × (r .digits ≡ 0) × (r .value ≡ 0) × (length (r .numbers) ≡ 7) ⌝ }
+{
+    Reading {
+        ok: ok,
+        numbers: [0; 7],
+        count: 0,
+        digits: 0,
+        value: 0,
+        end: 0,
+    }
+}
+
+// The number being read is done: it is one of the line's. The line goes on at the place `end`.
+fn push(r: Reading, end: usize) -> Reading
+    ensures { λ n. ⌜ Pushed r end n ⌝ }
+{
+    let at = r.count;
+    if r.digits == 0 {
+        return blank(false);
+    }
+    if 7 <= at {
+        return blank(false);
+    }
+    let mut next = r;
+    next.numbers[at] = r.value;
+    next.count = at + 1;
+    next.digits = 0;
+    next.value = 0;
+    next.end = end;
+    next
+}
+
+fn wide(b: u8) -> usize
+    ensures { λ r. ⌜ (r ≡ b) × (r < 256) ⌝ }
+{
+    b as usize
+}
+
+// One byte more of the line, which is no LF.
+fn take(r: Reading, b: u8) -> Reading
+    requires { ⌜ Goes r ⌝ ∗ ⌜ (b ≡ 10 → ⊥) ⌝ }
+    ensures { λ n. ⌜ Taken r b n ⌝ }
+{
+    if b == 32 {
+        return push(r, 0);
+    }
+    if b < 48 {
+        return blank(false);
+    }
+    if 57 < b {
+        return blank(false);
+    }
+    if 7 <= r.digits {
+        return blank(false);
+    }
+    let mut next = r;
+    next.value = 10 * r.value + wide(b - 48);
+    next.digits = r.digits + 1;
+    next
+}
+
+// The numbers of the line at the front of the input.
+fn scan(input: &[u8]) -> Reading
+    ensures { λ r. ⌜ Scanned (now (input .entry)) r ⌝ }
+{
+    let mut r = blank(true);
+    let mut i = 0;
+    while i < input.len() {
+        let b = input[i];
+        if b == 10 {
+            return push(r, i + 1);
+        }
+        r = take(r, b);
+        if !r.ok {
+            return r;
+        }
+        i += 1;
+    }
+    blank(false)
+}
+
+fn asked(
+    start: usize,
+    goal: usize,
+    depth: usize,
+    p: usize,
+    q: usize,
+    quota: usize,
+    trials: usize,
+    text: usize,
+) -> Line
+    ensures { λ r. ⌜ r ≡ Line.Asked (record { start = start; goal = goal; depth = depth; p = p; q = q; quota = quota; trials = trials }) text ⌝ }
+{
+    Line::Asked {
+        settings: Settings {
+            start: start,
+            goal: goal,
+            depth: depth,
+            p: p,
+            q: q,
+            quota: quota,
+            trials: trials,
+        },
+        text: text,
+    }
+}
+
+// The settings of a line's numbers; what the line leaves out has its default.
+fn settings(n: [usize; 7], count: usize, text: usize) -> Line
+    requires { ⌜ count ≤ 7 ⌝ ∗ ⌜ length n ≡ 7 ⌝ }
+    ensures { λ r. ⌜ Said n count text r ⌝ }
+{
+    if count == 2 {
+        return asked(n[0], n[1], 1, 1, 1, 1000000, 10, text);
+    }
+    if count == 3 {
+        return asked(n[0], n[1], n[2], 1, 1, 1000000, 10, text);
+    }
+    if count == 5 {
+        return asked(n[0], n[1], n[2], n[3], n[4], 1000000, 10, text);
+    }
+    if count == 6 {
+        return asked(n[0], n[1], n[2], n[3], n[4], n[5], 10, text);
+    }
+    if count == 7 {
+        return asked(n[0], n[1], n[2], n[3], n[4], n[5], n[6], text);
+    }
+    Line::Malformed
+}
+
+// What the line at the front of the input asks for, and where the floor text begins.
+pub fn read_line(input: &[u8]) -> Line
+    ensures { λ r. ⌜ Reads (now (input .entry)) r ⌝ }
+{
+    let r = scan(input);
+    if !r.ok {
+        return Line::Malformed;
+    }
+    let n = r.numbers;
+    settings(n, r.count, r.end)
+}

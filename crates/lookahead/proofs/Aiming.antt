@@ -1,0 +1,106 @@
+-- The keys in a window that is worked out give the model's new figure and target.
+-- Assumes nothing.
+use mathlib.Core.Path.{_≡_, refl, ap, sym, _∙_, subst}
+use mathlib.Core.List.{List}
+use Prim.Native.Nat.{ℕ, zero, suc, _+_, _-_, _*_, _/_, _%_, _≤_, _<_}
+use native.Mathlib.Omega.{arith}
+use native.Mathlib.Decide.{decLe}
+use lib.ListN.{length, getD, replicate, length-replicate, getD-replicate}
+use Rattle.learning.specs.Ahead.{Window, Ahead}
+use Rattle.learning.specs.Trial.{figure}
+use Rattle.learning.specs.Ground.{Ground, Goal, netOf, ringOf, lastOf, legOf}
+use Rattle.learning.proofs.Sound.{ring-self}
+use Rattle.learning.proofs.Unique.{ring-unique}
+use Rattle.learning.proofs.Found.{found}
+use Rattle.answers.specs.declared.Job.{Job}
+use Rattle.model.specs.Floor.{Floor, size}
+use Rattle.model.specs.Checks.{floorOf, groundIn}
+use Rattle.model.specs.Lookahead.{seen, ring, w}
+use Rattle.model.proofs.Looking.{full-ring}
+use Rattle.lookahead.specs.Contract.{Asked, Near, Seen, Figures, Aimed}
+use Rattle.lookahead.specs.Contract as contract
+use Rattle.lookahead.specs.Marks.{In}
+use Rattle.lookahead.specs.Costs.{at, Listing}
+use Rattle.lookahead.specs.Bests.{ringAt, unset, Scores, Bests, Topped}
+use Rattle.lookahead.proofs.Meaning.{start-on, not-goal, job-window, near-cell, near-few, near-leg, near-of, near-high, seen-window}
+use Rattle.lookahead.proofs.Weighing.{weighed, weighed-high}
+
+-- no cell is entered
+pub bests-none : (base : ℕ) (mark cost table : List ℕ) (p : ℕ) (list : List ℕ) → Bests base mark cost table p list 0 (replicate 9 4294967296)
+bests-none base mark cost table p list = record {
+  size = length-replicate {A = ℕ} 9 4294967296;
+  low = λ i h. absurd (omega arith);
+  met = λ k l h. absurd (omega (arith, h, getD-replicate {A = ℕ} 9 k 4294967296 0 (omega arith)));
+}
+
+module _ (j : Job) (bytes : List ℕ) (s : ℕ) (Q : Asked j bytes s) (table : List ℕ) (T : Figures j bytes table)
+    (base : ℕ) (mark cost list : List ℕ) (n last : ℕ) (W : contract.Window j bytes s base mark cost list n last)
+  where
+    abbrev G : Ground
+    G = groundIn j bytes
+
+    last-eq : last ≡ lastOf G (j .depth) s
+    unfolding lastOf
+    last-eq = W .last-is
+
+    Y : Window (netOf G) (Goal G) (j .depth) s last (ringAt base mark) (at cost)
+    Y = subst (λ m. Window (netOf G) (Goal G) (j .depth) s m (ringAt base mark) (at cost)) (sym last-eq) (seen-window j bytes s Q base mark cost (W .view))
+
+    near : (x : ℕ) → In base mark x → Near j bytes s x
+    near = near-of j bytes s Q base mark cost (W .view)
+
+    pub scores : Scores base mark cost table (j .p)
+    scores = record {
+      weight = T .weight;
+      marks = W .view .spent .size;
+      costs = W .view .size;
+      inside = λ x i. (near-few j bytes s Q x (near x i), omega (arith, near-cell j bytes s Q x (near x i), T .size));
+      top = near-high j bytes s Q base mark cost (W .view);
+      small = λ x i. (omega (arith, W .view .costs x (near x i), near-leg j bytes s Q x (near x i)), T .small x);
+    }
+
+    pub listing : Listing base mark list n
+    listing = record {
+      fits = omega (arith, W .fits, W .room);
+      early = λ i h. omega (arith, W .view .marks (getD list i 0) (W .cells i h));
+      listed = λ x i. W .listed x (near x i);
+    }
+
+    -- each ring up to the last has a cell
+    full : (k : ℕ) → k ≤ last → (x : ℕ) × (ringAt base mark x ≡ k)
+    unfolding ringOf
+    full zero h = (s, omega (arith, ring-self Y))
+    full (suc k) h =
+        let (x, l, e) = full-ring j bytes (seen j bytes s) last (W .full) (suc k) (omega arith) h in
+        (x, ring-unique (job-window j bytes s Q) (seen-window j bytes s Q base mark cost (W .view)) x (omega (arith, e, h, last-eq)) ∙ e)
+
+    module _ (best : List ℕ) (top : ℕ) (B : Bests base mark cost table (j .p) list n best) (M : Topped best (last + 1) top) where
+      abbrev target : ℕ
+      target = getD best last 0 % 4096
+
+      deep : last ≤ 8
+      deep = omega (arith, W .depth, Q .deep)
+
+      A : Ahead (j .p) last (ringAt base mark) (at cost) (figure table) (top / 4096) target
+      A = weighed base mark cost table (j .p) list n last best scores listing B deep full (W .some) top M
+
+      on-last : ringOf G (j .depth) s target ≡ lastOf G (j .depth) s
+      on-last =
+          let e = A .on-last in
+          ring-unique (seen-window j bytes s Q base mark cost (W .view)) (job-window j bytes s Q) target (omega (arith, e, last-eq)) ∙ e ∙ last-eq
+
+      pub target-near : Near j bytes s (getD best last 0 % 4096)
+      unfolding ringOf lastOf
+      target-near = omega (arith, on-last)
+
+      pub aimed : (leg : ℕ) → leg ≡ getD cost (getD best last 0 % 4096) 0
+          → Aimed j bytes s table (record { figure = top / 4096; target = getD best last 0 % 4096; leg = leg })
+      unfolding ringOf lastOf legOf
+      aimed leg e =
+          let F = found G (j .depth) (j .p) s table (Q .shallow) (start-on j bytes s Q) (not-goal j bytes s Q) Y A in record {
+            figure = F .figure-is;
+            target = F .target-is;
+            leg = e ∙ F .cost-is;
+            on-last = on-last;
+            high = weighed-high base mark cost table (j .p) list n last best scores listing B deep full (W .some) top M;
+          }

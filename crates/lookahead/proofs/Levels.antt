@@ -1,0 +1,233 @@
+-- From ring to ring: the marks are the fewest moves from s, and each ring is the one after the ring before it.
+-- Assumes nothing.
+use mathlib.Core.Path.{_≡_, refl, ap, sym, _∙_, subst}
+use mathlib.Core.List.{List}
+use mathlib.Core.Bool.{true}
+use mathlib.Core.Logic.{inl, inr}
+use Prim.Native.Nat.{ℕ, suc, _+_, _-_, _*_, _≤_, _<_}
+use native.Mathlib.Omega.{arith}
+use native.Mathlib.Decide.{decLe, decLt}
+use lib.ListN.{length, getD, set, length-set}
+use lib.Seq.{getD-set-same}
+use Rattle.learning.specs.Walk.{Walk, stop, move, Any}
+use Rattle.learning.proofs.Walks.{restate}
+use Rattle.model.specs.Floor.{Floor, Sized, free, price}
+use Rattle.floor.specs.declared.Step.the-variants.{To}
+use Rattle.floor.specs.Moves.{stepOf}
+use Rattle.floor.proofs.Steps.{price-step}
+use Rattle.lookahead.specs.Contract.{Fresh}
+use Rattle.lookahead.specs.Marks.{net, State, state, begun, markOf, costAt, cellOf, In, Sizes, Room, Spread, Kept, Grew, Swept, Segment, blanks}
+use Rattle.lookahead.specs.Rings.{Done, Level, Full, Marked, Framed, Blocked}
+use Rattle.lookahead.proofs.Blanks.{blanks-set, blanks-all}
+use Rattle.lookahead.proofs.Stores.{by-store}
+use Rattle.lookahead.proofs.Grow.{kept-in}
+
+-- only s has a mark
+module _ (f : Floor) (s base : ℕ) (mark cost list : List ℕ) (on : free f s ≡ true) (few : s < 4096) (F : Fresh base mark cost list) where
+  abbrev S₀ : State
+  S₀ = begun base mark cost list s
+
+  inside : s < length mark
+  inside = omega (arith, F .marks .size)
+
+  only : (x : ℕ) → In base (S₀ .mark) x → x ≡ s
+  only x = by-store (λ y. base ≤ y → x ≡ s) mark s base x inside (λ e p. e) (λ n p. absurd (omega (arith, F .marks .below x)))
+
+  mark-s : markOf S₀ s ≡ base
+  mark-s = getD-set-same mark s base 0 inside
+
+  cost-s : costAt S₀ s ≡ 0
+  cost-s = getD-set-same cost s 0 0 (omega (arith, F .costs))
+
+  list-s : cellOf S₀ 0 ≡ s
+  list-s = getD-set-same list 0 s 0 (omega (arith, F .cells))
+
+  mark-le : (x : ℕ) → markOf S₀ x ≤ base
+  mark-le x = by-store (λ y. y ≤ base) mark s base x inside (λ e. omega arith) (λ n. omega (arith, F .marks .below x))
+
+  begin-sizes : Sizes base S₀
+  begin-sizes = record {
+    marks = simp length-set (F .marks .size);
+    costs = simp length-set (F .costs);
+    cells = simp length-set (F .cells);
+    count = omega (arith, blanks-set base mark s base inside (F .marks .below s) (omega arith), blanks-all base mark (F .marks .below), F .marks .size);
+  }
+
+  begin-room : Room f base S₀
+  begin-room = record { sizes = begin-sizes; free = λ x p. rw (only x p) on; cheap = λ x p. rw (only x p, cost-s) (omega arith) }
+
+  first : (i : ℕ) → i < 1 → markOf S₀ (cellOf S₀ i) ≡ base
+  first i p = let e : i ≡ 0 = omega arith in rw (e, list-s) mark-s
+
+  begin-spread : Spread f s base base 0 S₀
+  begin-spread = record {
+    top = mark-le;
+    walks = λ x p. rw (only x p, cost-s, mark-s) (restate refl (omega arith) (stop (rw mark-s (omega arith))));
+    listed = λ x p. (0, omega arith, list-s ∙ sym (only x p), λ e. omega arith);
+    early = λ i p. omega (arith, first i p);
+    late = λ i p l. first i p;
+    upto = omega arith;
+  }
+
+  pub level-begin : Level f s base base 0 (begun base mark cost list s)
+  level-begin = record { room = begin-room; spread = begin-spread; done = λ x p q m d v l e. absurd (omega arith); start = mark-s }
+
+  pub full-begin : Full base base (begun base mark cost list s)
+  full-begin g p q = (s, mark-s ∙ omega (arith, p, q))
+
+  -- the goal, another cell, has no mark
+  pub begin-other : (x : ℕ) → (s ≡ x → ⊥) → markOf (begun base mark cost list s) x < base
+  begin-other x n = by-store (λ y. y < base) mark s base x inside (λ e. absurd (n (sym e))) (λ m. F .marks .below x)
+
+-- the ring that is marked last is left next
+module _ (f : Floor) (z : Sized f) (s base k from : ℕ) (S : State) (L : Level f s base k from S) where
+  pub level-segment : base ≤ k → k ≤ base + 7 → base ≤ 4294967279 → Segment base from (S .n) k S
+  level-segment p q r =
+      record { order = L .spread .upto; end = refl; ring = record { first = p; last = q; room = r }; marked = λ j a b. L .spread .late j b a }
+
+  -- no cell has the next mark yet
+  advance : Spread f s base (k + 1) (S .n) S
+  advance =
+      let G = L .spread in record {
+        top = λ x. omega (arith, G .top x);
+        walks = G .walks;
+        listed = λ x p. let l = G .listed x p in (l .0, l .1, l .2, λ e. absurd (omega (arith, e, G .top x)));
+        early = G .early;
+        late = λ i p q. absurd (omega arith);
+        upto = omega arith;
+      }
+
+  module _ (S′ : State) (W : Swept f base k from (S .n) S S′) where
+    K : Kept base S S′
+    K = W .grew .kept
+
+    next-spread : Spread f s base (k + 1) (S .n) S′
+    next-spread = W .grew .spread s (S .n) advance
+
+    -- a mark up to k was there before
+    was : (x : ℕ) → In base (S′ .mark) x → markOf S′ x ≤ k → In base (S .mark) x
+    was x p q =
+        let l = next-spread .listed x p in
+        go (l .0) (l .1) (l .2) (decLt (l .0) (S .n))
+      where
+        go : (i : ℕ) → i < S′ .n → cellOf S′ i ≡ x → Dec (i < S .n) → In base (S .mark) x
+        go i a e (yes b) = subst (In base (S .mark)) (sym (K .cells i b) ∙ e) (L .spread .early i b)
+        go i a e (no b) = absurd (omega (arith, next-spread .late i a (omega (arith, b)), ap (markOf S′) e))
+
+    next-done : Done f base (k + 1) S′
+    next-done x p q m d v hm e = split (decLt (markOf S x) k)
+      where
+        px : In base (S .mark) x
+        px = was x p (omega (arith, q))
+
+        same : markOf S′ x ≡ markOf S x
+        same = K .marks x px
+
+        split : Dec (markOf S x < k) → In base (S′ .mark) d × (markOf S′ d ≤ markOf S′ x + 1)
+        split (yes b) =
+            let o = L .done x px b m d v hm e in
+            (kept-in S S′ K d (o .0), omega (arith, o .1, K .marks d (o .0), same))
+        split (no b) =
+            let l = L .spread .listed x px in
+            let t : markOf S x ≡ k = omega (arith, b, same, q) in
+            let o = W .outs (l .0) (l .3 t) (l .1) m hm d v (subst (λ y. stepOf f y m ≡ To d v) (sym (l .2)) e) in
+            (o, omega (arith, next-spread .top d, t, same))
+
+    pub level-next : Level f s base (k + 1) (S .n) S′
+    level-next = record {
+      room = W .grew .room;
+      spread = next-spread;
+      done = next-done;
+      start = K .marks s (omega (arith, L .start)) ∙ L .start;
+    }
+
+    -- where nothing was added no cell has the next mark
+    pub level-empty : S′ .n ≡ S .n → (x : ℕ) → base ≤ k → markOf S′ x ≤ k
+    level-empty e x b = by (decLe (markOf S′ x) k)
+      where
+        by : Dec (markOf S′ x ≤ k) → markOf S′ x ≤ k
+        by (yes h) = h
+        by (no h) =
+            let t : markOf S′ x ≡ k + 1 = omega (arith, h, next-spread .top x) in
+            let l = next-spread .listed x (omega (arith, t, b)) in
+            absurd (omega (arith, l .3 t, l .1, e))
+
+    -- a cell that had no mark has the next one or none
+    pub level-goal : (x : ℕ) → markOf S x < base → In base (S′ .mark) x → markOf S′ x ≡ k + 1
+    level-goal x far p = by (decLe (markOf S′ x) k)
+      where
+        by : Dec (markOf S′ x ≤ k) → markOf S′ x ≡ k + 1
+        by (yes h) = absurd (omega (arith, far, was x p h))
+        by (no h) = omega (arith, h, next-spread .top x)
+
+    pub full-next : S .n < S′ .n → Full base k S → Full base (k + 1) S′
+    full-next l F g p q = by (decLe g k)
+      where
+        by : Dec (g ≤ k) → (x : ℕ) × (markOf S′ x ≡ g)
+        by (yes h) = let x = F g p h in (x .0, K .marks (x .0) (omega (arith, x .1, p)) ∙ x .1)
+        by (no h) = (cellOf S′ (S .n), next-spread .late (S .n) l (omega arith) ∙ omega (arith, h, q))
+
+  -- a walk of n moves from a cell of ring j leads to a ring of at most j + n
+  reach : {a x c n : ℕ} → Walk (net f) Any a x c n → (j : ℕ) → In base (S .mark) a → markOf S a ≤ base + j → base + j + n ≤ k
+      → In base (S .mark) x × (markOf S x ≤ base + j + n)
+  reach (stop t) j i l h = (i, omega arith)
+  reach (move {a = a} {b = b} t e w) j i l h =
+      let (m, lm, step) = price-step f z a b (omega (arith, e .0, e .1)) in
+      let o = L .done a i (omega arith) m b (price f a b) lm step in
+      let r = reach w (j + 1) (o .0) (omega (arith, o .1)) (omega arith) in
+      (r .0, omega (arith, r .1))
+
+  pub level-marked : (r : ℕ) → k ≡ base + r → Marked f s base r S
+  level-marked r e = record {
+    room = L .room;
+    top = λ x. omega (arith, L .spread .top x);
+    walks = L .spread .walks;
+    fewest = λ x c n w l.
+        let t = reach w 0 (omega (arith, L .start)) (omega (arith, L .start)) (omega arith) in
+        (t .0, omega (arith, t .1));
+    listed = λ x p. let l = L .spread .listed x p in (l .0, l .1, l .2);
+    early = L .spread .early;
+  }
+
+-- the answers: the depth is reached; the goal is in the ring found last; the ring found last is empty
+module _
+    (f : Floor) (z : Sized f) (s goal depth base k from r : ℕ) (S : State) (L : Level f s base k from S)
+    (e : k ≡ base + r) (far : markOf S goal < base) (F : Full base k S)
+  where
+    pub level-framed : r ≡ depth → 1 ≤ depth → Framed f s goal depth base r S
+    level-framed d p = record {
+      marked = level-marked f z s base k from S L r e;
+      within = omega arith;
+      some = omega arith;
+      ends = inl d;
+      nearer = λ i. absurd (omega (arith, i, far));
+      full = subst (λ y. Full base y S) e F;
+    }
+
+    module _ (S′ : State) (W : Swept f base k from (S .n) S S′) (short : r < depth) where
+      abbrev L′ : Level f s base (k + 1) (S .n) S′
+      L′ = level-next f z s base k from S L S′ W
+
+      pub next-blocked : S′ .n ≡ S .n → Blocked f s goal depth base r S′
+      next-blocked q =
+          let none : (x : ℕ) → markOf S′ x ≤ k = λ x. level-empty f z s base k from S L S′ W q x (omega (arith, e)) in record {
+            marked = level-marked f z s base (k + 1) (S .n) S′ L′ (r + 1) (omega (arith, e));
+            short = short;
+            empty = λ x. omega (arith, none x, e);
+            far = away (decLe base (markOf S′ goal)) (none goal);
+          }
+        where
+          away : Dec (base ≤ markOf S′ goal) → markOf S′ goal ≤ k → markOf S′ goal < base
+          away (yes p) l = absurd (omega (arith, l, level-goal f z s base k from S L S′ W goal far p))
+          away (no p) l = omega (arith, p)
+
+      pub next-framed : S .n < S′ .n → In base (S′ .mark) goal → Framed f s goal depth base (r + 1) S′
+      next-framed l p =
+          let g : markOf S′ goal ≡ base + (r + 1) = level-goal f z s base k from S L S′ W goal far p ∙ omega (arith, e) in record {
+            marked = level-marked f z s base (k + 1) (S .n) S′ L′ (r + 1) (omega (arith, e));
+            within = omega arith;
+            some = omega arith;
+            ends = inr g;
+            nearer = λ i. g;
+            full = subst (λ y. Full base y S′) (omega (arith, e)) (full-next f z s base k from S L S′ W l F);
+          }

@@ -1,0 +1,228 @@
+-- What the lists mean: a window in the lists is the model's, and the other way round.
+-- Assumes nothing.
+use mathlib.Core.Path.{_≡_, refl, ap, sym, _∙_, subst}
+use mathlib.Core.List.{List, [], _∷_}
+use mathlib.Core.Bool.{true, false}
+use mathlib.Core.Logic.{_⊎_, inl, inr}
+use Prim.Native.Nat.{ℕ, _+_, _-_, _*_, _≤_, _<_}
+use native.Mathlib.Omega.{arith}
+use native.Mathlib.Decide.{decLe}
+use lib.ListN.{length, getD}
+use Rattle.learning.specs.Walk.{Walk, Any}
+use Rattle.learning.specs.Ahead.{Window}
+use Rattle.learning.specs.Ground.{Ground, Goal, netOf, ringOf, lastOf, legOf}
+use Rattle.learning.proofs.Walks.{turn, widen}
+use Rattle.learning.proofs.Sound.{ring-self, crosses}
+use Rattle.learning.proofs.Unique.{last-unique, ring-unique, cost-unique}
+use Rattle.learning.proofs.Ground.{window}
+use Rattle.learning.proofs.Look.{walk-inside}
+use Rattle.learning.proofs.Same.{window-same}
+use Rattle.learning.proofs.Route.{leg-high}
+use Rattle.answers.specs.declared.Job.{Job}
+use Rattle.model.specs.Floor.{Floor, Sized, size, free, price}
+use Rattle.model.specs.Grounds.{price-high}
+use Rattle.model.specs.Checks.{floorOf, groundIn}
+use Rattle.model.specs.Lookahead.{seen, ring, w, emptyRing}
+use Rattle.model.proofs.Cells.{cells-le}
+use Rattle.model.proofs.Moves.{free-lt}
+use Rattle.model.proofs.Looking.{goal-only, empty-false, empty-true, empty-ring, full-ring}
+use Rattle.lookahead.specs.Contract.{Spent, Used, Asked, Near, Seen}
+use Rattle.lookahead.specs.Contract as contract
+use Rattle.lookahead.specs.Marks.{State, state, markOf, In}
+use Rattle.lookahead.specs.Rings.{Marked, Framed, Blocked}
+use Rattle.lookahead.specs.Costs.{at, Relaxed}
+use Rattle.lookahead.specs.Bests.{ringAt}
+use Rattle.lookahead.proofs.Weighing.{ring-in, in-ring}
+use Rattle.lookahead.proofs.Seeing.{array-window}
+
+module _ (j : Job) (bytes : List ℕ) (s : ℕ) (Q : Asked j bytes s) where
+  abbrev f : Floor
+  f = floorOf j bytes
+
+  abbrev G : Ground
+  G = groundIn j bytes
+
+  abbrev d : ℕ
+  d = j .depth
+
+  pub start-on : s < size (floorOf j bytes)
+  start-on = free-lt f (Q .sized) s (Q .start)
+
+  pub not-goal : ¬ Goal (groundIn j bytes) s
+  not-goal g = Q .apart (goal-only f (j .goal) s g)
+
+  pub job-window : Window (netOf (groundIn j bytes)) (Goal (groundIn j bytes)) (j .depth) s (lastOf (groundIn j bytes) (j .depth) s) (ringOf (groundIn j bytes) (j .depth) s) (legOf (groundIn j bytes) (j .depth) s)
+  job-window = window G d s start-on (Q .shallow) not-goal
+
+  few-cells : size f ≤ 4096
+  few-cells = cells-le (j .width) (j .height) (Q .sized .narrow) (Q .sized .low)
+
+  -- a cell of the window is on the floor, and its w is small
+  inside : (x : ℕ) → ringOf G d s x ≤ lastOf G d s → x < size f
+  inside x h = walk-inside G start-on (turn (job-window .attained x h .1))
+
+  pub near-cell : (x : ℕ) → Near j bytes s x → x < size (floorOf j bytes)
+  unfolding ringOf lastOf
+  near-cell x h = inside x h
+
+  pub near-few : (x : ℕ) → Near j bytes s x → x < 4096
+  near-few x h = omega (arith, near-cell x h, few-cells)
+
+  low-leg : (x : ℕ) → ringOf G d s x ≤ lastOf G d s → legOf G d s x ≤ 112
+  low-leg x h = omega (arith, leg-high job-window 14 (λ a b c e. omega (arith, e .1, price-high f a b)) x h, h, job-window .depth, Q .deep)
+
+  pub near-leg : (x : ℕ) → Near j bytes s x → w j bytes (seen j bytes s) x ≤ 112
+  unfolding ringOf lastOf legOf
+  near-leg x h = low-leg x h
+
+  -- from a window in the lists to the model's
+  module _ (base last : ℕ) (mark cost : List ℕ) (W : Window (netOf (groundIn j bytes)) (Goal (groundIn j bytes)) (j .depth) s last (ringAt base mark) (at cost)) where
+    last-same : last ≡ lastOf G d s
+    last-same = last-unique W job-window
+
+    Y : Window (netOf G) (Goal G) d s (lastOf G d s) (ringAt base mark) (at cost)
+    Y = subst (λ m. Window (netOf G) (Goal G) d s m (ringAt base mark) (at cost)) last-same W
+
+    near-mark : (x : ℕ) → ringOf G d s x ≤ lastOf G d s → getD mark x 0 ≡ base + ringOf G d s x
+    near-mark x h = omega (arith, ring-unique job-window Y x h, h, job-window .depth, Q .deep)
+
+    far-mark : (x : ℕ) → lastOf G d s < ringOf G d s x → ringAt base mark x ≤ lastOf G d s → ⊥
+    far-mark x h l = omega (arith, h, l, ring-unique Y job-window x l)
+
+    back : (x : ℕ) → ringAt base mark x ≤ lastOf G d s → ringOf G d s x ≡ ringAt base mark x
+    back x l = ring-unique Y job-window x l
+
+    pub last-seen : last ≡ seen j bytes s .last
+    unfolding lastOf
+    last-seen = last-same
+
+    pub array-seen : Spent base mark → length cost ≡ 4096 → ((x : ℕ) → getD mark x 0 ≤ base + last) → Seen j bytes s base mark cost
+    unfolding ringOf lastOf legOf
+    array-seen p q top = record {
+      spent = p;
+      size = q;
+      marks = near-mark;
+      costs = λ x h. cost-unique job-window Y x h;
+      none = λ x h. by x h (decLe base (getD mark x 0));
+    }
+      where
+        by : (x : ℕ) → lastOf G d s < ringOf G d s x → Dec (base ≤ getD mark x 0) → getD mark x 0 < base
+        by x h (yes i) = absurd (far-mark x h (in-ring base mark x (lastOf G d s) i (omega (arith, top x, last-same))))
+        by x h (no i) = omega (arith, i)
+
+    pub mark-near : (x : ℕ) → ringAt base mark x ≤ last → Near j bytes s x
+    unfolding ringOf lastOf
+    mark-near x h = let l : ringAt base mark x ≤ lastOf G d s = omega (arith, h, last-same) in omega (arith, back x l, l)
+
+    pub near-ring : (x : ℕ) → Near j bytes s x → ringAt base mark x ≤ last
+    unfolding ringOf lastOf
+    near-ring x h = omega (arith, ring-unique job-window Y x h, h, last-same)
+
+    -- each ring up to the last has a cell
+    pub array-full : ((k : ℕ) → base ≤ k → k ≤ base + last → (x : ℕ) × (getD mark x 0 ≡ k)) → emptyRing j bytes (seen j bytes s) last ≡ false
+    unfolding ringOf
+    array-full full = empty-false j bytes (seen j bytes s) last ring-cell
+      where
+        ring-cell : (i : ℕ) → 1 ≤ i → i ≤ last → (x : ℕ) × (x < size f) × (ringOf G d s x ≡ i)
+        ring-cell i a h =
+            let x = full (base + i) (omega arith) (omega arith) in
+            let e : ringAt base mark (x .0) ≡ i = omega (arith, x .1) in
+            let l : ringAt base mark (x .0) ≤ lastOf G d s = omega (arith, e, h, last-same) in
+            (x .0, inside (x .0) (omega (arith, back (x .0) l, l)), back (x .0) l ∙ e)
+
+  -- the window that `look` leaves
+  module _ (base last n : ℕ) (mark cost list : List ℕ) (F : Framed (floorOf j bytes) s (j .goal) (j .depth) base last (state mark cost list n)) (room : base ≤ 4294967279)
+      (cost′ : List ℕ) (R : Relaxed (floorOf j bytes) base mark cost cost′)
+    where
+      W : Window (netOf G) (Goal G) d s last (ringAt base mark) (at cost′)
+      W = array-window f s (j .goal) d base last (state mark cost list n) F (Q .deep) (Q .sized) (Q .bench) cost′ R
+
+      spent : Spent base mark
+      spent = record { size = F .marked .room .sizes .marks; room = room; below = λ x. omega (arith, F .marked .top x, F .within, Q .deep) }
+
+      pub looked : contract.Window j bytes s base mark cost′ list n last
+      looked = record {
+        view = array-seen base last mark cost′ W spent (R .costs .costs) (F .marked .top);
+        room = F .marked .room .sizes .cells;
+        last-is = last-seen base last mark cost′ W;
+        some = F .some;
+        depth = F .within;
+        full = array-full base last mark cost′ W (F .full);
+        fits = omega (arith, F .marked .room .sizes .count);
+        cells = λ i h. mark-near base last mark cost′ W (getD list i 0) (in-ring base mark (getD list i 0) last (F .marked .early i h) (F .marked .top (getD list i 0)));
+        listed = λ x h. F .marked .listed x (ring-in base mark x (omega (arith, near-ring base last mark cost′ W x h, F .within, Q .deep)));
+      }
+
+  -- number 9's case
+  module _ (base r n : ℕ) (mark cost list : List ℕ) (B : Blocked (floorOf j bytes) s (j .goal) (j .depth) base r (state mark cost list n)) (room : base ≤ 4294967279) where
+    goal-far : (y : ℕ) → Goal G y → ringOf G d s y ≡ lastOf G d s → lastOf G d s ≤ r → ⊥
+    goal-far y g e h =
+        let (c, v) = job-window .attained y (omega (arith, e)) in
+        let m = B .marked .fewest y c (ringOf G d s y) v (omega (arith, e, h)) in
+        omega (arith, m .0, B .far, ap (λ x. getD mark x 0) (goal-only f (j .goal) y g))
+
+    -- ring r + 1 is a ring up to the last
+    below : (lastOf G d s ≡ d) ⊎ ((y : ℕ) × Goal G y × (ringOf G d s y ≡ lastOf G d s)) → Dec (lastOf G d s ≤ r) → r < lastOf G d s
+    below e (no h) = omega (arith, h)
+    below (inl e) (yes h) = absurd (omega (arith, e, h, B .short))
+    below (inr (y, g, e)) (yes h) = absurd (goal-far y g e h)
+
+    r-below : r < lastOf G d s
+    r-below = below (job-window .ends) (decLe (lastOf G d s) r)
+
+    -- and has no cell
+    none : (x : ℕ) → x < size f → ringOf G d s x ≡ r + 1 → ⊥
+    none x l e =
+        let (c, v) = job-window .attained x (omega (arith, e, r-below)) in
+        let m = B .marked .fewest x c (ringOf G d s x) v (omega (arith, e)) in
+        let back = turn (widen {S′ = Any} (λ y k. tt) (B .marked .walks x (m .0))) in
+        omega (arith, job-window .fewest x _ _ back (omega (arith, B .empty x, r-below)), B .empty x, e)
+
+    pub blocked : Used base mark cost list × (emptyRing j bytes (seen j bytes s) (seen j bytes s .last) ≡ true)
+    unfolding ringOf lastOf
+    blocked =
+        let R = B .marked .room .sizes in (
+          record { marks = record { size = R .marks; room = room; below = λ x. omega (arith, B .empty x, B .short, Q .deep) }; costs = R .costs; cells = R .cells },
+          empty-true j bytes (seen j bytes s) (seen j bytes s .last) (r + 1) (omega arith) (omega (arith, r-below)) none,
+        )
+
+  -- where a ring up to the last is empty no cell is on the last ring
+  pub empty-last : emptyRing j bytes (seen j bytes s) (seen j bytes s .last) ≡ true → (x : ℕ) → ring j bytes (seen j bytes s) x ≡ seen j bytes s .last → ⊥
+  unfolding ringOf lastOf
+  empty-last e x on =
+      let (i, a, h, none) = empty-ring j bytes (seen j bytes s) (seen j bytes s .last) e in
+      let (c, v) = job-window .attained x (omega (arith, on)) in
+      let t = crosses job-window {k = i} h (omega (arith, ring-self job-window)) (omega (arith, on, h)) v in
+      none (t .at) (inside (t .at) (omega (arith, t .on, h))) (t .on)
+
+  -- from the model's window in the lists back to `learning`'s
+  module _ (base : ℕ) (mark cost : List ℕ) (E : Seen j bytes s base mark cost) where
+    agree : (x : ℕ) → ringOf G d s x ≤ lastOf G d s → (ringAt base mark x ≡ ringOf G d s x) × (at cost x ≡ legOf G d s x)
+    unfolding ringOf lastOf legOf
+    agree x h = (omega (arith, E .marks x h), E .costs x h)
+
+    far : (x : ℕ) → lastOf G d s < ringOf G d s x → lastOf G d s < ringAt base mark x
+    unfolding ringOf lastOf
+    far x h = omega (arith, E .none x h, job-window .depth, Q .deep)
+
+    pub seen-window : Window (netOf (groundIn j bytes)) (Goal (groundIn j bytes)) (j .depth) s (lastOf (groundIn j bytes) (j .depth) s) (ringAt base mark) (at cost)
+    seen-window = window-same (ringAt base mark) (at cost) job-window agree far
+
+    -- a marked cell is in the window, and its mark is one of the rings 0 to 8
+    pub near-of : (x : ℕ) → In base mark x → Near j bytes s x
+    near-of x i = by (decLe (ring j bytes (seen j bytes s) x) (seen j bytes s .last))
+      where
+        by : Dec (Near j bytes s x) → Near j bytes s x
+        by (yes h) = h
+        by (no h) = absurd (omega (arith, i, E .none x (omega (arith, h))))
+
+    low : (x : ℕ) → lastOf G d s < ringOf G d s x → getD mark x 0 ≤ base + 8
+    unfolding ringOf lastOf
+    low x h = omega (arith, E .none x h)
+
+    pub near-high : (x : ℕ) → getD mark x 0 ≤ base + 8
+    near-high x = by (decLe (ringOf G d s x) (lastOf G d s))
+      where
+        by : Dec (ringOf G d s x ≤ lastOf G d s) → getD mark x 0 ≤ base + 8
+        by (yes h) = omega (arith, agree x h .0, h, job-window .depth, Q .deep)
+        by (no h) = low x (omega (arith, h))

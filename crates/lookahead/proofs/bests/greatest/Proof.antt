@@ -1,0 +1,60 @@
+-- `lookahead::bests::greatest` meets its contract. The loop's invariant: top is the greatest of the entries 1 to k - 1.
+-- Assumes nothing.
+use Prim.Native.Nat.{ℕ, _+_, _-_, _≤_, _<_}
+use mathlib.Core.Path.{_≡_, subst}
+use native.Mathlib.Omega.{arith}
+use borrow.Author.Needs.{needs}
+use Rattle.lookahead.proofs.Weighing.{topped-none, topped-more}
+use Rattle.lookahead.specs.Bests.{Topped}
+use Rattle.lookahead.proofs.bests.greatest.Statement.{statement}
+use Rattle.lookahead.proofs.bests.greatest.Tie as tie
+
+abbrev Inv-loop : tie.InvT-loop
+Inv-loop best last top₀ k₀ top k = (1 ≤ k) × (k ≤ last + 1) × Topped best k top
+
+abbrev μ-loop : tie.MeasureT-loop
+μ-loop best last top₀ k₀ top k = last + 1 - k
+
+loop-holds : tie.Need-loop-holds Inv-loop μ-loop
+loop-holds c = (omega arith, omega arith, topped-none (c .before .args .best .now))
+
+mul-larger : tie.Need-mul-larger Inv-loop μ-loop
+mul-larger c = search needs
+
+shared-slice-read-larger : tie.Need-shared-slice-read-larger Inv-loop μ-loop
+shared-slice-read-larger c = omega (arith, c .before .before .before .before .pre .0)
+
+larger-requires : tie.Need-larger-requires Inv-loop μ-loop
+larger-requires c κs = tt
+
+add-k : tie.Need-add-k Inv-loop μ-loop
+add-k c = omega arith
+
+loop-less : tie.Need-loop-less Inv-loop μ-loop
+loop-less c = omega arith
+
+loop-again : tie.Need-loop-again Inv-loop μ-loop
+loop-again c =
+    let l = c .before .before .before .loop in
+    (omega arith, omega arith, rw (c .larger .ensures) (topped-more (c .before .before .before .before .before .args .best .now) (l .k) (l .top) (l .inv .0) (l .inv .2)))
+
+returns : tie.Need-returns Inv-loop μ-loop
+returns c =
+    let l = c .before .loop in
+    let e : l .k ≡ c .before .before .before .args .last + 1 = omega arith in
+    subst (λ k. Topped (c .before .before .before .args .best .now) k (l .top)) e (l .inv .2)
+
+pub greatest-spec : {M : Type 1} → statement M
+greatest-spec =
+    tie.close
+    (tie.spec
+    Inv-loop
+    μ-loop
+    loop-holds
+    mul-larger
+    shared-slice-read-larger
+    larger-requires
+    add-k
+    loop-less
+    loop-again
+    returns)

@@ -1,0 +1,71 @@
+-- `lookahead::clear` meets its contract. The loop's invariant: the marks at the first i places are 0.
+-- Assumes nothing.
+use Prim.Native.Nat.{ℕ, _+_, _-_, _≤_, _<_}
+use mathlib.Core.Path.{_≡_, refl, sym, _∙_}
+use native.Mathlib.Decide.{decLt}
+use native.Mathlib.Omega.{arith}
+use borrow.Author.Count.{below-more}
+use borrow.Author.Needs.{needs}
+use mathlib.Core.List.{List}
+use lib.ListN.{length, getD, set, length-set, List·getD-eq-default}
+use Rattle.lookahead.proofs.Stores.{by-store}
+use Rattle.lookahead.proofs.clear.Statement.{statement}
+use Rattle.lookahead.proofs.clear.Tie as tie
+
+abbrev Inv-loop : tie.InvT-loop
+Inv-loop mark₀ i₀ mark i = (i ≤ length mark) × (length mark ≡ length mark₀) × ((x : ℕ) → x < i → getD mark x 0 ≡ 0)
+
+abbrev μ-loop : tie.MeasureT-loop
+μ-loop mark₀ i₀ mark i = length mark - i
+
+-- past the end of a list stands nothing
+past : (l : List ℕ) (x : ℕ) → Dec (x < length l) → (x < length l → getD l x 0 ≡ 0) → getD l x 0 ≡ 0
+past l x (yes h) f = f h
+past l x (no h) f = List·getD-eq-default l 0 (omega (arith, h))
+
+loop-holds : tie.Need-loop-holds Inv-loop μ-loop
+loop-holds c = (omega arith, refl, λ x l. absurd (omega arith))
+
+mul-mark : tie.Need-mul-mark Inv-loop μ-loop
+mul-mark c = search needs
+
+slice-write-mark : tie.Need-slice-write-mark Inv-loop μ-loop
+slice-write-mark c = omega arith
+
+add-i : tie.Need-add-i Inv-loop μ-loop
+add-i c = omega arith
+
+loop-less : tie.Need-loop-less Inv-loop μ-loop
+loop-less c = simp length-set (omega arith)
+
+loop-again : tie.Need-loop-again Inv-loop μ-loop
+loop-again c =
+    let l = c .before .loop in
+    let h : l .i < length (l .mark) = omega arith in (
+      simp length-set (omega arith),
+      simp length-set (l .inv .1),
+      λ x p. by-store (λ y. y ≡ 0) (l .mark) (l .i) 0 x h (λ e. refl) (λ n. l .inv .2 x (omega (arith, n))),
+    )
+
+same-length : tie.Need-same-length Inv-loop μ-loop
+same-length c = c .before .loop .inv .1
+
+returns : tie.Need-returns Inv-loop μ-loop
+returns c =
+    let l = c .before .loop in
+    (l .inv .1, λ x. past (l .mark) x (decLt x (length (l .mark))) (λ h. l .inv .2 x (omega arith)))
+
+pub clear-spec : {M : Type 1} → statement M
+clear-spec =
+    tie.close
+    (tie.spec
+    Inv-loop
+    μ-loop
+    loop-holds
+    mul-mark
+    slice-write-mark
+    add-i
+    loop-less
+    loop-again
+    same-length
+    returns)

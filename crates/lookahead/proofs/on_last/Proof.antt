@@ -1,0 +1,71 @@
+-- `lookahead::on_last` meets its contract: a mark is that of the last ring just where the ring is the last.
+-- Assumes nothing.
+use Prim.Native.Nat.{ℕ, _+_, _≤_, _<_}
+use mathlib.Core.List.{List}
+use mathlib.Core.Path.{_≡_, sym, ap₂, _∙_}
+use native.Mathlib.Decide.{ℕ-discrete, decLe}
+use native.Mathlib.Omega.{arith}
+use borrow.Author.Needs.{needs}
+use borrow.Author.Tests.{eq-eqb, ne-eqb}
+use lib.Dec.{eqb}
+use lib.ListN.{getD}
+use Rattle.answers.specs.declared.Job.{Job}
+use Rattle.model.specs.Lookahead.{ring, seen}
+use Rattle.lookahead.specs.Contract.{Near, Seen}
+use Rattle.lookahead.proofs.on_last.Statement.{statement}
+use Rattle.lookahead.proofs.on_last.Tie as tie
+
+-- two tests of equality that hold together are the same
+same-test : (a b c d : ℕ) → (a ≡ b → c ≡ d) → (c ≡ d → a ≡ b) → eqb a b ≡ eqb c d
+same-test a b c d to from = by (ℕ-discrete a b)
+  where
+    by : Dec (a ≡ b) → eqb a b ≡ eqb c d
+    by (yes e) = eq-eqb a b e ∙ sym (eq-eqb c d (to e))
+    by (no n) = ne-eqb a b n ∙ sym (ne-eqb c d (λ e. n (from e)))
+
+-- a mark is that of the last ring just where the ring is the last
+module _ (j : Job) (bytes : List ℕ) (s base : ℕ) (mark cost : List ℕ) (E : Seen j bytes s base mark cost) (last x : ℕ) (l : last ≡ seen j bytes s .last) where
+  to-ring : getD mark x 0 ≡ base + last → ring j bytes (seen j bytes s) x ≡ seen j bytes s .last
+  to-ring e = by (decLe (ring j bytes (seen j bytes s) x) (seen j bytes s .last))
+    where
+      by : Dec (Near j bytes s x) → ring j bytes (seen j bytes s) x ≡ seen j bytes s .last
+      by (yes h) = omega (arith, E .marks x h, e, l)
+      by (no h) = absurd (omega (arith, e, E .none x (omega (arith, h))))
+
+  to-mark : ring j bytes (seen j bytes s) x ≡ seen j bytes s .last → getD mark x 0 ≡ base + last
+  to-mark e = omega (arith, E .marks x (omega (arith, e)), e, l)
+
+mul-wide32 : tie.Need-mul-wide32
+mul-wide32 c = search needs
+
+shared-slice-read-wide32 : tie.Need-shared-slice-read-wide32
+shared-slice-read-wide32 c = search needs
+
+wide32-requires : tie.Need-wide32-requires
+wide32-requires c κs = search needs
+
+wide32-requires-2 : tie.Need-wide32-requires-2
+wide32-requires-2 c κs = search needs
+
+add-result : tie.Need-add-result
+add-result c = search needs
+
+returns : tie.Need-returns
+returns c =
+    let a = c .before .before .before .before .before .before in
+    let p = a .pre in
+    let r = a .args in
+    ap₂ (λ m b. eqb m (b + r .last)) (c .before .wide32 .ensures .0) (c .wide322 .ensures .0)
+    ∙ same-test _ _ _ _ (to-ring (r .job) (r .floor .now) (r .s) (r .base) (r .mark .now) (r .cost .now) (p .0) (r .last) (r .x) (p .1 .0))
+    (to-mark (r .job) (r .floor .now) (r .s) (r .base) (r .mark .now) (r .cost .now) (p .0) (r .last) (r .x) (p .1 .0))
+
+pub on-last-spec : {M : Type 1} → statement M
+on-last-spec =
+    tie.close
+    (tie.spec
+    mul-wide32
+    shared-slice-read-wide32
+    wide32-requires
+    wide32-requires-2
+    add-result
+    returns)

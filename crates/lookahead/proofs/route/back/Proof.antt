@@ -1,0 +1,66 @@
+-- `lookahead::route::back` meets its contract. The loop's invariant: b is the lowest cell before x that the first j moves lead to.
+-- Assumes nothing.
+use Prim.Native.Nat.{ℕ, _+_, _-_, _≤_, _<_}
+use mathlib.Core.Path.{_≡_, refl, subst}
+use native.Mathlib.Omega.{arith}
+use borrow.Author.Needs.{needs}
+use Rattle.floor.specs.Moves.{flat}
+use Rattle.lookahead.proofs.Linking.{linked-none, linked-prior}
+use Rattle.lookahead.specs.Way.{Linked}
+use Rattle.lookahead.proofs.route.back.Statement.{statement}
+use Rattle.lookahead.proofs.route.back.Tie as tie
+
+abbrev Inv-loop : tie.InvT-loop
+Inv-loop width height floor base mark cost x col row b₀ j₀ b j = (j ≤ 8) × Linked (flat width height floor) base mark cost x j b
+
+abbrev μ-loop : tie.MeasureT-loop
+μ-loop width height floor base mark cost x col row b₀ j₀ b j = 8 - j
+
+rem-col : tie.Need-rem-col Inv-loop μ-loop
+rem-col c = search needs
+
+div-row : tie.Need-div-row Inv-loop μ-loop
+div-row c = search needs
+
+loop-holds : tie.Need-loop-holds Inv-loop μ-loop
+loop-holds c =
+    let a = c .before .before .before in
+    (omega arith, linked-none (flat (a .args .width) (a .args .height) (a .args .floor .now)) (a .pre .0) (a .args .base) (a .args .mark .now) (a .args .cost .now) (a .args .x) _ refl)
+
+consider-requires : tie.Need-consider-requires Inv-loop μ-loop
+consider-requires c κs =
+    let p = c .before .before .before .before .before .pre in
+    let x = c .before .before .before .before .before .args .x in
+    (p .0, (p .1 .0, (record { marked = p .1 .1 .0; placed = record { free = p .1 .0 .free x (p .1 .1 .0); column = refl; row = refl } }, (omega arith, c .before .loop .inv .1))))
+
+add-j : tie.Need-add-j Inv-loop μ-loop
+add-j c = omega arith
+
+loop-less : tie.Need-loop-less Inv-loop μ-loop
+loop-less c = omega arith
+
+loop-again : tie.Need-loop-again Inv-loop μ-loop
+loop-again c = (omega arith, c .consider .ensures)
+
+returns : tie.Need-returns Inv-loop μ-loop
+returns c =
+    let a = c .before .before .before .before .before in
+    let l = c .before .loop in
+    let e : l .j ≡ 8 = omega arith in
+    let B = a .pre .1 .1 .1 in
+    linked-prior (flat (a .args .width) (a .args .height) (a .args .floor .now)) (a .pre .0) (a .args .base) (a .args .mark .now) (a .args .cost .now) (a .args .x) (l .b) (a .pre .1 .0) (subst (λ k. Linked (flat (a .args .width) (a .args .height) (a .args .floor .now)) (a .args .base) (a .args .mark .now) (a .args .cost .now) (a .args .x) k (l .b)) e (l .inv .1)) (B .0) (B .1)
+
+pub back-spec : {M : Type 1} → statement M
+back-spec =
+    tie.close
+    (tie.spec
+    Inv-loop
+    μ-loop
+    rem-col
+    div-row
+    loop-holds
+    consider-requires
+    add-j
+    loop-less
+    loop-again
+    returns)

@@ -1,0 +1,42 @@
+-- The best of each ring. A cell's key is p × w + figure, and below that the cell: the least key of a ring has its best and, of equal ones, the lowest cell.
+use mathlib.Core.Path.{_≡_}
+use mathlib.Core.List.{List}
+use Prim.Native.Nat.{ℕ, _+_, _-_, _*_, _≤_, _<_, min}
+use lib.ListN.{length, getD, set}
+use Rattle.lookahead.specs.Marks.{In}
+
+-- the ring that a mark says, and at least 9 where there is none
+abbrev pub ringAt : ℕ → List ℕ → ℕ → ℕ
+ringAt base mark x = (getD mark x 0 - base) + 9 * (base - getD mark x 0)
+
+-- p × w + figure, and the key
+abbrev pub value : (cost table : List ℕ) → (p x : ℕ) → ℕ
+value cost table p x = p * getD cost x 0 + getD table x 0
+
+abbrev pub key : (cost table : List ℕ) → (p x : ℕ) → ℕ
+key cost table p x = value cost table p x * 4096 + x
+
+-- more than any key
+abbrev pub unset : ℕ
+unset = 4294967296
+
+-- the window's cells are marked by rings 0 to 8 and stand in the table, and their costs and figures are small
+pub record Scores (base : ℕ) (mark cost table : List ℕ) (p : ℕ) : Type 0 where
+  pub weight : p ≤ 16
+  pub marks : length mark ≡ 4096
+  pub costs : length cost ≡ 4096
+  pub inside : (x : ℕ) → In base mark x → (x < 4096) × (x < length table)
+  pub top : (x : ℕ) → getD mark x 0 ≤ base + 8
+  pub small : (x : ℕ) → In base mark x → (getD cost x 0 ≤ 112) × (getD table x 0 ≤ 917280)
+
+-- of the cells at the first i places of the list, the least key of each ring
+pub record Bests (base : ℕ) (mark cost table : List ℕ) (p : ℕ) (list : List ℕ) (i : ℕ) (best : List ℕ) : Type 0 where
+  pub size : length best ≡ 9
+  pub low : (j : ℕ) → j < i → getD best (ringAt base mark (getD list j 0)) 0 ≤ key cost table p (getD list j 0)
+  pub met : (k : ℕ) → k ≤ 8 → getD best k 0 < unset → (x : ℕ) × (ringAt base mark x ≡ k) × (key cost table p x ≡ getD best k 0)
+
+-- the greatest of the entries 1 to k - 1
+pub record Topped (best : List ℕ) (k v : ℕ) : Type 0 where
+  pub none : k ≤ 1 → v ≡ 0
+  pub met : 1 < k → (j : ℕ) × (1 ≤ j) × (j < k) × (getD best j 0 ≡ v)
+  pub high : (j : ℕ) → 1 ≤ j → j < k → getD best j 0 ≤ v

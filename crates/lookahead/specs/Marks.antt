@@ -1,0 +1,133 @@
+-- What holds while the rings around s are marked. A cell's mark is the base and its ring, or below the base; beside it stands what a walk
+-- to it costs; and the marked cells stand in a list, ring by ring.
+use mathlib.Core.Path.{_≡_}
+use mathlib.Core.List.{List, [], _∷_}
+use mathlib.Core.Bool.{Bool, true, cond}
+use Prim.Native.Nat.{ℕ, _+_, _-_, _*_, _≤_, _<_}
+use lib.Dec.{ltb}
+use lib.ListN.{length, getD, set}
+use Rattle.learning.specs.Walk.{Network, Walk}
+use Rattle.learning.specs.Ground.{netOf}
+use Rattle.model.specs.Floor.{Floor, free}
+use Rattle.model.specs.Grounds.{groundOf}
+use Rattle.floor.specs.declared.Step.the-variants.{To}
+use Rattle.floor.specs.Moves.{Placed, stepOf}
+
+-- the moves of a floor
+abbrev pub net : Floor → Network
+net f = netOf (groundOf f [])
+
+-- how many cells have no mark
+unfoldable pub blanks : ℕ → List ℕ → ℕ
+blanks base [] = 0
+blanks base (x ∷ xs) = cond (ltb x base) 1 0 + blanks base xs
+
+pub record State : Type 0 where
+  pub mark : List ℕ
+  pub cost : List ℕ
+  pub list : List ℕ
+  pub n : ℕ
+
+abbrev pub state : (mark cost list : List ℕ) (n : ℕ) → State
+state mark cost list n = record { mark = mark; cost = cost; list = list; n = n }
+
+abbrev pub markOf : State → ℕ → ℕ
+markOf S x = getD (S .mark) x 0
+
+abbrev pub costAt : State → ℕ → ℕ
+costAt S x = getD (S .cost) x 0
+
+abbrev pub cellOf : State → ℕ → ℕ
+cellOf S i = getD (S .list) i 0
+
+-- the cells of a window: those with a mark
+abbrev pub In : ℕ → List ℕ → ℕ → Type 0
+In base mark x = base ≤ getD mark x 0
+
+-- three lists of 4096 places, and room for each cell that has no mark
+pub record Sizes (base : ℕ) (S : State) : Type 0 where
+  pub marks : length (S .mark) ≡ 4096
+  pub costs : length (S .cost) ≡ 4096
+  pub cells : length (S .list) ≡ 4096
+  pub count : S .n + blanks base (S .mark) ≡ 4096
+
+-- and the marked cells are free, at no more than 14 for each move of their ring
+pub record Room (f : Floor) (base : ℕ) (S : State) : Type 0 where
+  pub sizes : Sizes base S
+  pub free : (x : ℕ) → In base (S .mark) x → free f x ≡ true
+  pub cheap : (x : ℕ) → In base (S .mark) x → costAt S x ≤ 14 * (markOf S x - base)
+
+-- the cells of mark g are being found, and stand in the list from `to` on; each marked cell's cost is that of a walk of its ring's moves
+pub record Spread (f : Floor) (s base g to : ℕ) (S : State) : Type 0 where
+  pub top : (x : ℕ) → markOf S x ≤ g
+  pub walks : (x : ℕ) → In base (S .mark) x → Walk (net f) (In base (S .mark)) x s (costAt S x) (markOf S x - base)
+  pub listed : (x : ℕ) → In base (S .mark) x → (i : ℕ) × (i < S .n) × (cellOf S i ≡ x) × (markOf S x ≡ g → to ≤ i)
+  pub early : (i : ℕ) → i < S .n → In base (S .mark) (cellOf S i)
+  pub late : (i : ℕ) → i < S .n → to ≤ i → markOf S (cellOf S i) ≡ g
+  pub upto : to ≤ S .n
+
+-- what has a mark keeps it, with its cost and its place
+pub record Kept (base : ℕ) (S S′ : State) : Type 0 where
+  pub marks : (x : ℕ) → In base (S .mark) x → markOf S′ x ≡ markOf S x
+  pub costs : (x : ℕ) → In base (S .mark) x → costAt S′ x ≡ costAt S x
+  pub cells : (i : ℕ) → i < S .n → cellOf S′ i ≡ cellOf S i
+  pub grows : S .n ≤ S′ .n
+
+-- every cell that one move leads to from x has a mark, for the moves below m
+abbrev pub Out : Floor → ℕ → State → (x m : ℕ) → Type 0
+Out f base S x m = (i : ℕ) → i < m → (d v : ℕ) → stepOf f x i ≡ To d v → In base (S .mark) d
+
+-- d gets the mark k and the cost v if it has no mark
+pub record Reached (base d k v : ℕ) (S S′ : State) : Type 0 where
+  pub new : markOf S d < base → S′ ≡ state (set (S .mark) d k) (set (S .cost) d v) (set (S .list) (S .n) d) (S .n + 1)
+  pub old : In base (S .mark) d → S′ ≡ S
+
+-- from one state to a later one, while the cells of mark k are left: whatever s and `to` are
+pub record Grew (f : Floor) (base k : ℕ) (S S′ : State) : Type 0 where
+  pub room : Room f base S′
+  pub kept : Kept base S S′
+  pub spread : (s to : ℕ) → Spread f s base (k + 1) to S → Spread f s base (k + 1) to S′
+
+-- k is the mark of one of the rings 0 to 7
+pub record Ring (base k : ℕ) : Type 0 where
+  pub first : base ≤ k
+  pub last : k ≤ base + 7
+  pub room : base ≤ 4294967279
+
+-- the cell c of mark k, at its column and row
+pub record Leaving (f : Floor) (base c col line k : ℕ) (mark : List ℕ) : Type 0 where
+  pub placed : Placed f c col line
+  pub ring : Ring base k
+  pub marked : getD mark c 0 ≡ k
+
+-- the move m from c leads to a marked cell or none
+pub record Extended (f : Floor) (base k c m : ℕ) (S S′ : State) : Type 0 where
+  pub grew : Grew f base k S S′
+  pub out : (d v : ℕ) → stepOf f c m ≡ To d v → In base (S′ .mark) d
+
+-- the cell c of mark k is left by each of the first m moves
+pub record Left (f : Floor) (base k c m : ℕ) (S S′ : State) : Type 0 where
+  pub grew : Grew f base k S S′
+  pub out : Out f base S′ c m
+
+-- a free cell of mark k
+pub record Open (f : Floor) (base c k : ℕ) (mark : List ℕ) : Type 0 where
+  pub free : free f c ≡ true
+  pub ring : Ring base k
+  pub marked : getD mark c 0 ≡ k
+
+-- the places from `from` to `to` of the list, its end, hold cells of mark k
+pub record Segment (base from to k : ℕ) (S : State) : Type 0 where
+  pub order : from ≤ to
+  pub end : S .n ≡ to
+  pub ring : Ring base k
+  pub marked : (j : ℕ) → from ≤ j → j < to → markOf S (cellOf S j) ≡ k
+
+-- each cell at the places from `from` to i is left by every move
+pub record Swept (f : Floor) (base k from i : ℕ) (S S′ : State) : Type 0 where
+  pub grew : Grew f base k S S′
+  pub outs : (j : ℕ) → from ≤ j → j < i → Out f base S′ (cellOf S j) 8
+
+-- s alone is marked, and stands first in the list
+abbrev pub begun : (base : ℕ) (mark cost list : List ℕ) (s : ℕ) → State
+begun base mark cost list s = state (set mark s base) (set cost s 0) (set list 0 s) 1

@@ -1,0 +1,57 @@
+-- What the marking of the rings around s promises.
+use mathlib.Core.Path.{_≡_}
+use mathlib.Core.List.{List}
+use mathlib.Core.Logic.{_⊎_}
+use Prim.Native.Nat.{ℕ, _+_, _-_, _≤_, _<_}
+use Rattle.learning.specs.Walk.{Walk, Any}
+use Rattle.model.specs.Floor.{Floor}
+use Rattle.floor.specs.declared.Step.the-variants.{To}
+use Rattle.floor.specs.Moves.{stepOf}
+use Rattle.lookahead.specs.declared.Around.{Around}
+use Rattle.lookahead.specs.declared.Around.the-variants as A
+use Rattle.lookahead.specs.Marks.{net, State, state, markOf, costAt, cellOf, In, Room, Spread}
+
+-- the cells of marks below k have been left: where they lead is marked, at most one ring further out
+abbrev pub Done : Floor → (base k : ℕ) → State → Type 0
+Done f base k S =
+    (x : ℕ) → In base (S .mark) x → markOf S x < k → (m d v : ℕ) → m < 8 → stepOf f x m ≡ To d v → In base (S .mark) d × (markOf S d ≤ markOf S x + 1)
+
+-- the rings up to that of mark k are marked, and its cells stand in the list from `from` on
+pub record Level (f : Floor) (s base k from : ℕ) (S : State) : Type 0 where
+  pub room : Room f base S
+  pub spread : Spread f s base k from S
+  pub done : Done f base k S
+  pub start : markOf S s ≡ base
+
+-- no ring up to that of mark k is empty
+abbrev pub Full : (base k : ℕ) → State → Type 0
+Full base k S = (g : ℕ) → base ≤ g → g ≤ k → (x : ℕ) × (markOf S x ≡ g)
+
+-- the marks are the rings 0 to r; each marked cell stands in the list, and its cost is that of a walk in the window
+pub record Marked (f : Floor) (s base r : ℕ) (S : State) : Type 0 where
+  pub room : Room f base S
+  pub top : (x : ℕ) → markOf S x ≤ base + r
+  pub walks : (x : ℕ) → In base (S .mark) x → Walk (net f) (In base (S .mark)) x s (costAt S x) (markOf S x - base)
+  pub fewest : (x c n : ℕ) → Walk (net f) Any s x c n → n ≤ r → In base (S .mark) x × (markOf S x ≤ base + n)
+  pub listed : (x : ℕ) → In base (S .mark) x → (i : ℕ) × (i < S .n) × (cellOf S i ≡ x)
+  pub early : (i : ℕ) → i < S .n → In base (S .mark) (cellOf S i)
+
+-- the last ring is the depth's or the goal's, if that is smaller; no ring up to it is empty
+pub record Framed (f : Floor) (s goal depth base last : ℕ) (S : State) : Type 0 where
+  pub marked : Marked f s base last S
+  pub within : last ≤ depth
+  pub some : 1 ≤ last
+  pub ends : (last ≡ depth) ⊎ (markOf S goal ≡ base + last)
+  pub nearer : In base (S .mark) goal → markOf S goal ≡ base + last
+  pub full : Full base (base + last) S
+
+-- ring r + 1 is within the depth and empty, and the goal is in none before it
+pub record Blocked (f : Floor) (s goal depth base r : ℕ) (S : State) : Type 0 where
+  pub marked : Marked f s base (r + 1) S
+  pub short : r < depth
+  pub empty : (x : ℕ) → markOf S x ≤ base + r
+  pub far : markOf S goal < base
+
+abbrev pub Rings : Floor → (s goal depth base : ℕ) → (mark cost list : List ℕ) → Around → Type 0
+Rings f s goal depth base mark cost list (A.Window last n) = Framed f s goal depth base last (state mark cost list n)
+Rings f s goal depth base mark cost list A.Empty = (r n : ℕ) × Blocked f s goal depth base r (state mark cost list n)

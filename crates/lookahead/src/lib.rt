@@ -1,0 +1,169 @@
+// The lookahead: the window around a cell, the new figure and the target, and the route to a cell of the window.
+// Scratch is lent and never cleared: a cell's mark is the base and its ring, and a cell is unmarked while its mark is below the base.
+mod bests;
+mod costs;
+mod rings;
+mod route;
+
+ghost use mathlib.Core.Path.{_≡_};
+ghost use Prim.Native.Nat.{ℕ, _<_, _≤_};
+ghost use lib.Dec.{eqb};
+ghost use lib.ListN.{length, getD};
+ghost use Rattle.model.specs.Floor.{free};
+ghost use Rattle.model.specs.Checks.{floorOf};
+ghost use Rattle.model.specs.Lookahead as model;
+ghost use Rattle.lookahead.specs.Contract.{Marks, Spent, Fresh, Asked, Near, Seen, Window, Looked, Figures, Aimed, Traced};
+use answers::Job;
+
+// The window around a cell: its last ring and how many cells it has; or a ring up to the last is empty.
+pub enum Around {
+    Window { last: usize, n: usize },
+    Empty,
+}
+
+// The new figure, the target, and what the way to it costs.
+pub struct Ahead {
+    pub figure: usize,
+    pub target: usize,
+    pub leg: usize,
+}
+
+// A cell, and the move from it.
+pub struct Link {
+    pub cell: usize,
+    pub m: usize,
+}
+
+// Every mark is cleared.
+fn clear(mark: &mut [u32])
+    ensures { λ _. ⌜ length (now (mark .exit)) ≡ length (now (mark .entry)) ⌝ }
+    ensures { λ _. ⌜ ((x : ℕ) → getD (now (mark .exit)) x 0 ≡ 0) ⌝ }
+{
+    let mut i = 0;
+    while i < mark.len() {
+        mark[i] = 0;
+        i += 1;
+    }
+}
+
+// The next lookahead's base. Where the marks would run out of numbers they are cleared, and it starts again.
+pub fn renew(base: u32, mark: &mut [u32]) -> u32
+    requires { ⌜ Spent base (now mark) ⌝ }
+    ensures { λ r. ⌜ Marks r (now (mark .exit)) ⌝ }
+{
+    if base < 4294967264 {
+        return base + 16;
+    }
+    clear(mark);
+    1
+}
+
+// The window around s, which is not the goal.
+pub fn look(
+    job: Job,
+    floor: &[u8],
+    s: usize,
+    base: u32,
+    mark: &mut [u32],
+    cost: &mut [u16],
+    list: &mut [u16],
+) -> Around
+    requires { ⌜ Asked job (now floor) s ⌝ ∗ ⌜ Fresh base (now mark) (now cost) (now list) ⌝ }
+    ensures { λ r. ⌜ Looked job (now (floor .entry)) s base (now (mark .exit)) (now (cost .exit)) (now (list .exit)) r ⌝ }
+{
+    match rings::rings(
+        job.width,
+        job.height,
+        floor,
+        s,
+        job.goal,
+        job.depth,
+        base,
+        mark,
+        cost,
+        list,
+    ) {
+        Around::Window { last, n } => {
+            costs::relax(job.width, job.height, floor, base, mark, cost, list, n);
+            Around::Window { last: last, n: n }
+        }
+        Around::Empty => Around::Empty,
+    }
+}
+
+// Whether x is on the last ring.
+pub fn on_last(
+    job: Job,
+    floor: &[u8],
+    s: usize,
+    base: u32,
+    mark: &[u32],
+    cost: &[u16],
+    last: usize,
+    x: usize,
+) -> bool
+    requires { ⌜ Seen job (now floor) s base (now mark) (now cost) ⌝ ∗ ⌜ last ≡ model.seen job (now floor) s .last ⌝ ∗ ⌜ last ≤ 8 ⌝ ∗ ⌜ x < 4096 ⌝ }
+    ensures { λ r. ⌜ r ≡ eqb (model.ring job (now (floor .entry)) (model.seen job (now (floor .entry)) s) x) (model.seen job (now (floor .entry)) s .last) ⌝ }
+{
+    floor::wide32(mark[x]) == floor::wide32(base) + last
+}
+
+// What the way to the cell x of the window costs.
+pub fn leg(
+    job: Job,
+    floor: &[u8],
+    s: usize,
+    base: u32,
+    mark: &[u32],
+    cost: &[u16],
+    x: usize,
+) -> usize
+    requires { ⌜ Asked job (now floor) s ⌝ ∗ ⌜ Seen job (now floor) s base (now mark) (now cost) ⌝ ∗ ⌜ Near job (now floor) s x ⌝ }
+    ensures { λ r. ⌜ (r ≡ model.w job (now (floor .entry)) (model.seen job (now (floor .entry)) s) x) × (r ≤ 112) ⌝ }
+{
+    floor::wide16(cost[x])
+}
+
+// The new figure and the target, in a window that is worked out.
+pub fn aim(
+    job: Job,
+    floor: &[u8],
+    s: usize,
+    table: &[u32],
+    base: u32,
+    mark: &[u32],
+    cost: &[u16],
+    list: &[u16],
+    n: usize,
+    last: usize,
+) -> Ahead
+    requires { ⌜ Asked job (now floor) s ⌝ ∗ ⌜ Window job (now floor) s base (now mark) (now cost) (now list) n last ⌝ ∗ ⌜ Figures job (now floor) (now table) ⌝ }
+    ensures { λ r. ⌜ Aimed job (now (floor .entry)) s (now (table .entry)) r ⌝ }
+{
+    let mut best = [4294967296usize; 9];
+    bests::weigh_all(table, job.p, base, mark, cost, list, n, &mut best);
+    let top = bests::greatest(&best, last);
+    let target = best[last] % 4096;
+    Ahead {
+        figure: top / 4096,
+        target: target,
+        leg: floor::wide16(cost[target]),
+    }
+}
+
+// The moves of the route to the cell x of the window are written at the front of out; their number.
+pub fn trace(
+    job: Job,
+    floor: &[u8],
+    s: usize,
+    base: u32,
+    mark: &[u32],
+    cost: &[u16],
+    x: usize,
+    out: &mut [u8],
+) -> usize
+    requires { ⌜ Asked job (now floor) s ⌝ ∗ ⌜ Seen job (now floor) s base (now mark) (now cost) ⌝ ∗ ⌜ Near job (now floor) s x ⌝ ∗ ⌜ 11 ≤ length (now out) ⌝ }
+    ensures { λ r. ⌜ Traced job (now (floor .entry)) s x (now (out .entry)) (now (out .exit)) r ⌝ }
+{
+    route::follow(job, floor, s, base, mark, cost, x, out)
+}

@@ -1,0 +1,185 @@
+// The rings around a cell are marked one after another, and their cells put into a list.
+ghost use mathlib.Core.Path.{_≡_};
+ghost use mathlib.Core.Bool.{true};
+ghost use Prim.Native.Nat.{_<_, _≤_};
+ghost use lib.ListN.{length};
+ghost use Rattle.model.specs.Floor.{Sized, free};
+ghost use Rattle.floor.specs.Moves.{flat};
+ghost use Rattle.lookahead.specs.Contract.{Fresh};
+ghost use Rattle.lookahead.specs.Marks.{state, begun, Sizes, Room, Reached, Leaving, Extended, Open, Left, Segment, Swept};
+ghost use Rattle.lookahead.specs.Rings.{Rings};
+use super::Around;
+use floor::Step;
+
+// The cell d gets the mark k and the cost v, and goes into the list, if it has no mark yet.
+fn reach(
+    base: u32,
+    mark: &mut [u32],
+    cost: &mut [u16],
+    list: &mut [u16],
+    n: usize,
+    d: usize,
+    k: u32,
+    v: u16,
+) -> usize
+    requires { ⌜ Sizes base (state (now mark) (now cost) (now list) n) ⌝ ∗ ⌜ d < 4096 ⌝ }
+    ensures { λ r. ⌜ Reached base d k v (state (now (mark .entry)) (now (cost .entry)) (now (list .entry)) n)
+        (state (now (mark .exit)) (now (cost .exit)) (now (list .exit)) r) ⌝ }
+{
+    if base <= mark[d] {
+        return n;
+    }
+    mark[d] = k;
+    cost[d] = v;
+    list[n] = d as u16;
+    n + 1
+}
+
+// The move m from the cell c of mark k: the cell moved into is reached.
+fn extend(
+    width: usize,
+    height: usize,
+    floor: &[u8],
+    base: u32,
+    mark: &mut [u32],
+    cost: &mut [u16],
+    list: &mut [u16],
+    n: usize,
+    c: usize,
+    col: usize,
+    row: usize,
+    m: usize,
+    k: u32,
+) -> usize
+    requires { ⌜ Sized (flat width height (now floor)) ⌝ ∗ ⌜ Room (flat width height (now floor)) base (state (now mark) (now cost) (now list) n) ⌝
+        ∗ ⌜ Leaving (flat width height (now floor)) base c col row k (now mark) ⌝ ∗ ⌜ m < 8 ⌝ }
+    ensures { λ r. ⌜ Extended (flat width height (now (floor .entry))) base k c m (state (now (mark .entry)) (now (cost .entry)) (now (list .entry)) n)
+        (state (now (mark .exit)) (now (cost .exit)) (now (list .exit)) r) ⌝ }
+{
+    match floor::step_from(width, height, floor, c, col, row, m) {
+        Step::To { cell, cost: v } => {
+            let sum = cost[c] + v;
+            reach(base, mark, cost, list, n, cell, k + 1, sum)
+        }
+        Step::Wall => n,
+    }
+}
+
+// Every move from the cell c of mark k.
+fn visit(
+    width: usize,
+    height: usize,
+    floor: &[u8],
+    base: u32,
+    mark: &mut [u32],
+    cost: &mut [u16],
+    list: &mut [u16],
+    n: usize,
+    c: usize,
+    k: u32,
+) -> usize
+    requires { ⌜ Sized (flat width height (now floor)) ⌝ ∗ ⌜ Room (flat width height (now floor)) base (state (now mark) (now cost) (now list) n) ⌝
+        ∗ ⌜ Open (flat width height (now floor)) base c k (now mark) ⌝ }
+    ensures { λ r. ⌜ Left (flat width height (now (floor .entry))) base k c 8 (state (now (mark .entry)) (now (cost .entry)) (now (list .entry)) n)
+        (state (now (mark .exit)) (now (cost .exit)) (now (list .exit)) r) ⌝ }
+{
+    let col = c % width;
+    let row = c / width;
+    let mut end = n;
+    let mut m = 0;
+    while m < 8 {
+        end = extend(
+            width,
+            height,
+            floor,
+            base,
+            mark,
+            cost,
+            list,
+            end,
+            c,
+            col,
+            row,
+            m,
+            k,
+        );
+        m += 1;
+    }
+    end
+}
+
+// Every move from each cell of mark k, which stand in the list from `from` to `to`, its end.
+fn spread(
+    width: usize,
+    height: usize,
+    floor: &[u8],
+    base: u32,
+    mark: &mut [u32],
+    cost: &mut [u16],
+    list: &mut [u16],
+    from: usize,
+    to: usize,
+    k: u32,
+) -> usize
+    requires { ⌜ Sized (flat width height (now floor)) ⌝ ∗ ⌜ Room (flat width height (now floor)) base (state (now mark) (now cost) (now list) to) ⌝
+        ∗ ⌜ Segment base from to k (state (now mark) (now cost) (now list) to) ⌝ }
+    ensures { λ r. ⌜ Swept (flat width height (now (floor .entry))) base k from to (state (now (mark .entry)) (now (cost .entry)) (now (list .entry)) to)
+        (state (now (mark .exit)) (now (cost .exit)) (now (list .exit)) r) ⌝ }
+{
+    let mut end = to;
+    let mut i = from;
+    while i < to {
+        let c = floor::wide16(list[i]);
+        end = visit(width, height, floor, base, mark, cost, list, end, c, k);
+        i += 1;
+    }
+    end
+}
+
+// Only s has a mark: its ring is 0.
+fn begin(base: u32, mark: &mut [u32], cost: &mut [u16], list: &mut [u16], s: usize)
+    requires { ⌜ s < 4096 ⌝ ∗ ⌜ length (now mark) ≡ 4096 ⌝ ∗ ⌜ length (now cost) ≡ 4096 ⌝ ∗ ⌜ length (now list) ≡ 4096 ⌝ }
+    ensures { λ _. ⌜ state (now (mark .exit)) (now (cost .exit)) (now (list .exit)) 1 ≡ begun base (now (mark .entry)) (now (cost .entry)) (now (list .entry)) s ⌝ }
+{
+    mark[s] = base;
+    cost[s] = 0;
+    list[0] = s as u16;
+}
+
+// The rings around s are marked, up to the depth's or the goal's.
+pub(crate) fn rings(
+    width: usize,
+    height: usize,
+    floor: &[u8],
+    s: usize,
+    goal: usize,
+    depth: usize,
+    base: u32,
+    mark: &mut [u32],
+    cost: &mut [u16],
+    list: &mut [u16],
+) -> Around
+    requires { ⌜ Sized (flat width height (now floor)) ⌝ ∗ ⌜ free (flat width height (now floor)) s ≡ true ⌝ ∗ ⌜ (goal < 4096) × (s ≡ goal → ⊥) ⌝
+        ∗ ⌜ (1 ≤ depth) × (depth ≤ 8) ⌝ ∗ ⌜ Fresh base (now mark) (now cost) (now list) ⌝ }
+    ensures { λ r. ⌜ Rings (flat width height (now (floor .entry))) s goal depth base (now (mark .exit)) (now (cost .exit)) (now (list .exit)) r ⌝ }
+{
+    begin(base, mark, cost, list, s);
+    let mut from = 0;
+    let mut to = 1;
+    let mut r = 0;
+    let mut k = base;
+    while r < depth {
+        let end = spread(width, height, floor, base, mark, cost, list, from, to, k);
+        r += 1;
+        k += 1;
+        if end == to {
+            return Around::Empty;
+        }
+        from = to;
+        to = end;
+        if base <= mark[goal] {
+            return Around::Window { last: r, n: to };
+        }
+    }
+    Around::Window { last: r, n: to }
+}

@@ -1,0 +1,103 @@
+// The route to a cell of the window, found backward: each time the lowest cell from which one move gives exactly the cost of the cell reached.
+ghost use mathlib.Core.Path.{_≡_};
+ghost use Prim.Native.Nat.{ℕ, _<_, _≤_, _+_, _*_};
+ghost use lib.ListN.{length, getD};
+ghost use Rattle.model.specs.Floor.{Sized};
+ghost use Rattle.floor.specs.Moves.{flat};
+ghost use Rattle.lookahead.specs.Contract.{Asked, Near, Seen, Traced};
+ghost use Rattle.lookahead.specs.Marks.{In};
+ghost use Rattle.lookahead.specs.Costs.{Costs, Cell};
+ghost use Rattle.lookahead.specs.Way.{Before, Linked, Prior};
+use super::Link;
+use answers::Job;
+use floor::Step;
+
+// The cell that the move j leads to from x, if it is a cell before x and lower.
+fn consider(
+    width: usize,
+    height: usize,
+    floor: &[u8],
+    base: u32,
+    mark: &[u32],
+    cost: &[u16],
+    x: usize,
+    col: usize,
+    row: usize,
+    j: usize,
+    b: Link,
+) -> Link
+    requires { ⌜ Sized (flat width height (now floor)) ⌝ ∗ ⌜ Costs (flat width height (now floor)) base (now mark) (now cost) ⌝
+        ∗ ⌜ Cell (flat width height (now floor)) base x col row (now mark) ⌝ ∗ ⌜ j < 8 ⌝ ∗ ⌜ Linked (flat width height (now floor)) base (now mark) (now cost) x j b ⌝ }
+    ensures { λ r. ⌜ Linked (flat width height (now (floor .entry))) base (now (mark .entry)) (now (cost .entry)) x (j + 1) r ⌝ }
+{
+    match floor::step_from(width, height, floor, x, col, row, j) {
+        Step::To { cell, cost: v } => {
+            if mark[cell] < base {
+                return b;
+            }
+            let sum = cost[cell] + v;
+            if sum != cost[x] {
+                return b;
+            }
+            if b.cell <= cell {
+                return b;
+            }
+            Link {
+                cell: cell,
+                m: (j + 4) % 8,
+            }
+        }
+        Step::Wall => b,
+    }
+}
+
+// The lowest cell before x, and the move from it.
+fn back(
+    width: usize,
+    height: usize,
+    floor: &[u8],
+    base: u32,
+    mark: &[u32],
+    cost: &[u16],
+    x: usize,
+) -> Link
+    requires { ⌜ Sized (flat width height (now floor)) ⌝ ∗ ⌜ Costs (flat width height (now floor)) base (now mark) (now cost) ⌝ ∗ ⌜ In base (now mark) x ⌝
+        ∗ ⌜ ((y : ℕ) × Before (flat width height (now floor)) base (now mark) (now cost) x y) ⌝ }
+    ensures { λ r. ⌜ Prior (flat width height (now (floor .entry))) base (now (mark .entry)) (now (cost .entry)) x r ⌝ }
+{
+    let col = x % width;
+    let row = x / width;
+    let mut b = Link { cell: 4096, m: 0 };
+    let mut j = 0;
+    while j < 8 {
+        b = consider(width, height, floor, base, mark, cost, x, col, row, j, b);
+        j += 1;
+    }
+    b
+}
+
+// The route from s to x is written at the front of out; its number of moves.
+pub(crate) fn follow(
+    job: Job,
+    floor: &[u8],
+    s: usize,
+    base: u32,
+    mark: &[u32],
+    cost: &[u16],
+    x: usize,
+    out: &mut [u8],
+) -> usize
+    requires { ⌜ Asked job (now floor) s ⌝ ∗ ⌜ Seen job (now floor) s base (now mark) (now cost) ⌝ ∗ ⌜ Near job (now floor) s x ⌝
+        ∗ ⌜ getD (now cost) x 0 < 10 * length (now out) + 10 ⌝ }
+    ensures { λ r. ⌜ Traced job (now (floor .entry)) s x (now (out .entry)) (now (out .exit)) r ⌝ }
+{
+    if x == s {
+        return 0;
+    }
+    let l = back(job.width, job.height, floor, base, mark, cost, x);
+    let y = l.cell;
+    let m = l.m;
+    let n = follow(job, floor, s, base, mark, cost, y, out);
+    out[n] = m as u8;
+    n + 1
+}

@@ -1,0 +1,33 @@
+-- `opening::find_distances` meets its contract: from 0 at the goal and `far` elsewhere, a search that has settled has found the true distances.
+-- Assumes nothing.
+use Rattle.floor.specs.Moves.{flat}
+use Rattle.opening.proofs.Search.{start-is, start-spread, settled-distances}
+use Rattle.opening.specs.Search.{Spread}
+use borrow.Author.Needs.{needs}
+use denote.Ref.{now}
+use mathlib.Core.Path.{sym, _∙_, subst}
+use Rattle.opening.proofs.find_distances.Statement.{statement}
+use Rattle.opening.proofs.find_distances.Tie as tie
+
+fill-far-requires : tie.Need-fill-far-requires
+fill-far-requires c κs = search needs
+
+mul-dist : tie.Need-mul-dist
+mul-dist c = search needs
+
+slice-write-dist : tie.Need-slice-write-dist
+slice-write-dist c = search needs
+
+settle-requires : tie.Need-settle-requires
+settle-requires c κs = (c .before .before .before .before .before .before .before .pre .0, subst (Spread (flat (c .before .before .before .before .before .before .before .args .width) (c .before .before .before .before .before .before .before .args .height) (now (c .before .before .before .before .before .before .before .args .floor)))) (sym (start-is (flat (c .before .before .before .before .before .before .before .args .width) (c .before .before .before .before .before .before .before .args .height) (now (c .before .before .before .before .before .before .before .args .floor))) (c .before .before .before .before .before .before .before .args .goal) (c .before .before .before .before .before .before .before .pre .2) (c .before .before .before .fill-far .last .0) _ (c .before .before .before .fill-far .ensures) (c .before .before .before .before .before .before .before .pre .1))) (start-spread (flat (c .before .before .before .before .before .before .before .args .width) (c .before .before .before .before .before .before .before .args .height) (now (c .before .before .before .before .before .before .before .args .floor))) (c .before .before .before .before .before .before .before .args .goal) (c .before .before .before .before .before .before .before .pre .2)))
+
+same-length : tie.Need-same-length
+same-length c = settled-distances (flat (c .before .before .before .before .before .before .before .before .before .before .args .width) (c .before .before .before .before .before .before .before .before .before .before .args .height) (now (c .before .before .before .before .before .before .before .before .before .before .args .floor))) (c .before .before .before .before .before .before .before .before .before .before .args .goal) (c .before .before .before .before .before .before .before .before .before .before .pre .2) (c .before .before .before .before .before .before .before .before .before .before .pre .0) _ _ (start-is (flat (c .before .before .before .before .before .before .before .before .before .before .args .width) (c .before .before .before .before .before .before .before .before .before .before .args .height) (now (c .before .before .before .before .before .before .before .before .before .before .args .floor))) (c .before .before .before .before .before .before .before .before .before .before .args .goal) (c .before .before .before .before .before .before .before .before .before .before .pre .2) (c .before .before .before .before .before .before .fill-far .last .0) _ (c .before .before .before .before .before .before .fill-far .ensures) (c .before .before .before .before .before .before .before .before .before .before .pre .1)) (c .before .before .settle .ensures) .long ∙ sym (c .before .before .before .before .before .before .before .before .before .before .pre .1)
+
+returns : tie.Need-returns
+returns c = settled-distances (flat (c .before .before .before .before .before .before .before .before .before .before .args .width) (c .before .before .before .before .before .before .before .before .before .before .args .height) (now (c .before .before .before .before .before .before .before .before .before .before .args .floor))) (c .before .before .before .before .before .before .before .before .before .before .args .goal) (c .before .before .before .before .before .before .before .before .before .before .pre .2) (c .before .before .before .before .before .before .before .before .before .before .pre .0) _ _ (start-is (flat (c .before .before .before .before .before .before .before .before .before .before .args .width) (c .before .before .before .before .before .before .before .before .before .before .args .height) (now (c .before .before .before .before .before .before .before .before .before .before .args .floor))) (c .before .before .before .before .before .before .before .before .before .before .args .goal) (c .before .before .before .before .before .before .before .before .before .before .pre .2) (c .before .before .before .before .before .before .fill-far .last .0) _ (c .before .before .before .before .before .before .fill-far .ensures) (c .before .before .before .before .before .before .before .before .before .before .pre .1)) (c .before .before .settle .ensures)
+
+pub find-distances-spec : {M : Type 1} → statement M
+find-distances-spec =
+    tie.close
+    (tie.spec fill-far-requires mul-dist slice-write-dist settle-requires same-length returns)

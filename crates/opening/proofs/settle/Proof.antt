@@ -1,0 +1,42 @@
+-- `opening::settle` meets its contract. The invariant: steps alone were made, and a sweep that lowered nothing left every cell quiet.
+-- The measure is the sum of the numbers, and one more while a sweep is due. Assumes nothing.
+use Prim.Native.Nat.{ℕ, _+_}
+use Rattle.floor.specs.Moves.{flat}
+use Rattle.opening.proofs.Search.{lowered-spread, lowered-join, Rested, bit, swept-lowered, swept-rested, swept-falls}
+use Rattle.opening.specs.Search.{Lowered, none, total}
+use borrow.Author.Needs.{needs}
+use denote.Ref.{now}
+use mathlib.Core.Bool.{true, false}
+use mathlib.Core.Path.{_≡_, sym, ap, _∙_, subst}
+use native.Mathlib.Omega.{arith}
+use Rattle.opening.proofs.settle.Statement.{statement}
+use Rattle.opening.proofs.settle.Tie as tie
+
+abbrev Inv-loop : tie.InvT-loop
+Inv-loop width height floor dist₀ again₀ down₀ dist again down = Lowered (flat width height floor) dist₀ dist × Rested (flat width height floor) again dist
+
+abbrev μ-loop : tie.MeasureT-loop
+μ-loop width height floor dist₀ again₀ down₀ dist again down = total dist + bit again
+
+loop-holds : tie.Need-loop-holds Inv-loop μ-loop
+loop-holds c = (none, tt)
+
+sweep-requires : tie.Need-sweep-requires Inv-loop μ-loop
+sweep-requires c κs = (c .before .before .before .before .before .pre .0, lowered-spread (c .before .before .loop .inv .0) (c .before .before .before .before .before .pre .1))
+
+loop-less : tie.Need-loop-less Inv-loop μ-loop
+loop-less c = omega (arith, swept-falls (flat (c .before .before .before .before .before .before .before .before .args .width) (c .before .before .before .before .before .before .before .before .args .height) (now (c .before .before .before .before .before .before .before .before .args .floor))) (c .before .before .before .before .before .loop .down) (c .before .before .sweep .result) _ (c .before .before .before .before .before .loop .dist) _ (c .before .before .sweep .ensures), ap bit (c .before .before .before .before .loop-test .taken))
+
+loop-again : tie.Need-loop-again Inv-loop μ-loop
+loop-again c = (lowered-join (c .before .before .before .before .before .loop .inv .0) (swept-lowered (flat (c .before .before .before .before .before .before .before .before .args .width) (c .before .before .before .before .before .before .before .before .args .height) (now (c .before .before .before .before .before .before .before .before .args .floor))) (c .before .before .before .before .before .loop .down) (c .before .before .sweep .result) _ (c .before .before .before .before .before .loop .dist) _ (c .before .before .sweep .ensures)), swept-rested (flat (c .before .before .before .before .before .before .before .before .args .width) (c .before .before .before .before .before .before .before .before .args .height) (now (c .before .before .before .before .before .before .before .before .args .floor))) (c .before .before .before .before .before .loop .down) (c .before .before .sweep .result) (c .before .before .before .before .before .loop .dist) _ (c .before .before .sweep .ensures))
+
+same-length : tie.Need-same-length Inv-loop μ-loop
+same-length c = lowered-spread (c .before .loop .inv .0) (c .before .before .before .before .pre .1) .long ∙ sym (c .before .before .before .before .pre .1 .long)
+
+returns : tie.Need-returns Inv-loop μ-loop
+returns c = record { lowered = c .before .loop .inv .0; quiet = subst (λ b. Rested (flat (c .before .before .before .before .args .width) (c .before .before .before .before .args .height) (now (c .before .before .before .before .args .floor))) b (c .before .loop .dist)) (c .loop-test .left) (c .before .loop .inv .1) }
+
+pub settle-spec : {M : Type 1} → statement M
+settle-spec =
+    tie.close
+    (tie.spec Inv-loop μ-loop loop-holds sweep-requires loop-less loop-again same-length returns)

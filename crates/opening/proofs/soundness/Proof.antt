@@ -1,0 +1,34 @@
+-- `opening::soundness` meets its contract: its own list is long enough for every floor.
+-- Assumes nothing.
+use Rattle.model.proofs.Cells.{cells-le}
+use borrow.Author.Needs.{needs}
+use lib.Seq.{length-take-le}
+use mathlib.Core.Path.{sym, _∙_}
+use native.Mathlib.Omega.{arith}
+use Rattle.opening.proofs.soundness.Statement.{statement}
+use Rattle.opening.proofs.soundness.Tie as tie
+
+no-distances-requires : tie.Need-no-distances-requires
+no-distances-requires c κs = search needs
+
+array-borrow-prefix-dist : tie.Need-array-borrow-prefix-dist
+array-borrow-prefix-dist c = omega (arith, c .before .before .before .pre .long, c .no-distances .ensures, cells-le _ _ (c .before .before .before .pre .sized .narrow) (c .before .before .before .pre .sized .low))
+
+slice-aggregate-judge-in : tie.Need-slice-aggregate-judge-in
+slice-aggregate-judge-in c = sym (length-take-le _ (c .before .no-distances .result) (omega (arith, c .before .before .before .before .pre .long, c .before .no-distances .ensures, cells-le _ _ (c .before .before .before .before .pre .sized .narrow) (c .before .before .before .before .pre .sized .low))))
+
+judge-in-requires : tie.Need-judge-in-requires
+judge-in-requires c κs = (c .before .before .before .before .pre, length-take-le _ (c .before .no-distances .result) (omega (arith, c .before .before .before .before .pre .long, c .before .no-distances .ensures, cells-le _ _ (c .before .before .before .before .pre .sized .narrow) (c .before .before .before .before .pre .sized .low))) ∙ c .before .before .before .before .pre .long)
+
+returns : tie.Need-returns
+returns c = search needs
+
+pub soundness-spec : {M : Type 1} → statement M
+soundness-spec =
+    tie.close
+    (tie.spec
+    no-distances-requires
+    array-borrow-prefix-dist
+    slice-aggregate-judge-in
+    judge-in-requires
+    returns)

@@ -1,0 +1,18 @@
+-- What the public calls promise: the model's answer, so its number and place, and one value for every lent list.
+use Prim.Native.Nat.{ℕ}
+use mathlib.Core.Path.{_≡_}
+use mathlib.Core.List.{List}
+use lib.ListN.{length}
+use Rattle.answers.specs.Says.{saysVerdict}
+use Rattle.answers.specs.declared.Verdict.{Verdict}
+use Rattle.model.specs.Floor.{Floor}
+use Rattle.model.specs.Opening.{openTable, filled}
+
+pub record Answers (r v : Verdict) : Type 0 where
+  pub is : r ≡ v
+  pub says : saysVerdict r ≡ saysVerdict v
+
+-- filling a table with opening figures
+pub record Fills (f : Floor) (q : ℕ) (gs table : List ℕ) (r : Verdict) (after : List ℕ) : Type 0 where
+  pub answer : Answers r (openTable f q gs (length table))
+  pub left : after ≡ filled (openTable f q gs (length table)) f q gs table

@@ -1,0 +1,356 @@
+// Opening a job: true distances, the checks 1 to 7, and the table of opening figures.
+ghost use mathlib.Core.Path.{_≡_};
+ghost use mathlib.Core.Bool.{true, _||_};
+ghost use mathlib.Core.List.{List, [], _∷_};
+ghost use Prim.Native.Nat.{ℕ, _*_, _≤_, _<_};
+ghost use lib.ListN.{length, getD};
+ghost use Rattle.learning.specs.Ground.{listOf};
+ghost use Rattle.model.specs.Basics.{naming};
+ghost use Rattle.model.specs.Floor.{Sized, free, openingTable};
+ghost use Rattle.model.specs.Checks.{floorOf};
+ghost use Rattle.model.specs.Opening.{soundness, accepts, openJob, openTrial, reportsRoom, trialsHold, openRun};
+ghost use Rattle.floor.specs.Moves.{flat};
+ghost use Rattle.opening.specs.Distances.{far, Distances, above, judged, Openable};
+ghost use Rattle.opening.specs.Promise.{Answers, Fills};
+ghost use Rattle.opening.specs.Search.{throughStep, Leading, Spread, Best, Relaxed, inOrder, Swept, Settled};
+use answers::Job;
+use answers::Place;
+use answers::Verdict;
+use floor::Step;
+
+// What stands for a distance where no walk to the goal exists: more than any distance.
+pub const FAR: u32 = 1000000;
+
+// A cost in more bits.
+fn widen(cost: u16) -> u32
+    ensures { λ r. ⌜ (r ≡ cost) × (r < 65536) ⌝ }
+{
+    cost as u32
+}
+
+// The lesser of the best found so far and what a move gives: its cost and the distance from where it leads.
+fn through(step: Step, dist: &[u32], best: u32) -> u32
+    requires { ⌜ Leading step (now dist) ⌝ }
+    ensures { λ r. ⌜ r ≡ throughStep step (now (dist .entry)) best ⌝ }
+{
+    match step {
+        Step::Wall => best,
+        Step::To { cell, cost } => {
+            let d = widen(cost) + dist[cell];
+            if d < best {
+                return d;
+            }
+            best
+        }
+    }
+}
+
+// The least of a free cell's own distance and what its moves give.
+fn best_from(width: usize, height: usize, floor: &[u8], dist: &[u32], cell: usize) -> u32
+    requires { ⌜ Sized (flat width height (now floor)) × Spread (flat width height (now floor)) (now dist) × (free (flat width height (now floor)) cell ≡ true) ⌝ }
+    ensures { λ r. ⌜ Best (flat width height (now (floor .entry))) (now (dist .entry)) cell r ⌝ }
+{
+    let col = cell % width;
+    let row = cell / width;
+    let mut best = dist[cell];
+    let mut m = 0;
+    while m < 8 {
+        let step = floor::step_from(width, height, floor, cell, col, row, m);
+        best = through(step, dist, best);
+        m += 1;
+    }
+    best
+}
+
+// Lowers the distance of a cell to what its moves give: whether that was less.
+fn relax(width: usize, height: usize, floor: &[u8], dist: &mut [u32], cell: usize) -> bool
+    requires { ⌜ Sized (flat width height (now floor)) × Spread (flat width height (now floor)) (now dist) × (cell < width * height) ⌝ }
+    ensures { λ r. ⌜ Relaxed (flat width height (now (floor .entry))) cell r (now (dist .entry)) (now (dist .exit)) ⌝ }
+{
+    if !floor::is_free(width, height, floor, cell) {
+        return false;
+    }
+    let best = best_from(width, height, floor, &dist[..], cell);
+    if best < dist[cell] {
+        dist[cell] = best;
+        return true;
+    }
+    false
+}
+
+// The k-th of n cells in rising or in falling order.
+fn in_order(n: usize, down: bool, k: usize) -> usize
+    requires { ⌜ k < n ⌝ }
+    ensures { λ r. ⌜ (r ≡ inOrder n down k) × (r < n) ⌝ }
+{
+    if down {
+        return n - 1 - k;
+    }
+    k
+}
+
+fn either(a: bool, b: bool) -> bool
+    ensures { λ r. ⌜ r ≡ (a || b) ⌝ }
+{
+    if a { true } else { b }
+}
+
+// Relaxes every cell once: whether a distance was lowered.
+fn sweep(width: usize, height: usize, floor: &[u8], dist: &mut [u32], down: bool) -> bool
+    requires { ⌜ Sized (flat width height (now floor)) × Spread (flat width height (now floor)) (now dist) ⌝ }
+    ensures { λ r. ⌜ Swept (flat width height (now (floor .entry))) down r (width * height) (now (dist .entry)) (now (dist .exit)) ⌝ }
+{
+    let n = width * height;
+    let mut changed = false;
+    let mut k = 0;
+    while k < n {
+        let cell = in_order(n, down, k);
+        let lowered = relax(width, height, floor, dist, cell);
+        changed = either(changed, lowered);
+        k += 1;
+    }
+    changed
+}
+
+// Sweeps in rising and in falling order by turns, until one lowers nothing.
+fn settle(width: usize, height: usize, floor: &[u8], dist: &mut [u32])
+    requires { ⌜ Sized (flat width height (now floor)) × Spread (flat width height (now floor)) (now dist) ⌝ }
+    ensures { λ r. ⌜ Settled (flat width height (now (floor .entry))) (now (dist .entry)) (now (dist .exit)) ⌝ }
+{
+    let mut again = true;
+    let mut down = false;
+    while again {
+        again = sweep(width, height, floor, dist, down);
+        down = !down;
+    }
+}
+
+fn fill_far(dist: &mut [u32])
+    ensures { λ r. ⌜ now (dist .exit) ≡ listOf (length (now (dist .entry))) (λ x. far) ⌝ }
+{
+    let mut i = 0;
+    while i < dist.len() {
+        dist[i] = FAR;
+        i += 1;
+    }
+}
+
+// The true distance of every cell, and FAR where no walk to the goal exists.
+pub fn find_distances(width: usize, height: usize, floor: &[u8], goal: usize, dist: &mut [u32])
+    requires { ⌜ Sized (flat width height (now floor)) × (length (now dist) ≡ width * height) × (goal < width * height) ⌝ }
+    ensures { λ r. ⌜ Distances (flat width height (now (floor .entry))) (goal ∷ []) (now (dist .exit)) ⌝ }
+{
+    fill_far(dist);
+    dist[goal] = 0;
+    settle(width, height, floor, dist);
+}
+
+// Whether a figure is above the true figure of a cell at distance d, which can reach the goal.
+fn is_above(q: usize, d: u32, figure: u32) -> bool
+    requires { ⌜ q ≤ 16 ⌝ }
+    ensures { λ r. ⌜ r ≡ above q d figure ⌝ }
+{
+    if d < FAR {
+        q * floor::wide32(d) < floor::wide32(figure)
+    } else {
+        false
+    }
+}
+
+// 7: a cell that can reach the goal is above its true figure; names the lowest.
+fn unsound(q: usize, dist: &[u32], table: &[u32]) -> Verdict
+    requires { ⌜ (q ≤ 16) × (length (now dist) ≡ length (now table)) ⌝ }
+    ensures { λ r. ⌜ r ≡ naming (length (now (table .entry))) (λ x. above q (getD (now (dist .entry)) x 0) (getD (now (table .entry)) x 0)) 7 ⌝ }
+{
+    let mut x = 0;
+    while x < table.len() {
+        if is_above(q, dist[x], table[x]) {
+            return checks::refuse_at(7, Place::Cell(x));
+        }
+        x += 1;
+    }
+    Verdict::Done
+}
+
+// 6 and 7 by the true distances.
+fn judge_distances(q: usize, start: usize, dist: &[u32], table: &[u32]) -> Verdict
+    requires { ⌜ (q ≤ 16) × (length (now dist) ≡ length (now table)) × (start < length (now table)) ⌝ }
+    ensures { λ r. ⌜ r ≡ judged q start (now (dist .entry)) (now (table .entry)) ⌝ }
+{
+    if FAR <= dist[start] {
+        return checks::refuse(6);
+    }
+    unsound(q, dist, table)
+}
+
+// 6: no walk from start to goal exists. 7: as above. The list lent is for the true distances.
+fn judge_in(job: Job, floor: &[u8], start: usize, table: &[u32], dist: &mut [u32]) -> Verdict
+    requires { ⌜ Openable job (now floor) start (now table) × (length (now dist) ≡ job .width * job .height) ⌝ }
+    ensures { λ r. ⌜ r ≡ soundness job (now (floor .entry)) start (now (table .entry)) ⌝ }
+{
+    find_distances(job.width, job.height, floor, job.goal, dist);
+    judge_distances(job.q, start, &dist[..], table)
+}
+
+fn no_distances() -> [u32; 4096]
+    ensures { λ r. ⌜ length r ≡ 4096 ⌝ }
+{
+    [0u32; 4096]
+}
+
+// The same, with a list of its own.
+fn soundness(job: Job, floor: &[u8], start: usize, table: &[u32]) -> Verdict
+    requires { ⌜ Openable job (now floor) start (now table) ⌝ }
+    ensures { λ r. ⌜ r ≡ soundness job (now (floor .entry)) start (now (table .entry)) ⌝ }
+{
+    let n = table.len();
+    let mut dist = no_distances();
+    judge_in(job, floor, start, table, &mut dist[..n])
+}
+
+// 4 to 7, which every opening ends with.
+pub fn accepts(job: Job, floor: &[u8], start: usize, table: &[u32]) -> Verdict
+    requires { ⌜ Sized (floorOf job (now floor)) × (length (now table) ≡ job .width * job .height) × (job .q ≤ 16) ⌝ }
+    ensures { λ r. ⌜ r ≡ accepts job (now (floor .entry)) start (now (table .entry)) ⌝ }
+{
+    let v = checks::places(job.width, job.height, floor, start, job.goal);
+    let Verdict::Done = v else {
+        return v;
+    };
+    let v = checks::figures(table);
+    let Verdict::Done = v else {
+        return v;
+    };
+    soundness(job, floor, start, table)
+}
+
+// Opening a job: what the checks 1 and 3 to 7 say.
+pub fn open(job: Job, floor: &[u8], start: usize, table: &[u32]) -> Verdict
+    ensures { λ r. ⌜ Answers r (openJob job (now (floor .entry)) start (now (table .entry))) ⌝ }
+{
+    let v = checks::sizes(job.width, job.height, floor, table.len());
+    let Verdict::Done = v else {
+        return v;
+    };
+    let v = checks::settings(job);
+    let Verdict::Done = v else {
+        return v;
+    };
+    accepts(job, floor, start, table)
+}
+
+// The opening of a trial, whose path list has so many places: also 2.
+pub fn open_trial(job: Job, floor: &[u8], start: usize, table: &[u32], path: usize) -> Verdict
+    ensures { λ r. ⌜ ((places : List ℕ) → length places ≡ path → r ≡ openTrial job (now (floor .entry)) start (now (table .entry)) places) ⌝ }
+{
+    let v = checks::sizes(job.width, job.height, floor, table.len());
+    let Verdict::Done = v else {
+        return v;
+    };
+    let v = checks::path_room(table.len(), path);
+    let Verdict::Done = v else {
+        return v;
+    };
+    let v = checks::settings(job);
+    let Verdict::Done = v else {
+        return v;
+    };
+    accepts(job, floor, start, table)
+}
+
+// 2: reports shorter than trials.
+fn reports_room(trials: usize, records: usize) -> Verdict
+    ensures { λ r. ⌜ r ≡ reportsRoom trials records ⌝ }
+{
+    if records < trials {
+        return checks::refuse(2);
+    }
+    Verdict::Done
+}
+
+// 3: trials 1 to 1,000.
+fn trials_hold(trials: usize) -> Verdict
+    ensures { λ r. ⌜ r ≡ trialsHold trials ⌝ }
+{
+    if trials < 1 {
+        return checks::refuse(3);
+    }
+    if 1000 < trials {
+        return checks::refuse(3);
+    }
+    Verdict::Done
+}
+
+// The opening of a run: also its path list, its reports and its trials.
+pub fn open_run(
+    job: Job,
+    floor: &[u8],
+    start: usize,
+    table: &[u32],
+    path: usize,
+    trials: usize,
+    records: usize,
+) -> Verdict
+    ensures { λ r. ⌜ ((places : List ℕ) → length places ≡ path → r ≡ openRun job (now (floor .entry)) start (now (table .entry)) places trials records) ⌝ }
+{
+    let v = checks::sizes(job.width, job.height, floor, table.len());
+    let Verdict::Done = v else {
+        return v;
+    };
+    let v = checks::path_room(table.len(), path);
+    let Verdict::Done = v else {
+        return v;
+    };
+    let v = reports_room(trials, records);
+    let Verdict::Done = v else {
+        return v;
+    };
+    let v = checks::settings(job);
+    let Verdict::Done = v else {
+        return v;
+    };
+    let v = trials_hold(trials);
+    let Verdict::Done = v else {
+        return v;
+    };
+    accepts(job, floor, start, table)
+}
+
+// Fills a table with opening figures.
+fn fill_figures(width: usize, height: usize, goal: usize, q: usize, table: &mut [u32])
+    requires { ⌜ (1 ≤ width) × (width ≤ 64) × (height ≤ 64) × (q ≤ 16) × (goal < width * height) × (length (now table) ≡ width * height) ⌝ }
+    ensures { λ r. ⌜ ((bytes : List ℕ) → now (table .exit) ≡ openingTable (flat width height bytes) q (goal ∷ [])) ⌝ }
+{
+    let mut x = 0;
+    while x < table.len() {
+        table[x] = floor::opening(width, height, goal, q, x) as u32;
+        x += 1;
+    }
+}
+
+// The table of opening figures: what the checks 1, 3 and 4 say, and a table that they refuse stays as it is.
+pub fn fill_opening(
+    width: usize,
+    height: usize,
+    goal: usize,
+    q: usize,
+    floor: &[u8],
+    table: &mut [u32],
+) -> Verdict
+    ensures { λ r. ⌜ Fills (flat width height (now (floor .entry))) q (goal ∷ []) (now (table .entry)) r (now (table .exit)) ⌝ }
+{
+    let v = checks::sizes(width, height, floor, table.len());
+    let Verdict::Done = v else {
+        return v;
+    };
+    let v = checks::scale(q);
+    let Verdict::Done = v else {
+        return v;
+    };
+    let v = checks::bench(width, height, floor, goal);
+    let Verdict::Done = v else {
+        return v;
+    };
+    fill_figures(width, height, goal, q, table);
+    Verdict::Done
+}
