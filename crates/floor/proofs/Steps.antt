@@ -5,11 +5,10 @@ use mathlib.Core.Bool.{Bool, true, false}
 use Prim.Native.Nat.{ℕ, _≤_, _<_}
 use native.Mathlib.Omega.{arith}
 use Rattle.model.specs.Basics.{choose}
-use Rattle.model.specs.Floor.{Floor, Sized, size, free, price, ahead, allowed, heading, opposite}
+use Rattle.model.specs.Floor.{Floor, Sized, free, price, ahead, allowed, heading, opposite}
 use Rattle.model.specs.Grounds.{price-low, price-high}
 use Rattle.model.proofs.Cells.{cells-le}
 use Rattle.model.proofs.Moves.{allowed-some, allowed-free, free-lt, opposite-ahead, opposite-allowed, opposite-lt, price-move, heading-is}
-use Rattle.floor.specs.declared.Step.{Step}
 use Rattle.floor.specs.declared.Step.the-variants.{To, Wall}
 use Rattle.floor.specs.Moves.{stepOf}
 

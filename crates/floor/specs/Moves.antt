@@ -1,6 +1,6 @@
 -- One move as code finds it: the model's `allowed`, `ahead` and `price` as one answer.
 use mathlib.Core.Path.{_≡_}
-use mathlib.Core.Bool.{Bool, true, false}
+use mathlib.Core.Bool.{true}
 use mathlib.Core.List.{List}
 use Prim.Native.Nat.{ℕ}
 use Rattle.model.specs.Basics.{choose}

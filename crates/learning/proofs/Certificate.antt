@@ -1,12 +1,11 @@
 -- A certificate for true distances, in whatever order they were found: a row that is 0 at the goals, whose entries below a
 -- top are attained by walks, and that no move can lower, is the ground's. The top is more than any distance and stands for none.
 use Prim.Native.Nat.{ℕ, _+_, _-_, _*_, _≤_, _<_}
-use mathlib.Core.Path.{_≡_, refl, sym, ap, ap₂, _∙_}
+use mathlib.Core.Path.{_≡_, refl}
 use mathlib.Core.Bool.{Bool, true, false}
 use native.Mathlib.Nat.{mul-le-mul-left}
 use native.Mathlib.Decide.{decLe}
 use native.Mathlib.Omega.{arith}
-use lib.Dec.{T}
 use Rattle.learning.specs.Walk.{Any, Least, Arrives, Reaches}
 use Rattle.learning.specs.Ground.{Ground, Goal, netOf, pick, reachOf, distOf}
 use Rattle.learning.proofs.Walks.{least-unique}

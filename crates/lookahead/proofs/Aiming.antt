@@ -1,11 +1,10 @@
 -- The keys in a window that is worked out give the model's new figure and target.
 -- Assumes nothing.
-use mathlib.Core.Path.{_≡_, refl, ap, sym, _∙_, subst}
+use mathlib.Core.Path.{_≡_, sym, _∙_, subst}
 use mathlib.Core.List.{List}
-use Prim.Native.Nat.{ℕ, zero, suc, _+_, _-_, _*_, _/_, _%_, _≤_, _<_}
+use Prim.Native.Nat.{ℕ, zero, suc, _+_, _-_, _/_, _%_, _≤_}
 use native.Mathlib.Omega.{arith}
-use native.Mathlib.Decide.{decLe}
-use lib.ListN.{length, getD, replicate, length-replicate, getD-replicate}
+use lib.ListN.{getD, replicate, length-replicate, getD-replicate}
 use Rattle.learning.specs.Ahead.{Window, Ahead}
 use Rattle.learning.specs.Trial.{figure}
 use Rattle.learning.specs.Ground.{Ground, Goal, netOf, ringOf, lastOf, legOf}
@@ -13,15 +12,15 @@ use Rattle.learning.proofs.Sound.{ring-self}
 use Rattle.learning.proofs.Unique.{ring-unique}
 use Rattle.learning.proofs.Found.{found}
 use Rattle.answers.specs.declared.Job.{Job}
-use Rattle.model.specs.Floor.{Floor, size}
-use Rattle.model.specs.Checks.{floorOf, groundIn}
-use Rattle.model.specs.Lookahead.{seen, ring, w}
+use Rattle.model.specs.Floor.{size}
+use Rattle.model.specs.Checks.{groundIn}
+use Rattle.model.specs.Lookahead.{seen}
 use Rattle.model.proofs.Looking.{full-ring}
-use Rattle.lookahead.specs.Contract.{Asked, Near, Seen, Figures, Aimed}
+use Rattle.lookahead.specs.Contract.{Asked, Near, Figures, Aimed}
 use Rattle.lookahead.specs.Contract as contract
 use Rattle.lookahead.specs.Marks.{In}
 use Rattle.lookahead.specs.Costs.{at, Listing}
-use Rattle.lookahead.specs.Bests.{ringAt, unset, Scores, Bests, Topped}
+use Rattle.lookahead.specs.Bests.{ringAt, Scores, Bests, Topped}
 use Rattle.lookahead.proofs.Meaning.{start-on, not-goal, job-window, near-cell, near-few, near-leg, near-of, near-high, seen-window}
 use Rattle.lookahead.proofs.Weighing.{weighed, weighed-high}
 

@@ -3,20 +3,20 @@
 use mathlib.Core.Path.{_≡_, refl, ap, sym, _∙_, subst}
 use mathlib.Core.List.{List}
 use mathlib.Core.Bool.{true}
-use Prim.Native.Nat.{ℕ, suc, _+_, _-_, _*_, _≤_, _<_}
+use Prim.Native.Nat.{ℕ, _+_, _-_, _*_, _≤_, _<_}
 use native.Mathlib.Omega.{arith}
 use native.Mathlib.Decide.{decLe}
 use borrow.Author.Count.{below-more}
 use lib.ListN.{length, getD, set, length-set}
 use lib.Seq.{getD-set-same, getD-set-other}
-use Rattle.learning.specs.Walk.{Walk, stop, move}
+use Rattle.learning.specs.Walk.{Walk, move}
 use Rattle.learning.proofs.Walks.{widen, restate}
 use Rattle.model.specs.Floor.{Floor, Sized, free, price}
 use Rattle.model.specs.Grounds.{price-same}
 use Rattle.floor.specs.declared.Step.the-variants.{To, Wall}
 use Rattle.floor.specs.Moves.{stepOf}
 use Rattle.floor.proofs.Steps.{Stepped, stepped, wall≢to, same-to}
-use Rattle.lookahead.specs.Marks.{net, State, state, markOf, costAt, cellOf, In, Sizes, Room, Spread, Kept, Grew, Reached, Extended, Left, Swept, Out, blanks}
+use Rattle.lookahead.specs.Marks.{net, State, state, markOf, costAt, cellOf, In, Sizes, Room, Spread, Kept, Grew, Reached, Extended, Left, Swept, Out}
 use Rattle.lookahead.proofs.Blanks.{blanks-pos, blanks-set}
 use Rattle.lookahead.proofs.Stores.{by-store}
 

@@ -4,10 +4,10 @@ use mathlib.Core.Path.{_≡_, refl, ap, sym, _∙_, subst}
 use mathlib.Core.List.{List}
 use mathlib.Core.Bool.{true}
 use mathlib.Core.Logic.{inl, inr}
-use Prim.Native.Nat.{ℕ, suc, _+_, _-_, _*_, _≤_, _<_}
+use Prim.Native.Nat.{ℕ, _+_, _-_, _≤_, _<_}
 use native.Mathlib.Omega.{arith}
 use native.Mathlib.Decide.{decLe, decLt}
-use lib.ListN.{length, getD, set, length-set}
+use lib.ListN.{length, length-set}
 use lib.Seq.{getD-set-same}
 use Rattle.learning.specs.Walk.{Walk, stop, move, Any}
 use Rattle.learning.proofs.Walks.{restate}
@@ -16,7 +16,7 @@ use Rattle.floor.specs.declared.Step.the-variants.{To}
 use Rattle.floor.specs.Moves.{stepOf}
 use Rattle.floor.proofs.Steps.{price-step}
 use Rattle.lookahead.specs.Contract.{Fresh}
-use Rattle.lookahead.specs.Marks.{net, State, state, begun, markOf, costAt, cellOf, In, Sizes, Room, Spread, Kept, Grew, Swept, Segment, blanks}
+use Rattle.lookahead.specs.Marks.{net, State, begun, markOf, costAt, cellOf, In, Sizes, Room, Spread, Kept, Swept, Segment}
 use Rattle.lookahead.specs.Rings.{Done, Level, Full, Marked, Framed, Blocked}
 use Rattle.lookahead.proofs.Blanks.{blanks-set, blanks-all}
 use Rattle.lookahead.proofs.Stores.{by-store}

@@ -1,4 +1,4 @@
--- Laws of marks, levels and costs.
+-- For callers: Meaning (the window's cells, and number 9's case) and Fresh (the lent lists from call to call). The others hold inside.
 mod Blanks
 mod Stores
 mod Grow
@@ -10,3 +10,4 @@ pub mod Meaning
 mod Aiming
 mod Linking
 mod Tracing
+pub mod Fresh

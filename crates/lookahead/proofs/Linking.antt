@@ -1,8 +1,8 @@
 -- The lowest cell before another: one move more is considered at a time.
 -- Assumes nothing.
-use mathlib.Core.Path.{_≡_, refl, ap, sym, _∙_, subst}
+use mathlib.Core.Path.{_≡_, ap, sym, _∙_, subst}
 use mathlib.Core.List.{List}
-use Prim.Native.Nat.{ℕ, _+_, _%_, _≤_, _<_}
+use Prim.Native.Nat.{ℕ, _+_, _≤_, _<_}
 use native.Mathlib.Omega.{arith}
 use borrow.Author.Count.{below-more}
 use lib.ListN.{getD}
@@ -11,11 +11,11 @@ use Rattle.model.specs.Grounds.{price-same}
 use Rattle.model.proofs.Moves.{opposite-lt}
 use Rattle.floor.specs.declared.Step.the-variants.{To, Wall}
 use Rattle.floor.specs.Moves.{stepOf}
-use Rattle.floor.proofs.Steps.{stepped, step-heading, price-step, wall≢to, same-to, free-few}
+use Rattle.floor.proofs.Steps.{step-heading, price-step, wall≢to, same-to, free-few}
 use Rattle.lookahead.specs.declared.Link.{Link}
 use Rattle.lookahead.specs.Marks.{In}
 use Rattle.lookahead.specs.Costs.{Costs, at}
-use Rattle.lookahead.specs.Way.{Before, From, Linked, Prior}
+use Rattle.lookahead.specs.Way.{Before, Linked, Prior}
 use Rattle.lookahead.proofs.Grow.{edge-back}
 
 module _ (f : Floor) (z : Sized f) (base : ℕ) (mark cost : List ℕ) (x : ℕ) where

@@ -3,7 +3,7 @@
 use mathlib.Core.Path.{_≡_, refl, ap, sym, _∙_, subst}
 use mathlib.Core.List.{List, [], _∷_}
 use mathlib.Core.Bool.{Bool, true, false, true≢false}
-use mathlib.Core.Logic.{_⊎_, inl, inr, ⊎-elim}
+use mathlib.Core.Logic.{inl, inr, ⊎-elim}
 use Prim.Native.Nat.{ℕ, zero, suc, _+_, _≤_, _<_}
 use native.Mathlib.Omega.{arith}
 use native.Mathlib.Decide.{decLt}
@@ -15,7 +15,7 @@ use Rattle.model.specs.Floor.{Floor, Sized, price}
 use Rattle.model.specs.Grounds.{price-same}
 use Rattle.floor.specs.declared.Step.the-variants.{To, Wall}
 use Rattle.floor.specs.Moves.{stepOf}
-use Rattle.floor.proofs.Steps.{stepped, free-few, price-step, wall≢to, same-to}
+use Rattle.floor.proofs.Steps.{free-few, price-step, wall≢to, same-to}
 use Rattle.lookahead.specs.Marks.{net, In}
 use Rattle.lookahead.specs.Costs.{total, at, Costs, Walked, Tight, Tight1, Lowered, Lower, Listing, Passed, Relaxed}
 use Rattle.lookahead.proofs.Stores.{by-store}

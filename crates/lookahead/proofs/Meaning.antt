@@ -1,14 +1,14 @@
 -- What the lists mean: a window in the lists is the model's, and the other way round.
 -- Assumes nothing.
-use mathlib.Core.Path.{_≡_, refl, ap, sym, _∙_, subst}
-use mathlib.Core.List.{List, [], _∷_}
+use mathlib.Core.Path.{_≡_, ap, _∙_, subst}
+use mathlib.Core.List.{List}
 use mathlib.Core.Bool.{true, false}
 use mathlib.Core.Logic.{_⊎_, inl, inr}
-use Prim.Native.Nat.{ℕ, _+_, _-_, _*_, _≤_, _<_}
+use Prim.Native.Nat.{ℕ, _+_, _-_, _≤_, _<_}
 use native.Mathlib.Omega.{arith}
 use native.Mathlib.Decide.{decLe}
 use lib.ListN.{length, getD}
-use Rattle.learning.specs.Walk.{Walk, Any}
+use Rattle.learning.specs.Walk.{Walk, stop, move, Any}
 use Rattle.learning.specs.Ahead.{Window}
 use Rattle.learning.specs.Ground.{Ground, Goal, netOf, ringOf, lastOf, legOf}
 use Rattle.learning.proofs.Walks.{turn, widen}
@@ -19,17 +19,17 @@ use Rattle.learning.proofs.Look.{walk-inside}
 use Rattle.learning.proofs.Same.{window-same}
 use Rattle.learning.proofs.Route.{leg-high}
 use Rattle.answers.specs.declared.Job.{Job}
-use Rattle.model.specs.Floor.{Floor, Sized, size, free, price}
-use Rattle.model.specs.Grounds.{price-high}
+use Rattle.model.specs.Floor.{Floor, size, free}
+use Rattle.model.specs.Grounds.{price-free, price-high}
 use Rattle.model.specs.Checks.{floorOf, groundIn}
 use Rattle.model.specs.Lookahead.{seen, ring, w, emptyRing}
 use Rattle.model.proofs.Cells.{cells-le}
-use Rattle.model.proofs.Moves.{free-lt}
-use Rattle.model.proofs.Looking.{goal-only, empty-false, empty-true, empty-ring, full-ring}
+use Rattle.model.proofs.Moves.{is-true, free-lt}
+use Rattle.model.proofs.Looking.{goal-only, empty-false, empty-true, empty-ring}
 use Rattle.lookahead.specs.Contract.{Spent, Used, Asked, Near, Seen}
 use Rattle.lookahead.specs.Contract as contract
-use Rattle.lookahead.specs.Marks.{State, state, markOf, In}
-use Rattle.lookahead.specs.Rings.{Marked, Framed, Blocked}
+use Rattle.lookahead.specs.Marks.{state, In}
+use Rattle.lookahead.specs.Rings.{Framed, Blocked}
 use Rattle.lookahead.specs.Costs.{at, Relaxed}
 use Rattle.lookahead.specs.Bests.{ringAt}
 use Rattle.lookahead.proofs.Weighing.{ring-in, in-ring}
@@ -67,6 +67,18 @@ module _ (j : Job) (bytes : List ℕ) (s : ℕ) (Q : Asked j bytes s) where
 
   pub near-few : (x : ℕ) → Near j bytes s x → x < 4096
   near-few x h = omega (arith, near-cell x h, few-cells)
+
+  -- and free
+  walk-free : {x c n : ℕ} → Walk (netOf G) Any x s c n → free f x ≡ true
+  walk-free (stop t) = Q .start
+  walk-free (move {a = a} {b = b} t e v) = is-true (free f a) (price-free f a b (omega (arith, e .0, e .1)))
+
+  free-inside : (x : ℕ) → ringOf G d s x ≤ lastOf G d s → free f x ≡ true
+  free-inside x h = walk-free (turn (job-window .attained x h .1))
+
+  pub near-free : (x : ℕ) → Near j bytes s x → free (floorOf j bytes) x ≡ true
+  unfolding ringOf lastOf
+  near-free x h = free-inside x h
 
   low-leg : (x : ℕ) → ringOf G d s x ≤ lastOf G d s → legOf G d s x ≤ 112
   low-leg x h = omega (arith, leg-high job-window 14 (λ a b c e. omega (arith, e .1, price-high f a b)) x h, h, job-window .depth, Q .deep)

@@ -1,14 +1,13 @@
 -- From the marked rings and the relaxed costs to `learning`'s window, with the rings that the marks say and the costs in the list.
 -- Assumes nothing.
-use mathlib.Core.Path.{_≡_, refl, ap, sym, _∙_, subst}
+use mathlib.Core.Path.{_≡_, refl, sym, subst}
 use mathlib.Core.List.{List, [], _∷_}
 use mathlib.Core.Bool.{true}
 use mathlib.Core.Logic.{_⊎_, inl, inr}
-use Prim.Native.Nat.{ℕ, _+_, _-_, _*_, _≤_, _<_}
+use Prim.Native.Nat.{ℕ, _+_, _-_, _≤_}
 use native.Mathlib.Omega.{arith}
 use native.Mathlib.Decide.{decLe}
-use lib.ListN.{length, getD}
-use Rattle.learning.specs.Walk.{Walk, stop, Any, Least, Leads}
+use Rattle.learning.specs.Walk.{stop, Least, Leads}
 use Rattle.learning.specs.Ahead.{Window}
 use Rattle.learning.specs.Ground.{Goal}
 use Rattle.learning.proofs.Walks.{restate, turn, widen, least-same}
@@ -16,8 +15,8 @@ use Rattle.model.specs.Floor.{Floor, Sized, free}
 use Rattle.model.specs.Grounds.{groundOf}
 use Rattle.model.proofs.Looking.{goal-only, goal-is}
 use Rattle.lookahead.specs.Marks.{net, State, markOf, costAt, In}
-use Rattle.lookahead.specs.Rings.{Marked, Framed}
-use Rattle.lookahead.specs.Costs.{Costs, at, Walked, Listing, Relaxed}
+use Rattle.lookahead.specs.Rings.{Framed}
+use Rattle.lookahead.specs.Costs.{Costs, at, Listing, Relaxed}
 use Rattle.lookahead.specs.Bests.{ringAt}
 use Rattle.lookahead.proofs.Weighing.{ring-in, in-ring, ring-is}
 

@@ -1,33 +1,29 @@
 -- The route is written one move more at a time: the cell before is the model's, so the moves are those of its route.
 -- Assumes nothing.
-use mathlib.Core.Path.{_≡_, refl, ap, ap₂, sym, _∙_, subst}
+use mathlib.Core.Path.{_≡_, ap, ap₂, sym, _∙_, subst}
 use mathlib.Core.List.{List, [], _∷_, _++_}
-use mathlib.Core.Bool.{true}
 use mathlib.Core.Logic.{_≢_}
 use Prim.Native.Nat.{ℕ, zero, suc, _+_, _*_, _≤_, _<_}
 use native.Mathlib.Omega.{arith}
 use native.Mathlib.Numerals.{add-one}
-use native.Mathlib.Decide.{decLt}
-use lib.ListN.{length, getD, set, drop, length-append, length-drop, List·getD-append, List·getD-eq-default}
-use lib.Seq.{set-append-seam, drop-cons, append-snoc, getD-append-seam}
-use Rattle.learning.specs.Walk.{Walk, stop, move, Any}
-use Rattle.learning.specs.Ground.{Ground, Goal, netOf, viewOf, ringOf, lastOf, legOf}
-use Rattle.learning.specs.Route.{priorIn, routeOf}
-use Rattle.learning.proofs.Walks.{turn, costs-least}
+use lib.ListN.{length, getD, set, drop, length-append, length-drop}
+use lib.Seq.{set-append-seam, drop-cons, append-snoc}
+use Rattle.learning.specs.Ground.{Ground, viewOf, ringOf, lastOf, legOf}
+use Rattle.learning.specs.Route.{priorIn}
+use Rattle.learning.proofs.Walks.{costs-least}
 use Rattle.learning.proofs.Routes.{chain-walk, prior-before, prior-is, route-none, route-more, route-chain, route-short}
 use Rattle.answers.specs.declared.Job.{Job}
-use Rattle.model.specs.Floor.{Floor, Sized, free, price, heading}
-use Rattle.model.specs.Grounds.{price-free, price-low}
+use Rattle.model.specs.Floor.{Floor, free, heading}
+use Rattle.model.specs.Grounds.{price-low}
 use Rattle.model.specs.Checks.{floorOf, groundIn}
-use Rattle.model.specs.Lookahead.{seen, ring, w, route, movesAlong}
-use Rattle.model.proofs.Moves.{is-true}
+use Rattle.model.specs.Lookahead.{seen, route, movesAlong}
 use Rattle.model.proofs.Looking.{moves-more, moves-length}
 use Rattle.lookahead.specs.declared.Link.{Link}
 use Rattle.lookahead.specs.Contract.{Asked, Near, Seen, movesTo, Traced}
 use Rattle.lookahead.specs.Marks.{In}
 use Rattle.lookahead.specs.Costs.{at, Costs}
 use Rattle.lookahead.specs.Way.{Before, Prior}
-use Rattle.lookahead.proofs.Meaning.{start-on, not-goal, job-window, near-leg, near-of}
+use Rattle.lookahead.proofs.Meaning.{start-on, not-goal, near-leg, near-free, near-of}
 
 -- a store right behind the front
 seam : (ms out : List ℕ) (m : ℕ) → length ms < length out
@@ -58,23 +54,11 @@ module _ (j : Job) (bytes : List ℕ) (s : ℕ) (Q : Asked j bytes s) (base : �
   near : (x : ℕ) → In base mark x → Near j bytes s x
   near = near-of j bytes s Q base mark cost E
 
-  -- a cell that a walk leads to s from is free
-  walk-free : {x c n : ℕ} → Walk (netOf G) Any x s c n → free f x ≡ true
-  walk-free (stop t) = Q .start
-  walk-free (move {a = a} {b = b} t e v) = is-true (free f a) (price-free f a b (omega (arith, e .0, e .1)))
-
-  free-near : (x : ℕ) → ringOf G d s x ≤ lastOf G d s → free f x ≡ true
-  free-near x h = walk-free (turn (job-window j bytes s Q .attained x h .1))
-
-  near-free : (x : ℕ) → Near j bytes s x → free f x ≡ true
-  unfolding ringOf lastOf
-  near-free x h = free-near x h
-
   pub costs-of : Costs (floorOf j bytes) base mark cost
   costs-of = record {
     marks = E .spent .size;
     costs = E .size;
-    free = λ x i. near-free x (near x i);
+    free = λ x i. near-free j bytes s Q x (near x i);
     small = λ x i. omega (arith, E .costs x (near x i), near-leg j bytes s Q x (near x i));
   }
 

@@ -1,8 +1,8 @@
 -- The best of each ring. A cell's key is p × w + figure, and below that the cell: the least key of a ring has its best and, of equal ones, the lowest cell.
 use mathlib.Core.Path.{_≡_}
 use mathlib.Core.List.{List}
-use Prim.Native.Nat.{ℕ, _+_, _-_, _*_, _≤_, _<_, min}
-use lib.ListN.{length, getD, set}
+use Prim.Native.Nat.{ℕ, _+_, _-_, _*_, _≤_, _<_}
+use lib.ListN.{length, getD}
 use Rattle.lookahead.specs.Marks.{In}
 
 -- the ring that a mark says, and at least 9 where there is none

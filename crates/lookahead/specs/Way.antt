@@ -1,13 +1,12 @@
 -- The route to a cell of the window, found backward.
 use mathlib.Core.Path.{_≡_}
 use mathlib.Core.List.{List}
-use Prim.Native.Nat.{ℕ, _+_, _*_, _≤_, _<_}
-use lib.ListN.{length, getD}
-use Rattle.model.specs.Floor.{Floor, free, price, heading}
+use Prim.Native.Nat.{ℕ, _+_, _≤_, _<_}
+use Rattle.model.specs.Floor.{Floor, price, heading}
 use Rattle.floor.specs.declared.Step.the-variants.{To}
-use Rattle.floor.specs.Moves.{Placed, stepOf}
+use Rattle.floor.specs.Moves.{stepOf}
 use Rattle.lookahead.specs.Marks.{In}
-use Rattle.lookahead.specs.Costs.{Costs, at}
+use Rattle.lookahead.specs.Costs.{at}
 use Rattle.lookahead.specs.declared.Link.{Link}
 
 -- one move from the window's cell y, added to its w, gives exactly the w of x

@@ -1,17 +1,17 @@
 -- What each check says, for the code that makes it and for whoever was let through by it.
 -- A check judges a fact: it is done where the fact holds, and else refused by its number. A search that names the lowest cell has laws of its own.
 use Prim.Native.Nat.{ℕ, zero, suc, _≤_, _<_, min}
-use mathlib.Core.Path.{_≡_, refl, sym, ap, ap₂, _∙_, subst}
+use mathlib.Core.Path.{_≡_, refl, sym, ap, ap₂, _∙_}
 use mathlib.Core.Bool.{Bool, true, false, _&&_}
 use mathlib.Core.List.{List, [], _∷_}
 use native.Mathlib.Omega.{arith}
 use native.Mathlib.Decide.{decLe}
 use borrow.Author.Tests.{leb-true, ltb-true, eqb-true, ltb-false, le-leb, lt-ltb, le-ltb, eq-eqb}
-use lib.Dec.{T, leb, ltb, eqb}
+use lib.Dec.{leb, ltb, eqb}
 use lib.ListN.{length, getD}
 use Rattle.learning.specs.Ground.{pick, leastOver}
 use Rattle.learning.specs.Look.{lowest}
-use Rattle.learning.proofs.Spread.{over-top, over-low, over-met, pick-first, pick-true}
+use Rattle.learning.proofs.Spread.{over-low, over-met}
 use Rattle.answers.specs.declared.Job.{Job}
 use Rattle.answers.specs.declared.Refusal.{Refusal}
 use Rattle.answers.specs.declared.Place.the-variants as P
@@ -195,6 +195,31 @@ module _ (n : ℕ) (fault : ℕ → Bool) where
       by : (b : Bool) → fault k ≡ b → b ≡ false
       by true q = let w = some-named number k h q in let z : _≡_ {A = ℕ} 0 1 = cc in absurd (omega arith)
       by false q = refl
+
+-- what a search that refuses has found
+pub record Named (n : ℕ) (fault : ℕ → Bool) (number x : ℕ) (v : Verdict) : Type 0 where
+  pub inside : x < n
+  pub faulty : fault x ≡ true
+  pub first : NoneBelow fault x
+  pub answer : v ≡ refuseAt number (P.Cell x)
+
+pub naming-found : (n number : ℕ) (fault : ℕ → Bool) {r : Refusal} → naming n fault number ≡ Vd.Refused r → (x : ℕ) × Named n fault number x (naming n fault number)
+unfolding naming
+naming-found n number fault e = by (ltb (lowest n fault) n) refl e
+  where
+    here : lowest n fault < n → Named n fault number (lowest n fault) (naming n fault number)
+    here l =
+        let met = lowest-met n fault l in
+        record { inside = l; faulty = met; first = λ k h. below k h (fault k) refl; answer = some-named n fault number (lowest n fault) l met }
+      where
+        below : (k : ℕ) → k < lowest n fault → (b : Bool) → fault k ≡ b → b ≡ false
+        below k h true q = absurd (omega (arith, lowest-low n fault k (omega arith) q))
+        below k h false q = refl
+
+    by : {r : Refusal} (b : Bool) → ltb (lowest n fault) n ≡ b → choose b (refuseAt number (P.Cell (lowest n fault))) Vd.Done ≡ Vd.Refused r
+        → (x : ℕ) × Named n fault number x (naming n fault number)
+    by true q e = (lowest n fault, here (ltb-true (lowest n fault) n q))
+    by false q e = let z : _≡_ {A = ℕ} 0 1 = cc in absurd (omega arith)
 
 over-same : (t n : ℕ) (f g : ℕ → ℕ) → ((k : ℕ) → k < n → f k ≡ g k) → leastOver t n f ≡ leastOver t n g
 over-same t zero f g e = refl

@@ -18,4 +18,11 @@ pub mod Tables
 pub mod Demand
 -- Looking: the goal, empty rings, and the moves along a route.
 pub mod Looking
+-- Accepted: what each check says, and what it gives. Soundness: 6 and 7 by walks. OpeningSound: opening figures pass neither 5 nor 7.
+pub mod Soundness
 pub mod OpeningSound
+-- Accepted: what each check says, and what it gives. Figures: the opening figure is within the ceiling.
+-- Parts: parts of a list as code takes them. Files: the table file, check by check and step by step.
+pub mod Figures
+pub mod Parts
+pub mod Files

@@ -2,7 +2,7 @@
 -- Assumes nothing.
 use Prim.Native.Nat.{ℕ, zero, suc, _≤_, _<_}
 use mathlib.Core.Path.{_≡_, refl, sym, ap, ap₂, _∙_, subst}
-use mathlib.Core.Bool.{Bool, true, false, _&&_, _||_, true≢false}
+use mathlib.Core.Bool.{Bool, true, false, _||_, true≢false}
 use mathlib.Core.List.{List, [], _∷_, _++_}
 use mathlib.Core.Logic.{_⊎_, inl, inr}
 use native.Mathlib.Omega.{arith}
@@ -11,7 +11,7 @@ use lib.Dec.{T, ltb, leb, eqb}
 use lib.ListN.{length}
 use borrow.Author.Tests.{eqb-true, leb-true, lt-ltb, le-leb, lt-leb, eq-eqb}
 use Rattle.learning.specs.Walk.{Network}
-use Rattle.learning.specs.Ground.{Ground, Goal, View, pick}
+use Rattle.learning.specs.Ground.{Goal, View, pick}
 use Rattle.learning.specs.Look.{lowest}
 use Rattle.learning.specs.Route.{Chain, ended, step}
 use Rattle.learning.proofs.Spread.{over-met, pick-first}

@@ -3,17 +3,17 @@
 use mathlib.Core.Path.{_≡_, refl, ap, ap₂, sym, _∙_, subst}
 use mathlib.Core.List.{[], _∷_}
 use mathlib.Core.Bool.{Bool, true, false, _&&_}
-use Prim.Native.Nat.{ℕ, zero, suc, _+_, _-_, _*_, _/_, _%_, _≤_, _<_}
+use Prim.Native.Nat.{ℕ, zero, suc, _+_, _-_, _*_, _≤_, _<_}
 use native.Mathlib.Omega.{arith}
 use native.Mathlib.Nat.{mod-lt}
-use lib.Dec.{T, ltb, leb, eqb, lit≤, lit<}
+use lib.Dec.{T, leb, eqb, lit≤, lit<}
 use lib.ListN.{getD}
-use borrow.Author.Tests.{ltb-true, leb-true, eqb-true, lt-ltb, le-leb, eq-eqb}
+use borrow.Author.Tests.{leb-true, eqb-true, le-leb, eq-eqb}
 use Rattle.learning.specs.Ground.{pick}
 use Rattle.learning.specs.Look.{lowest}
 use Rattle.learning.proofs.Look.{lowest-low, lowest-met}
 use Rattle.model.specs.Floor.{Floor, Sized, size, column, row, free, apart, tariff, fare, price, east, south, ahead, inside, allowed, heading, opposite}
-use Rattle.model.specs.Grounds.{price-low, price-high, price-same, price-free, free-inside, apart-comm}
+use Rattle.model.specs.Grounds.{price-same, price-free, free-inside}
 use Rattle.model.proofs.Cells.{cell-lt, row-lt, col-at, row-at, cell-at}
 
 -- tests

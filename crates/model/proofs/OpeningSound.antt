@@ -1,14 +1,33 @@
 -- The opening figures are sound: no move lowers the octile distance by more than its price, so no opening figure passes the true one.
 -- And they are small, so no table of opening figures is refused by 5 or by 7. Assumes nothing.
-use Prim.Native.Nat.{ℕ, zero, suc, _+_, _-_, _*_, _/_, _%_, _≤_, _<_, min}
-use mathlib.Core.Path.{_≡_, refl, sym, ap, _∙_, subst}
+use Prim.Native.Nat.{ℕ, zero, suc, _+_, _*_, _≤_, _<_, min}
+use mathlib.Core.Path.{_≡_, refl, sym, ap, ap₂, _∙_, subst}
 use mathlib.Core.Bool.{Bool, true, false, _&&_, _||_}
+use mathlib.Core.Logic.{_⊎_, inl, inr}
 use mathlib.Core.List.{List, [], _∷_}
-use native.Mathlib.Nat.{mul-le-mul, mul-le-mul-left, mod-lt}
+use native.Mathlib.Nat.{mul-le-mul, mul-le-mul-left, mod-lt, min-eq-left, min-eq-right}
 use native.Mathlib.Omega.{arith}
-use lib.Dec.{T, ltb, eqb, leb, leb→le}
-use Rattle.model.specs.Floor.{Floor, size, column, row, apart, tariff, fare, octile, opening}
+use native.Mathlib.Decide.{decLe}
+use borrow.Author.Tests.{eqb-true, leb-true, le-ltb}
+use lib.Dec.{T, ltb, eqb, leb}
+use lib.ListN.{getD}
+use Rattle.learning.specs.Walk.{Any, Reaches}
+use Rattle.learning.specs.Ground.{Goal, netOf, pick, distOf}
+use Rattle.learning.proofs.Route.{closed-low}
+use Rattle.learning.proofs.Spread.{list-at, second-true}
+use Rattle.learning.proofs.Ground.{on-floor}
+use Rattle.learning.proofs.Certificate.{dist-least}
+use Rattle.answers.specs.declared.Job.{Job}
+use Rattle.answers.specs.declared.Verdict.the-variants as Vd
+use Rattle.model.specs.Basics.{member, then}
+use Rattle.model.specs.Floor.{Floor, size, Sized, column, row, free, apart, tariff, fare, price, octile, opening, openingTable}
+use Rattle.model.specs.Grounds.{groundOf}
+use Rattle.model.specs.Checks.{ceiling, floorOf, goals, groundIn, figures}
+use Rattle.model.specs.Opening.{soundness, accepts}
 use Rattle.model.proofs.Cells.{row-lt}
+use Rattle.model.proofs.Moves.{both, free-lt}
+use Rattle.model.proofs.Accepted.{then-next, figures-done, places-judges}
+use Rattle.model.proofs.Soundness.{CanReach, Above, sound}
 
 -- ---- how large
 
@@ -25,3 +44,138 @@ opening-high f some narrow low q g x fine hg hx =
   where
     far : (dx dy : ℕ) → dx < 64 → dy < 64 → 14 * min dx dy + 10 * apart dx dy ≤ 1512
     far dx dy h k = omega arith
+
+-- ---- no move lowers the octile distance by more than its price
+
+-- of dx columns and dy rows
+span : ℕ → ℕ → ℕ
+span dx dy = 14 * min dx dy + 10 * apart dx dy
+
+-- going one column and one row less at most
+span-mono : (x y x′ y′ : ℕ) → x ≤ x′ → y ≤ y′ → span x y ≤ span x′ y′
+unfolding span
+span-mono x y x′ y′ h k = omega arith
+
+span-step : (x y : ℕ) → (span (x + 1) y ≤ 10 + span x y) × (span x (y + 1) ≤ 10 + span x y) × (span (x + 1) (y + 1) ≤ 14 + span x y)
+unfolding span
+span-step x y = (omega arith, omega arith, omega arith)
+
+span-tariff : (e f x y x′ y′ : ℕ) → e ≤ 1 → f ≤ 1 → 1 ≤ tariff (e + f) → x ≤ x′ + e → y ≤ y′ + f → span x y ≤ tariff (e + f) + span x′ y′
+span-tariff zero zero x y x′ y′ he hf some hx hy = absurd (omega arith)
+span-tariff (suc zero) zero x y x′ y′ he hf some hx hy = omega (arith, span-mono x y (x′ + 1) y′ (omega arith) (omega arith), span-step x′ y′ .0)
+span-tariff zero (suc zero) x y x′ y′ he hf some hx hy = omega (arith, span-mono x y x′ (y′ + 1) (omega arith) (omega arith), span-step x′ y′ .1)
+span-tariff (suc zero) (suc zero) x y x′ y′ he hf some hx hy = omega (arith, span-mono x y (x′ + 1) (y′ + 1) (omega arith) (omega arith), span-step x′ y′ .2)
+span-tariff (suc (suc e)) f x y x′ y′ he hf some hx hy = absurd (omega arith)
+span-tariff zero (suc (suc f)) x y x′ y′ he hf some hx hy = absurd (omega arith)
+span-tariff (suc zero) (suc (suc f)) x y x′ y′ he hf some hx hy = absurd (omega arith)
+
+picked : (b : Bool) (n : ℕ) → 1 ≤ pick b n 0 → (b ≡ true) × (pick b n 0 ≡ n)
+picked true n h = (refl, refl)
+picked false n h = absurd (omega arith)
+
+span-fare : (a b : Bool) (e f x y x′ y′ : ℕ) → 1 ≤ fare a b e f → x ≤ x′ + e → y ≤ y′ + f → span x y ≤ fare a b e f + span x′ y′
+span-fare a b e f x y x′ y′ h hx hy =
+    let (t, k) = picked (a && b && leb e 1 && leb f 1) (tariff (e + f)) h in
+    let p = both (a && b && leb e 1) (leb f 1) t in
+    let le : e ≤ 1 = leb-true e 1 (both (a && b) (leb e 1) (p .0) .1) in
+    omega (arith, span-tariff e f x y x′ y′ le (leb-true f 1 (p .1)) (omega (arith, k)) hx hy, k)
+
+triangle : (a b g : ℕ) → apart a g ≤ apart b g + apart a b
+triangle a b g = omega arith
+
+min-scale : (q a b : ℕ) → min (q * a) (q * b) ≡ q * min a b
+min-scale q a b = by (decLe a b)
+  where
+    by : Dec (a ≤ b) → min (q * a) (q * b) ≡ q * min a b
+    by (yes h) = min-eq-left (mul-le-mul-left q h) ∙ ap (λ k. q * k) (sym (min-eq-left h))
+    by (no h) = min-eq-right (mul-le-mul-left q (omega arith)) ∙ ap (λ k. q * k) (sym (min-eq-right (omega arith)))
+
+either : (a b : Bool) → T (a || b) → (a ≡ true) ⊎ T b
+either true b t = inl refl
+either false b t = inr t
+
+module _ (f : Floor) where
+  -- the opening figures go by q
+  octile-scale : (q g x : ℕ) → octile f q g x ≡ q * octile f 1 g x
+  unfolding octile
+  octile-scale q g x = ap (λ k. q * k) (omega arith)
+
+  opening-scale : (q : ℕ) (gs : List ℕ) (x : ℕ) → opening f q gs x ≡ q * opening f 1 gs x
+  unfolding opening
+  opening-scale q [] x = omega arith
+  opening-scale q (g ∷ []) x = octile-scale q g x
+  opening-scale q (g ∷ h ∷ gs) x = ap₂ min (octile-scale q g x) (opening-scale q (h ∷ gs) x) ∙ min-scale q (octile f 1 g x) (opening f 1 (h ∷ gs) x)
+
+  octile-covers : (g a b : ℕ) → 1 ≤ price f a b → octile f 1 g a ≤ price f a b + octile f 1 g b
+  unfolding octile price span
+  octile-covers g a b h =
+      omega (
+        arith,
+        span-fare (free f a) (free f b) (apart (column f a) (column f b)) (apart (row f a) (row f b)) (apart (column f a) (column f g)) (apart (row f a) (row f g))
+            (apart (column f b) (column f g)) (apart (row f b) (row f g)) h (triangle (column f a) (column f b) (column f g)) (triangle (row f a) (row f b) (row f g)),
+      )
+
+  covers : (gs : List ℕ) (a b : ℕ) → 1 ≤ price f a b → opening f 1 gs a ≤ price f a b + opening f 1 gs b
+  unfolding opening
+  covers [] a b h = omega arith
+  covers (g ∷ []) a b h = octile-covers g a b h
+  covers (g ∷ k ∷ gs) a b h = omega (arith, octile-covers g a b h, covers (k ∷ gs) a b h)
+
+  octile-here : (g : ℕ) → octile f 1 g g ≤ 0
+  unfolding octile
+  octile-here g = omega arith
+
+  at-goal : (gs : List ℕ) (z : ℕ) → T (member z gs) → opening f 1 gs z ≤ 0
+  unfolding opening member
+  at-goal [] z t = absurd t
+  at-goal (g ∷ []) z t = by (either (eqb z g) false t)
+    where
+      by : (eqb z g ≡ true) ⊎ T false → octile f 1 g z ≤ 0
+      by (inl e) = subst (λ y. octile f 1 g y ≤ 0) (sym (eqb-true z g e)) (octile-here g)
+      by (inr h) = absurd h
+  at-goal (g ∷ k ∷ gs) z t = by (λ h. at-goal (k ∷ gs) z h) (either (eqb z g) (member z (k ∷ gs)) t)
+    where
+      by : (T (member z (k ∷ gs)) → opening f 1 (k ∷ gs) z ≤ 0) → (eqb z g ≡ true) ⊎ T (member z (k ∷ gs)) → min (octile f 1 g z) (opening f 1 (k ∷ gs) z) ≤ 0
+      by rest (inl e) = omega (arith, subst (λ y. octile f 1 g y ≤ 0) (sym (eqb-true z g e)) (octile-here g))
+      by rest (inr h) = omega (arith, rest h)
+
+  -- no opening figure passes the true figure
+  pub opening-low : (q : ℕ) (gs : List ℕ) (x : ℕ) → Reaches (netOf (groundOf f gs)) (Goal (groundOf f gs)) x → opening f q gs x ≤ q * distOf (groundOf f gs) x
+  opening-low q gs x r =
+      let (z, g, (n, w)) = dist-least (groundOf f gs) x r .met in
+      let low =
+      closed-low {N = netOf (groundOf f gs)} {S = Any} {Goal = Goal (groundOf f gs)} (opening f 1 gs) (λ y t. at-goal gs y (second-true (ltb y (size f)) (member y gs) t))
+      (λ a b c s e. omega (arith, e .0, e .1, covers gs a b (omega (arith, e .0, e .1)))) g w in
+      omega (arith, opening-scale q gs x, mul-le-mul-left q low)
+
+-- ---- a table of opening figures
+
+module _ (j : Job) (bytes : List ℕ) where
+  abbrev opened : List ℕ
+  opened = openingTable (floorOf j bytes) (j .q) (goals j)
+
+  figure-is : (x : ℕ) → x < size (floorOf j bytes) → getD opened x 0 ≡ opening (floorOf j bytes) (j .q) (goals j) x
+  unfolding openingTable
+  figure-is x h = list-at (size (floorOf j bytes)) (opening (floorOf j bytes) (j .q) (goals j)) x 0 h
+
+  -- is never refused by 7
+  pub opening-sound : (x : ℕ) → ¬ Above j bytes opened x
+  opening-sound x (r, l) = omega (arith, figure-is x (on-floor (groundIn j bytes) x r), opening-low (floorOf j bytes) (j .q) (goals j) x r)
+
+  -- nor by 5, so a job opens with it just where a walk exists
+  pub opening-opens : (start : ℕ) → Sized (floorOf j bytes) → j .q ≤ 16 → free (floorOf j bytes) start ≡ true → free (floorOf j bytes) (j .goal) ≡ true → CanReach j bytes start
+      → accepts j bytes start opened ≡ Vd.Done
+  unfolding accepts
+  opening-opens start z fine here bench r =
+      let f = floorOf j bytes in
+      then-next (then (figures f opened) (soundness j bytes start opened)) (places-judges f start (j .goal) .done (here, bench))
+      ∙ then-next (soundness j bytes start opened) (figures-done f opened (λ x h. le-ltb ceiling (getD opened x 0) (small x h)))
+      ∙ sound j bytes start opened r opening-sound
+    where
+      small : (x : ℕ) → x < size (floorOf j bytes) → getD opened x 0 ≤ ceiling
+      small x h =
+          omega (
+            arith,
+            figure-is x h,
+            opening-high (floorOf j bytes) (z .wide) (z .narrow) (z .low) (j .q) (j .goal) x fine (free-lt (floorOf j bytes) z (j .goal) bench) h,
+          )

@@ -1,19 +1,18 @@
 -- The search finds the true distances: each step keeps that every number below `far` is a walk's cost, and where no move gives less
 -- the numbers are certified. What a visit, a sweep and the whole search come to, one law for each.
-use Prim.Native.Nat.{ℕ, zero, suc, _+_, _-_, _*_, _≤_, _<_, min}
+use Prim.Native.Nat.{ℕ, zero, suc, _+_, _*_, _≤_, _<_, min}
 use mathlib.Core.Path.{_≡_, refl, sym, ap, _∙_, subst}
 use mathlib.Core.Bool.{Bool, true, false, _&&_, _||_}
 use mathlib.Core.List.{List, [], _∷_}
 use native.Mathlib.Nat.{mul-le-mul-left}
 use native.Mathlib.Decide.{ℕ-discrete, decLe}
-use native.Mathlib.Numerals.{add-one}
 use native.Mathlib.Omega.{arith}
 use borrow.Author.Count.{below-more}
 use borrow.Author.Tests.{lt-ltb, eq-eqb, eqb-true}
 use lib.Dec.{T, ltb, eqb}
 use lib.ListN.{length, getD, set, length-set}
 use lib.Seq.{getD-set-same, getD-set-other}
-use Rattle.learning.specs.Walk.{Any, Arrives, move, stop}
+use Rattle.learning.specs.Walk.{Arrives, move, stop}
 use Rattle.learning.specs.Ground.{Goal, netOf, listOf}
 use Rattle.learning.proofs.Spread.{second-true, list-at, list-length, list-off}
 use Rattle.learning.proofs.Certificate.{Certified, certificate}

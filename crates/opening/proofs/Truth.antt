@@ -9,7 +9,7 @@ use native.Mathlib.Omega.{arith}
 use borrow.Author.Tests.{lt-ltb, le-ltb}
 use lib.Dec.{T, ltb}
 use lib.ListN.{length, getD}
-use Rattle.learning.specs.Ground.{Ground, pick, reachOf, distOf}
+use Rattle.learning.specs.Ground.{reachOf, distOf}
 use Rattle.learning.proofs.Ground.{reach-true}
 use Rattle.learning.proofs.Certificate.{dist-high}
 use Rattle.answers.specs.declared.Job.{Job}

@@ -5,7 +5,7 @@ use mathlib.Core.Path.{_≡_}
 use mathlib.Core.Bool.{Bool, true, false}
 use mathlib.Core.List.{List, [], _∷_}
 use lib.ListN.{length, getD, set}
-use Rattle.model.specs.Floor.{Floor, size, Sized, price}
+use Rattle.model.specs.Floor.{Floor, size, price}
 use Rattle.floor.specs.declared.Step.{Step}
 use Rattle.floor.specs.declared.Step.the-variants.{To, Wall}
 use Rattle.opening.specs.Distances.{far}

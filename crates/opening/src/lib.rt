@@ -89,6 +89,7 @@ fn in_order(n: usize, down: bool, k: usize) -> usize
     k
 }
 
+// Whether one of two is true.
 fn either(a: bool, b: bool) -> bool
     ensures { λ r. ⌜ r ≡ (a || b) ⌝ }
 {
@@ -125,6 +126,7 @@ fn settle(width: usize, height: usize, floor: &[u8], dist: &mut [u32])
     }
 }
 
+// Every place holds FAR.
 fn fill_far(dist: &mut [u32])
     ensures { λ r. ⌜ now (dist .exit) ≡ listOf (length (now (dist .entry))) (λ x. far) ⌝ }
 {
@@ -192,6 +194,7 @@ fn judge_in(job: Job, floor: &[u8], start: usize, table: &[u32], dist: &mut [u32
     judge_distances(job.q, start, &dist[..], table)
 }
 
+// A list with a place for each cell of the largest floor.
 fn no_distances() -> [u32; 4096]
     ensures { λ r. ⌜ length r ≡ 4096 ⌝ }
 {

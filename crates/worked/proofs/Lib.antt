@@ -1,0 +1,15 @@
+-- P1 to P12 as one proved list, and the other worked lines of document 01:
+pub mod Cases
+pub mod More
+-- Cases for what these and the laws leave open:
+pub mod PinsDecision
+pub mod PinsChecks
+pub mod PinsOpening
+pub mod PinsRide
+pub mod PinsTable
+pub mod PinsText
+pub mod PinsLine
+pub mod PinsSays
+-- What they share:
+pub mod Hall
+pub mod Text

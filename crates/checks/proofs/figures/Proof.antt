@@ -1,6 +1,6 @@
 -- `checks::figures` meets its contract. The invariant: no cell that was passed has a figure above the ceiling.
 -- Assumes nothing.
-use Prim.Native.Nat.{ℕ, _-_, _≤_}
+use Prim.Native.Nat.{_-_, _≤_}
 use mathlib.Core.Path.{sym, _∙_}
 use native.Mathlib.Omega.{arith}
 use borrow.Author.Count.{below-more}

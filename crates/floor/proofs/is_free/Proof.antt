@@ -1,6 +1,6 @@
 -- `floor::is_free` meets its contract: the bytes are as many as the cells, so a cell past them is off the floor.
 -- Assumes nothing.
-use mathlib.Core.Path.{_≡_, sym, ap, _∙_}
+use mathlib.Core.Path.{sym, ap}
 use mathlib.Core.Bool.{_&&_}
 use native.Mathlib.Omega.{arith}
 use borrow.Author.Needs.{needs}

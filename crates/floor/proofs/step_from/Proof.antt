@@ -1,7 +1,7 @@
 -- `floor::step_from` meets its contract: each test that fails is a test of `allowed`, and the cost read is the toll of the move.
 -- Assumes nothing.
 use mathlib.Core.Path.{_≡_, refl, sym, ap, ap₂, _∙_}
-use mathlib.Core.Bool.{Bool, true, false, _&&_}
+use mathlib.Core.Bool.{Bool, true, false}
 use Prim.Native.Nat.{ℕ, _+_, _-_, _*_, _≤_, _<_}
 use native.Mathlib.Omega.{arith}
 use native.Mathlib.Nat.{mod-lt}
@@ -13,9 +13,8 @@ use Rattle.model.specs.Basics.{choose}
 use Rattle.model.specs.Floor.{Floor, Sized, size, column, row, free, price, ahead, allowed, east, south}
 use Rattle.model.proofs.Cells.{cells-le, row-lt}
 use Rattle.model.proofs.Moves.{east-le, south-le, toll, Inside, both, free-lt, both-of, ahead-lt, allowed-inside, allowed-free, allowed-true, price-ahead}
-use Rattle.floor.specs.declared.Step.{Step}
 use Rattle.floor.specs.declared.Step.the-variants.{To, Wall}
-use Rattle.floor.specs.Moves.{flat, Placed, stepOf}
+use Rattle.floor.specs.Moves.{flat, stepOf}
 use Rattle.floor.proofs.step_from.Statement.{statement}
 use Rattle.floor.proofs.step_from.Tie as tie
 

@@ -1,7 +1,5 @@
 -- `lookahead::aim` meets its contract: the keys that are entered and the greatest of them give the model's new figure and target.
 -- Assumes nothing.
-use mathlib.Core.Path.{_≡_}
-use native.Mathlib.Omega.{arith}
 use borrow.Author.Needs.{needs}
 use Rattle.lookahead.proofs.Aiming.{bests-none, scores, listing, aimed}
 use Rattle.lookahead.proofs.aim.Statement.{statement}

@@ -1,13 +1,12 @@
 -- `lookahead::clear` meets its contract. The loop's invariant: the marks at the first i places are 0.
 -- Assumes nothing.
-use Prim.Native.Nat.{ℕ, _+_, _-_, _≤_, _<_}
-use mathlib.Core.Path.{_≡_, refl, sym, _∙_}
+use Prim.Native.Nat.{ℕ, _-_, _≤_, _<_}
+use mathlib.Core.Path.{_≡_, refl}
 use native.Mathlib.Decide.{decLt}
 use native.Mathlib.Omega.{arith}
-use borrow.Author.Count.{below-more}
 use borrow.Author.Needs.{needs}
 use mathlib.Core.List.{List}
-use lib.ListN.{length, getD, set, length-set, List·getD-eq-default}
+use lib.ListN.{length, getD, length-set, List·getD-eq-default}
 use Rattle.lookahead.proofs.Stores.{by-store}
 use Rattle.lookahead.proofs.clear.Statement.{statement}
 use Rattle.lookahead.proofs.clear.Tie as tie

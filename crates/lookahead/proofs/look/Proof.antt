@@ -1,7 +1,5 @@
 -- `lookahead::look` meets its contract: the rings' marks and the relaxed costs are the model's window, or a ring is empty.
 -- Assumes nothing.
-use mathlib.Core.Path.{_≡_}
-use native.Mathlib.Omega.{arith}
 use borrow.Author.Needs.{needs}
 use Rattle.floor.proofs.Steps.{free-few}
 use Rattle.model.specs.Checks.{floorOf}

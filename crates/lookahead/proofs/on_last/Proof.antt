@@ -1,6 +1,6 @@
 -- `lookahead::on_last` meets its contract: a mark is that of the last ring just where the ring is the last.
 -- Assumes nothing.
-use Prim.Native.Nat.{ℕ, _+_, _≤_, _<_}
+use Prim.Native.Nat.{ℕ, _+_}
 use mathlib.Core.List.{List}
 use mathlib.Core.Path.{_≡_, sym, ap₂, _∙_}
 use native.Mathlib.Decide.{ℕ-discrete, decLe}

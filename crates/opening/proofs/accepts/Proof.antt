@@ -34,14 +34,24 @@ enum-told-4 c = search needs
 
 returns-2 : tie.Need-returns-2
 unfolding accepts
-returns-2 c = then-goes _ (c .before .before .before .before .before .places .ensures) (c .before .before .before .enum-told .given .1) (then-stops _ (c .before .before .figures .ensures (floorOf (c .before .before .before .before .before .before .before .before .args .job) (now (c .before .before .before .before .before .before .before .before .args .floor))) (sym (c .before .before .before .before .before .before .before .before .pre .1))) (c .enum-told4 .given .1))
+returns-2 c =
+    let a = c .before .before .before .before .before .before .before .before .args in
+    let f = floorOf (a .job) (now (a .floor)) in
+    then-goes _ (c .before .before .before .before .before .places .ensures) (c .before .before .before .enum-told .given .1) (then-stops _ (c .before .before .figures .ensures f (sym (c .before .before .before .before .before .before .before .before .pre .1))) (c .enum-told4 .given .1))
 
 soundness-requires : tie.Need-soundness-requires
-soundness-requires c κs = let h = places-judges (floorOf (c .before .before .before .before .before .before .before .before .args .job) (now (c .before .before .before .before .before .before .before .before .args .floor))) (c .before .before .before .before .before .before .before .before .args .start) (c .before .before .before .before .before .before .before .before .args .job .goal) .gives (sym (c .before .before .before .before .before .places .ensures) ∙ c .before .before .before .enum-told .given .1) in record { sized = c .before .before .before .before .before .before .before .before .pre .0; long = c .before .before .before .before .before .before .before .before .pre .1; fine = c .before .before .before .before .before .before .before .before .pre .2; begin = free-lt (floorOf (c .before .before .before .before .before .before .before .before .args .job) (now (c .before .before .before .before .before .before .before .before .args .floor))) (c .before .before .before .before .before .before .before .before .pre .0) _ (h .0); bench = free-lt (floorOf (c .before .before .before .before .before .before .before .before .args .job) (now (c .before .before .before .before .before .before .before .before .args .floor))) (c .before .before .before .before .before .before .before .before .pre .0) _ (h .1) }
+soundness-requires c κs =
+    let a = c .before .before .before .before .before .before .before .before .args in
+    let f = floorOf (a .job) (now (a .floor)) in
+    let p = c .before .before .before .before .before .before .before .before .pre in
+    let h = places-judges f (a .start) (a .job .goal) .gives (sym (c .before .before .before .before .before .places .ensures) ∙ c .before .before .before .enum-told .given .1) in record { sized = p .0; long = p .1; fine = p .2; begin = free-lt f (p .0) _ (h .0); bench = free-lt f (p .0) _ (h .1) }
 
 returns-3 : tie.Need-returns-3
 unfolding accepts
-returns-3 c = then-goes _ (c .before .before .before .before .before .before .places .ensures) (c .before .before .before .before .enum-told .given .1) (then-goes _ (c .before .before .before .figures .ensures (floorOf (c .before .before .before .before .before .before .before .before .before .args .job) (now (c .before .before .before .before .before .before .before .before .before .args .floor))) (sym (c .before .before .before .before .before .before .before .before .before .pre .1))) (c .before .enum-told3 .given .1) (c .soundness .ensures))
+returns-3 c =
+    let a = c .before .before .before .before .before .before .before .before .before .args in
+    let f = floorOf (a .job) (now (a .floor)) in
+    then-goes _ (c .before .before .before .before .before .before .places .ensures) (c .before .before .before .before .enum-told .given .1) (then-goes _ (c .before .before .before .figures .ensures f (sym (c .before .before .before .before .before .before .before .before .before .pre .1))) (c .before .enum-told3 .given .1) (c .soundness .ensures))
 
 pub accepts-spec : {M : Type 1} → statement M
 accepts-spec =

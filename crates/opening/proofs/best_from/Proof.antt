@@ -1,6 +1,6 @@
 -- `opening::best_from` meets its contract. The invariant: the best so far is the least of what the first m moves give.
 -- Assumes nothing.
-use Prim.Native.Nat.{ℕ, _-_, _<_}
+use Prim.Native.Nat.{_-_, _<_}
 use Rattle.floor.specs.Moves.{flat}
 use Rattle.model.proofs.Moves.{free-lt}
 use Rattle.opening.proofs.Search.{BestTo, best-none, best-more, best-all, step-leading}
@@ -26,19 +26,31 @@ div-row : tie.Need-div-row Inv-loop μ-loop
 div-row c = search needs
 
 mul-best : tie.Need-mul-best Inv-loop μ-loop
-mul-best c = let h : c .before .before .args .cell < length (now (c .before .before .args .dist)) = omega (arith, free-lt (flat (c .before .before .args .width) (c .before .before .args .height) (now (c .before .before .args .floor))) (c .before .before .pre .0) (c .before .before .args .cell) (c .before .before .pre .2), c .before .before .pre .1 .long) in search needs
+mul-best c =
+    let a = c .before .before .args in
+    let f = flat (a .width) (a .height) (now (a .floor)) in
+    let p = c .before .before .pre in
+    let h : a .cell < length (now (a .dist)) = omega (arith, free-lt f (p .0) (a .cell) (p .2), p .1 .long) in search needs
 
 shared-slice-read-best : tie.Need-shared-slice-read-best Inv-loop μ-loop
-shared-slice-read-best c = omega (arith, free-lt (flat (c .before .before .before .args .width) (c .before .before .before .args .height) (now (c .before .before .before .args .floor))) (c .before .before .before .pre .0) (c .before .before .before .args .cell) (c .before .before .before .pre .2), c .before .before .before .pre .1 .long)
+shared-slice-read-best c =
+    let a = c .before .before .before .args in
+    let f = flat (a .width) (a .height) (now (a .floor)) in
+    let p = c .before .before .before .pre in
+    omega (arith, free-lt f (p .0) (a .cell) (p .2), p .1 .long)
 
 loop-holds : tie.Need-loop-holds Inv-loop μ-loop
 loop-holds c = best-none _ _ _
 
 step-from-requires : tie.Need-step-from-requires Inv-loop μ-loop
-step-from-requires c κs = (c .before .before .before .before .before .pre .0, (record { free = c .before .before .before .before .before .pre .2; column = refl; row = refl }, omega arith))
+step-from-requires c κs =
+    let p = c .before .before .before .before .before .pre in
+    (p .0, (record { free = p .2; column = refl; row = refl }, omega arith))
 
 through-requires : tie.Need-through-requires Inv-loop μ-loop
-through-requires c κs = step-leading _ _ _ _ (c .before .before .before .before .before .before .pre .0) (c .before .before .before .before .before .before .pre .1) _ (c .step-from .ensures)
+through-requires c κs =
+    let p = c .before .before .before .before .before .before .pre in
+    step-leading _ _ _ _ (p .0) (p .1) _ (c .step-from .ensures)
 
 add-m : tie.Need-add-m Inv-loop μ-loop
 add-m c = search needs
@@ -47,7 +59,9 @@ loop-less : tie.Need-loop-less Inv-loop μ-loop
 loop-less c = omega arith
 
 loop-again : tie.Need-loop-again Inv-loop μ-loop
-loop-again c = best-more _ _ _ _ _ _ (c .before .before .before .before .before .before .before .pre .0) (omega arith) (c .before .before .before .loop .inv) (c .through .ensures ∙ ap (λ s. throughStep s (now (c .before .before .before .before .before .before .before .args .dist)) (c .before .before .before .loop .best)) (c .before .step-from .ensures))
+loop-again c =
+    let l = c .before .before .before .loop in
+    best-more _ _ _ _ _ _ (c .before .before .before .before .before .before .before .pre .0) (omega arith) (l .inv) (c .through .ensures ∙ ap (λ s. throughStep s (now (c .before .before .before .before .before .before .before .args .dist)) (l .best)) (c .before .step-from .ensures))
 
 returns : tie.Need-returns Inv-loop μ-loop
 returns c = best-all _ _ _ _ _ (c .before .before .before .before .before .pre .0) (omega arith) (c .before .loop .inv)

@@ -1,11 +1,11 @@
 -- `opening::fill_far` meets its contract. The invariant: the places passed hold `far`.
 -- Assumes nothing.
-use Prim.Native.Nat.{ℕ, _-_, _≤_}
+use Prim.Native.Nat.{_-_, _≤_}
 use Rattle.opening.proofs.Fill.{Filled, fill-more, fill-all}
 use Rattle.opening.specs.Distances.{far}
 use borrow.Author.Needs.{needs}
 use lib.ListN.{length, length-set}
-use mathlib.Core.Path.{_≡_, refl, sym, ap, _∙_, subst}
+use mathlib.Core.Path.{_≡_, refl, _∙_}
 use native.Mathlib.Omega.{arith}
 use Rattle.opening.proofs.fill_far.Statement.{statement}
 use Rattle.opening.proofs.fill_far.Tie as tie

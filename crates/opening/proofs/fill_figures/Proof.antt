@@ -1,6 +1,6 @@
 -- `opening::fill_figures` meets its contract. The invariant: the places passed hold their opening figures.
 -- Assumes nothing.
-use Prim.Native.Nat.{ℕ, _-_, _≤_}
+use Prim.Native.Nat.{_-_, _≤_}
 use Rattle.floor.specs.Moves.{flat}
 use Rattle.model.proofs.OpeningSound.{opening-high}
 use Rattle.model.specs.Floor.{opening, octile, openingTable}
@@ -8,7 +8,7 @@ use Rattle.opening.proofs.Fill.{Filled, fill-more, fill-all}
 use borrow.Author.Needs.{needs}
 use lib.ListN.{length, length-set}
 use mathlib.Core.List.{[], _∷_}
-use mathlib.Core.Path.{_≡_, refl, sym, ap, _∙_}
+use mathlib.Core.Path.{_≡_, refl, _∙_}
 use native.Mathlib.Omega.{arith}
 use Rattle.opening.proofs.fill_figures.Statement.{statement}
 use Rattle.opening.proofs.fill_figures.Tie as tie
@@ -26,7 +26,10 @@ opening-requires : tie.Need-opening-requires Inv-loop μ-loop
 opening-requires c κs = search needs
 
 cast-table : tie.Need-cast-table Inv-loop μ-loop
-cast-table c = record { fits = omega (arith, c .opening .ensures [], opening-high (flat (c .before .before .before .before .args .width) (c .before .before .before .before .args .height) []) (c .before .before .before .before .pre .0) (c .before .before .before .before .pre .1) (c .before .before .before .before .pre .2) (c .before .before .before .before .args .q) (c .before .before .before .before .args .goal) (c .before .before .loop .x) (c .before .before .before .before .pre .3) (c .before .before .before .before .pre .4) (omega arith)) }
+cast-table c =
+    let a = c .before .before .before .before .args in
+    let p = c .before .before .before .before .pre in
+    record { fits = omega (arith, c .opening .ensures [], opening-high (flat (a .width) (a .height) []) (p .0) (p .1) (p .2) (a .q) (a .goal) (c .before .before .loop .x) (p .3) (p .4) (omega arith)) }
 
 mul-table : tie.Need-mul-table Inv-loop μ-loop
 mul-table c = search needs
@@ -41,14 +44,19 @@ loop-less : tie.Need-loop-less Inv-loop μ-loop
 loop-less c = omega arith
 
 loop-again : tie.Need-loop-again Inv-loop μ-loop
-loop-again c = (omega arith, length-set (c .before .before .loop .table) (c .before .before .loop .x) (c .opening .result) ∙ c .before .before .loop .inv .1, fill-more _ (c .before .before .loop .x) _ (c .before .before .loop .table) (omega arith) (c .opening .ensures []) (c .before .before .loop .inv .2))
+loop-again c =
+    let l = c .before .before .loop in
+    (omega arith, length-set (l .table) (l .x) (c .opening .result) ∙ l .inv .1, fill-more _ (l .x) _ (l .table) (omega arith) (c .opening .ensures []) (l .inv .2))
 
 same-length : tie.Need-same-length Inv-loop μ-loop
 same-length c = c .before .loop .inv .1
 
 returns : tie.Need-returns Inv-loop μ-loop
 unfolding openingTable opening octile
-returns c = λ bytes. fill-all (opening (flat (c .before .before .before .args .width) (c .before .before .before .args .height) []) (c .before .before .before .args .q) (c .before .before .before .args .goal ∷ [])) _ _ (c .before .loop .inv .1 ∙ c .before .before .before .pre .5) (λ k h. c .before .loop .inv .2 k (omega arith))
+returns c =
+    let a = c .before .before .before .args in
+    let l = c .before .loop in
+    λ bytes. fill-all (opening (flat (a .width) (a .height) []) (a .q) (a .goal ∷ [])) _ _ (l .inv .1 ∙ c .before .before .before .pre .5) (λ k h. l .inv .2 k (omega arith))
 
 pub fill-figures-spec : {M : Type 1} → statement M
 fill-figures-spec =

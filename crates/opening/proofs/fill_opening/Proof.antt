@@ -9,7 +9,7 @@ use borrow.Author.Needs.{needs}
 use denote.Ref.{now}
 use lib.ListN.{length}
 use mathlib.Core.List.{[], _∷_}
-use mathlib.Core.Path.{refl, sym, _∙_}
+use mathlib.Core.Path.{sym, _∙_}
 use Rattle.opening.proofs.fill_opening.Statement.{statement}
 use Rattle.opening.proofs.fill_opening.Tie as tie
 
@@ -24,7 +24,10 @@ enum-told-2 c = search needs
 
 returns : tie.Need-returns
 unfolding openTable
-returns c = fills-refused (flat (c .before .before .before .before .before .args .width) (c .before .before .before .before .before .args .height) (now (c .before .before .before .before .before .args .floor))) (c .before .before .before .before .before .args .q) (c .before .before .before .before .before .args .goal ∷ []) (now (c .before .before .before .before .before .args .table)) (then-stops _ (c .before .before .sizes .ensures) (c .enum-told2 .given .1)) (c .enum-told2 .given .1)
+returns c =
+    let a = c .before .before .before .before .before .args in
+    let f = flat (a .width) (a .height) (now (a .floor)) in
+    fills-refused f (a .q) (a .goal ∷ []) (now (a .table)) (then-stops _ (c .before .before .sizes .ensures) (c .enum-told2 .given .1)) (c .enum-told2 .given .1)
 
 scale-requires : tie.Need-scale-requires
 scale-requires c κs = search needs
@@ -37,10 +40,16 @@ enum-told-4 c = search needs
 
 returns-2 : tie.Need-returns-2
 unfolding openTable
-returns-2 c = fills-refused (flat (c .before .before .before .before .before .before .before .before .args .width) (c .before .before .before .before .before .before .before .before .args .height) (now (c .before .before .before .before .before .before .before .before .args .floor))) (c .before .before .before .before .before .before .before .before .args .q) (c .before .before .before .before .before .before .before .before .args .goal ∷ []) (now (c .before .before .before .before .before .before .before .before .args .table)) (then-goes _ (c .before .before .before .before .before .sizes .ensures) (c .before .before .before .enum-told .given .1) (then-stops _ (c .before .before .scale .ensures) (c .enum-told4 .given .1))) (c .enum-told4 .given .1)
+returns-2 c =
+    let a = c .before .before .before .before .before .before .before .before .args in
+    let f = flat (a .width) (a .height) (now (a .floor)) in
+    fills-refused f (a .q) (a .goal ∷ []) (now (a .table)) (then-goes _ (c .before .before .before .before .before .sizes .ensures) (c .before .before .before .enum-told .given .1) (then-stops _ (c .before .before .scale .ensures) (c .enum-told4 .given .1))) (c .enum-told4 .given .1)
 
 bench-requires : tie.Need-bench-requires
-bench-requires c κs = sizes-judges (flat (c .before .before .before .before .before .before .before .before .args .width) (c .before .before .before .before .before .before .before .before .args .height) (now (c .before .before .before .before .before .before .before .before .args .floor))) (length (now (c .before .before .before .before .before .before .before .before .args .table))) .gives (sym (c .before .before .before .before .before .sizes .ensures) ∙ c .before .before .before .enum-told .given .1) .0
+bench-requires c κs =
+    let a = c .before .before .before .before .before .before .before .before .args in
+    let f = flat (a .width) (a .height) (now (a .floor)) in
+    sizes-judges f (length (now (a .table))) .gives (sym (c .before .before .before .before .before .sizes .ensures) ∙ c .before .before .before .enum-told .given .1) .0
 
 enum-told-5 : tie.Need-enum-told-5
 enum-told-5 c = search needs
@@ -50,17 +59,26 @@ enum-told-6 c = search needs
 
 returns-3 : tie.Need-returns-3
 unfolding openTable
-returns-3 c = fills-refused (flat (c .before .before .before .before .before .before .before .before .before .before .before .args .width) (c .before .before .before .before .before .before .before .before .before .before .before .args .height) (now (c .before .before .before .before .before .before .before .before .before .before .before .args .floor))) (c .before .before .before .before .before .before .before .before .before .before .before .args .q) (c .before .before .before .before .before .before .before .before .before .before .before .args .goal ∷ []) (now (c .before .before .before .before .before .before .before .before .before .before .before .args .table)) (then-goes _ (c .before .before .before .before .before .before .before .before .sizes .ensures) (c .before .before .before .before .before .before .enum-told .given .1) (then-goes _ (c .before .before .before .before .before .scale .ensures) (c .before .before .before .enum-told3 .given .1) (c .before .before .bench .ensures))) (c .enum-told6 .given .1)
+returns-3 c =
+    let a = c .before .before .before .before .before .before .before .before .before .before .before .args in
+    let f = flat (a .width) (a .height) (now (a .floor)) in
+    fills-refused f (a .q) (a .goal ∷ []) (now (a .table)) (then-goes _ (c .before .before .before .before .before .before .before .before .sizes .ensures) (c .before .before .before .before .before .before .enum-told .given .1) (then-goes _ (c .before .before .before .before .before .scale .ensures) (c .before .before .before .enum-told3 .given .1) (c .before .before .bench .ensures))) (c .enum-told6 .given .1)
 
 fill-figures-requires : tie.Need-fill-figures-requires
-fill-figures-requires c κs = let s = sizes-judges (flat (c .before .before .before .before .before .before .before .before .before .before .before .before .args .width) (c .before .before .before .before .before .before .before .before .before .before .before .before .args .height) (now (c .before .before .before .before .before .before .before .before .before .before .before .before .args .floor))) (length (now (c .before .before .before .before .before .before .before .before .before .before .before .before .args .table))) .gives (sym (c .before .before .before .before .before .before .before .before .before .sizes .ensures) ∙ c .before .before .before .before .before .before .before .enum-told .given .1) in let g = scale-judges (c .before .before .before .before .before .before .before .before .before .before .before .before .args .q) .gives (sym (c .before .before .before .before .before .before .scale .ensures) ∙ c .before .before .before .before .enum-told3 .given .1) in let b = bench-judges (flat (c .before .before .before .before .before .before .before .before .before .before .before .before .args .width) (c .before .before .before .before .before .before .before .before .before .before .before .before .args .height) (now (c .before .before .before .before .before .before .before .before .before .before .before .before .args .floor))) (c .before .before .before .before .before .before .before .before .before .before .before .before .args .goal) .gives (sym (c .before .before .before .bench .ensures) ∙ c .before .enum-told5 .given .1) in (s .0 .wide, s .0 .narrow, s .0 .low, g .1, free-lt (flat (c .before .before .before .before .before .before .before .before .before .before .before .before .args .width) (c .before .before .before .before .before .before .before .before .before .before .before .before .args .height) (now (c .before .before .before .before .before .before .before .before .before .before .before .before .args .floor))) (s .0) (c .before .before .before .before .before .before .before .before .before .before .before .before .args .goal) b, s .1)
+fill-figures-requires c κs =
+    let a = c .before .before .before .before .before .before .before .before .before .before .before .before .args in
+    let f = flat (a .width) (a .height) (now (a .floor)) in
+    let s = sizes-judges f (length (now (a .table))) .gives (sym (c .before .before .before .before .before .before .before .before .before .sizes .ensures) ∙ c .before .before .before .before .before .before .before .enum-told .given .1) in let g = scale-judges (a .q) .gives (sym (c .before .before .before .before .before .before .scale .ensures) ∙ c .before .before .before .before .enum-told3 .given .1) in let b = bench-judges f (a .goal) .gives (sym (c .before .before .before .bench .ensures) ∙ c .before .enum-told5 .given .1) in (s .0 .wide, s .0 .narrow, s .0 .low, g .1, free-lt f (s .0) (a .goal) b, s .1)
 
 same-length : tie.Need-same-length
 same-length c = search needs
 
 returns-4 : tie.Need-returns-4
 unfolding openTable
-returns-4 c = fills-done (flat (c .before .before .before .before .before .before .before .before .before .before .before .before .before .before .before .args .width) (c .before .before .before .before .before .before .before .before .before .before .before .before .before .before .before .args .height) (now (c .before .before .before .before .before .before .before .before .before .before .before .before .before .before .before .args .floor))) (c .before .before .before .before .before .before .before .before .before .before .before .before .before .before .before .args .q) (c .before .before .before .before .before .before .before .before .before .before .before .before .before .before .before .args .goal ∷ []) (now (c .before .before .before .before .before .before .before .before .before .before .before .before .before .before .before .args .table)) (then-goes _ (c .before .before .before .before .before .before .before .before .before .before .before .before .sizes .ensures) (c .before .before .before .before .before .before .before .before .before .before .enum-told .given .1) (then-goes _ (c .before .before .before .before .before .before .before .before .before .scale .ensures) (c .before .before .before .before .before .before .before .enum-told3 .given .1) (sym (c .before .before .before .before .enum-told5 .given .1) ∙ c .before .before .before .before .before .before .bench .ensures))) (c .before .before .fill-figures .ensures _)
+returns-4 c =
+    let a = c .before .before .before .before .before .before .before .before .before .before .before .before .before .before .before .args in
+    let f = flat (a .width) (a .height) (now (a .floor)) in
+    fills-done f (a .q) (a .goal ∷ []) (now (a .table)) (then-goes _ (c .before .before .before .before .before .before .before .before .before .before .before .before .sizes .ensures) (c .before .before .before .before .before .before .before .before .before .before .enum-told .given .1) (then-goes _ (c .before .before .before .before .before .before .before .before .before .scale .ensures) (c .before .before .before .before .before .before .before .enum-told3 .given .1) (sym (c .before .before .before .before .enum-told5 .given .1) ∙ c .before .before .before .before .before .before .bench .ensures))) (c .before .before .fill-figures .ensures _)
 
 pub fill-opening-spec : {M : Type 1} → statement M
 fill-opening-spec =

@@ -19,13 +19,25 @@ slice-write-dist : tie.Need-slice-write-dist
 slice-write-dist c = search needs
 
 settle-requires : tie.Need-settle-requires
-settle-requires c κs = (c .before .before .before .before .before .before .before .pre .0, subst (Spread (flat (c .before .before .before .before .before .before .before .args .width) (c .before .before .before .before .before .before .before .args .height) (now (c .before .before .before .before .before .before .before .args .floor)))) (sym (start-is (flat (c .before .before .before .before .before .before .before .args .width) (c .before .before .before .before .before .before .before .args .height) (now (c .before .before .before .before .before .before .before .args .floor))) (c .before .before .before .before .before .before .before .args .goal) (c .before .before .before .before .before .before .before .pre .2) (c .before .before .before .fill-far .last .0) _ (c .before .before .before .fill-far .ensures) (c .before .before .before .before .before .before .before .pre .1))) (start-spread (flat (c .before .before .before .before .before .before .before .args .width) (c .before .before .before .before .before .before .before .args .height) (now (c .before .before .before .before .before .before .before .args .floor))) (c .before .before .before .before .before .before .before .args .goal) (c .before .before .before .before .before .before .before .pre .2)))
+settle-requires c κs =
+    let a = c .before .before .before .before .before .before .before .args in
+    let f = flat (a .width) (a .height) (now (a .floor)) in
+    let p = c .before .before .before .before .before .before .before .pre in
+    (p .0, subst (Spread f) (sym (start-is f (a .goal) (p .2) (c .before .before .before .fill-far .last .0) _ (c .before .before .before .fill-far .ensures) (p .1))) (start-spread f (a .goal) (p .2)))
 
 same-length : tie.Need-same-length
-same-length c = settled-distances (flat (c .before .before .before .before .before .before .before .before .before .before .args .width) (c .before .before .before .before .before .before .before .before .before .before .args .height) (now (c .before .before .before .before .before .before .before .before .before .before .args .floor))) (c .before .before .before .before .before .before .before .before .before .before .args .goal) (c .before .before .before .before .before .before .before .before .before .before .pre .2) (c .before .before .before .before .before .before .before .before .before .before .pre .0) _ _ (start-is (flat (c .before .before .before .before .before .before .before .before .before .before .args .width) (c .before .before .before .before .before .before .before .before .before .before .args .height) (now (c .before .before .before .before .before .before .before .before .before .before .args .floor))) (c .before .before .before .before .before .before .before .before .before .before .args .goal) (c .before .before .before .before .before .before .before .before .before .before .pre .2) (c .before .before .before .before .before .before .fill-far .last .0) _ (c .before .before .before .before .before .before .fill-far .ensures) (c .before .before .before .before .before .before .before .before .before .before .pre .1)) (c .before .before .settle .ensures) .long ∙ sym (c .before .before .before .before .before .before .before .before .before .before .pre .1)
+same-length c =
+    let a = c .before .before .before .before .before .before .before .before .before .before .args in
+    let f = flat (a .width) (a .height) (now (a .floor)) in
+    let p = c .before .before .before .before .before .before .before .before .before .before .pre in
+    settled-distances f (a .goal) (p .2) (p .0) _ _ (start-is f (a .goal) (p .2) (c .before .before .before .before .before .before .fill-far .last .0) _ (c .before .before .before .before .before .before .fill-far .ensures) (p .1)) (c .before .before .settle .ensures) .long ∙ sym (p .1)
 
 returns : tie.Need-returns
-returns c = settled-distances (flat (c .before .before .before .before .before .before .before .before .before .before .args .width) (c .before .before .before .before .before .before .before .before .before .before .args .height) (now (c .before .before .before .before .before .before .before .before .before .before .args .floor))) (c .before .before .before .before .before .before .before .before .before .before .args .goal) (c .before .before .before .before .before .before .before .before .before .before .pre .2) (c .before .before .before .before .before .before .before .before .before .before .pre .0) _ _ (start-is (flat (c .before .before .before .before .before .before .before .before .before .before .args .width) (c .before .before .before .before .before .before .before .before .before .before .args .height) (now (c .before .before .before .before .before .before .before .before .before .before .args .floor))) (c .before .before .before .before .before .before .before .before .before .before .args .goal) (c .before .before .before .before .before .before .before .before .before .before .pre .2) (c .before .before .before .before .before .before .fill-far .last .0) _ (c .before .before .before .before .before .before .fill-far .ensures) (c .before .before .before .before .before .before .before .before .before .before .pre .1)) (c .before .before .settle .ensures)
+returns c =
+    let a = c .before .before .before .before .before .before .before .before .before .before .args in
+    let f = flat (a .width) (a .height) (now (a .floor)) in
+    let p = c .before .before .before .before .before .before .before .before .before .before .pre in
+    settled-distances f (a .goal) (p .2) (p .0) _ _ (start-is f (a .goal) (p .2) (c .before .before .before .before .before .before .fill-far .last .0) _ (c .before .before .before .before .before .before .fill-far .ensures) (p .1)) (c .before .before .settle .ensures)
 
 pub find-distances-spec : {M : Type 1} → statement M
 find-distances-spec =

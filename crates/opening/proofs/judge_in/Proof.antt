@@ -16,7 +16,8 @@ same-length : tie.Need-same-length
 same-length c = search needs
 
 returns : tie.Need-returns
-returns c = c .judge-distances .ensures ∙ judged-soundness _ _ _ _ _ (c .before .before .before .before .before .before .before .before .before .pre .0) (c .before .before .before .before .find-distances .ensures)
+returns c =
+    c .judge-distances .ensures ∙ judged-soundness _ _ _ _ _ (c .before .before .before .before .before .before .before .before .before .pre .0) (c .before .before .before .before .find-distances .ensures)
 
 pub judge-in-spec : {M : Type 1} → statement M
 judge-in-spec =

@@ -34,7 +34,10 @@ enum-told-4 c = search needs
 
 returns-2 : tie.Need-returns-2
 unfolding openRun
-returns-2 c = λ places e. then-goes _ (c .before .before .before .before .before .sizes .ensures) (c .before .before .before .enum-told .given .1) (then-stops _ (c .before .before .path-room .ensures (floorOf (c .before .before .before .before .before .before .before .before .args .job) (now (c .before .before .before .before .before .before .before .before .args .floor))) (sym (sizes-judges (floorOf (c .before .before .before .before .before .before .before .before .args .job) (now (c .before .before .before .before .before .before .before .before .args .floor))) _ .gives (sym (c .before .before .before .before .before .sizes .ensures) ∙ c .before .before .before .enum-told .given .1) .1)) ∙ ap (pathRoom (floorOf (c .before .before .before .before .before .before .before .before .args .job) (now (c .before .before .before .before .before .before .before .before .args .floor)))) (sym e)) (c .enum-told4 .given .1))
+returns-2 c =
+    let a = c .before .before .before .before .before .before .before .before .args in
+    let f = floorOf (a .job) (now (a .floor)) in
+    λ places e. then-goes _ (c .before .before .before .before .before .sizes .ensures) (c .before .before .before .enum-told .given .1) (then-stops _ (c .before .before .path-room .ensures f (sym (sizes-judges f _ .gives (sym (c .before .before .before .before .before .sizes .ensures) ∙ c .before .before .before .enum-told .given .1) .1)) ∙ ap (pathRoom f) (sym e)) (c .enum-told4 .given .1))
 
 reports-room-requires : tie.Need-reports-room-requires
 reports-room-requires c κs = search needs
@@ -47,7 +50,10 @@ enum-told-6 c = search needs
 
 returns-3 : tie.Need-returns-3
 unfolding openRun
-returns-3 c = λ places e. then-goes _ (c .before .before .before .before .before .before .before .before .sizes .ensures) (c .before .before .before .before .before .before .enum-told .given .1) (then-goes _ (c .before .before .before .before .before .path-room .ensures (floorOf (c .before .before .before .before .before .before .before .before .before .before .before .args .job) (now (c .before .before .before .before .before .before .before .before .before .before .before .args .floor))) (sym (sizes-judges (floorOf (c .before .before .before .before .before .before .before .before .before .before .before .args .job) (now (c .before .before .before .before .before .before .before .before .before .before .before .args .floor))) _ .gives (sym (c .before .before .before .before .before .before .before .before .sizes .ensures) ∙ c .before .before .before .before .before .before .enum-told .given .1) .1)) ∙ ap (pathRoom (floorOf (c .before .before .before .before .before .before .before .before .before .before .before .args .job) (now (c .before .before .before .before .before .before .before .before .before .before .before .args .floor)))) (sym e)) (c .before .before .before .enum-told3 .given .1) (then-stops _ (c .before .before .reports-room .ensures) (c .enum-told6 .given .1)))
+returns-3 c =
+    let a = c .before .before .before .before .before .before .before .before .before .before .before .args in
+    let f = floorOf (a .job) (now (a .floor)) in
+    λ places e. then-goes _ (c .before .before .before .before .before .before .before .before .sizes .ensures) (c .before .before .before .before .before .before .enum-told .given .1) (then-goes _ (c .before .before .before .before .before .path-room .ensures f (sym (sizes-judges f _ .gives (sym (c .before .before .before .before .before .before .before .before .sizes .ensures) ∙ c .before .before .before .before .before .before .enum-told .given .1) .1)) ∙ ap (pathRoom f) (sym e)) (c .before .before .before .enum-told3 .given .1) (then-stops _ (c .before .before .reports-room .ensures) (c .enum-told6 .given .1)))
 
 settings-requires : tie.Need-settings-requires
 settings-requires c κs = search needs
@@ -60,7 +66,10 @@ enum-told-8 c = search needs
 
 returns-4 : tie.Need-returns-4
 unfolding openRun
-returns-4 c = λ places e. then-goes _ (c .before .before .before .before .before .before .before .before .before .before .before .sizes .ensures) (c .before .before .before .before .before .before .before .before .before .enum-told .given .1) (then-goes _ (c .before .before .before .before .before .before .before .before .path-room .ensures (floorOf (c .before .before .before .before .before .before .before .before .before .before .before .before .before .before .args .job) (now (c .before .before .before .before .before .before .before .before .before .before .before .before .before .before .args .floor))) (sym (sizes-judges (floorOf (c .before .before .before .before .before .before .before .before .before .before .before .before .before .before .args .job) (now (c .before .before .before .before .before .before .before .before .before .before .before .before .before .before .args .floor))) _ .gives (sym (c .before .before .before .before .before .before .before .before .before .before .before .sizes .ensures) ∙ c .before .before .before .before .before .before .before .before .before .enum-told .given .1) .1)) ∙ ap (pathRoom (floorOf (c .before .before .before .before .before .before .before .before .before .before .before .before .before .before .args .job) (now (c .before .before .before .before .before .before .before .before .before .before .before .before .before .before .args .floor)))) (sym e)) (c .before .before .before .before .before .before .enum-told3 .given .1) (then-goes _ (c .before .before .before .before .before .reports-room .ensures) (c .before .before .before .enum-told5 .given .1) (then-stops _ (c .before .before .settings .ensures) (c .enum-told8 .given .1))))
+returns-4 c =
+    let a = c .before .before .before .before .before .before .before .before .before .before .before .before .before .before .args in
+    let f = floorOf (a .job) (now (a .floor)) in
+    λ places e. then-goes _ (c .before .before .before .before .before .before .before .before .before .before .before .sizes .ensures) (c .before .before .before .before .before .before .before .before .before .enum-told .given .1) (then-goes _ (c .before .before .before .before .before .before .before .before .path-room .ensures f (sym (sizes-judges f _ .gives (sym (c .before .before .before .before .before .before .before .before .before .before .before .sizes .ensures) ∙ c .before .before .before .before .before .before .before .before .before .enum-told .given .1) .1)) ∙ ap (pathRoom f) (sym e)) (c .before .before .before .before .before .before .enum-told3 .given .1) (then-goes _ (c .before .before .before .before .before .reports-room .ensures) (c .before .before .before .enum-told5 .given .1) (then-stops _ (c .before .before .settings .ensures) (c .enum-told8 .given .1))))
 
 trials-hold-requires : tie.Need-trials-hold-requires
 trials-hold-requires c κs = search needs
@@ -73,14 +82,23 @@ enum-told-10 c = search needs
 
 returns-5 : tie.Need-returns-5
 unfolding openRun
-returns-5 c = λ places e. then-goes _ (c .before .before .before .before .before .before .before .before .before .before .before .before .before .before .sizes .ensures) (c .before .before .before .before .before .before .before .before .before .before .before .before .enum-told .given .1) (then-goes _ (c .before .before .before .before .before .before .before .before .before .before .before .path-room .ensures (floorOf (c .before .before .before .before .before .before .before .before .before .before .before .before .before .before .before .before .before .args .job) (now (c .before .before .before .before .before .before .before .before .before .before .before .before .before .before .before .before .before .args .floor))) (sym (sizes-judges (floorOf (c .before .before .before .before .before .before .before .before .before .before .before .before .before .before .before .before .before .args .job) (now (c .before .before .before .before .before .before .before .before .before .before .before .before .before .before .before .before .before .args .floor))) _ .gives (sym (c .before .before .before .before .before .before .before .before .before .before .before .before .before .before .sizes .ensures) ∙ c .before .before .before .before .before .before .before .before .before .before .before .before .enum-told .given .1) .1)) ∙ ap (pathRoom (floorOf (c .before .before .before .before .before .before .before .before .before .before .before .before .before .before .before .before .before .args .job) (now (c .before .before .before .before .before .before .before .before .before .before .before .before .before .before .before .before .before .args .floor)))) (sym e)) (c .before .before .before .before .before .before .before .before .before .enum-told3 .given .1) (then-goes _ (c .before .before .before .before .before .before .before .before .reports-room .ensures) (c .before .before .before .before .before .before .enum-told5 .given .1) (then-goes _ (c .before .before .before .before .before .settings .ensures) (c .before .before .before .enum-told7 .given .1) (then-stops _ (c .before .before .trials-hold .ensures) (c .enum-told10 .given .1)))))
+returns-5 c =
+    let a = c .before .before .before .before .before .before .before .before .before .before .before .before .before .before .before .before .before .args in
+    let f = floorOf (a .job) (now (a .floor)) in
+    λ places e. then-goes _ (c .before .before .before .before .before .before .before .before .before .before .before .before .before .before .sizes .ensures) (c .before .before .before .before .before .before .before .before .before .before .before .before .enum-told .given .1) (then-goes _ (c .before .before .before .before .before .before .before .before .before .before .before .path-room .ensures f (sym (sizes-judges f _ .gives (sym (c .before .before .before .before .before .before .before .before .before .before .before .before .before .before .sizes .ensures) ∙ c .before .before .before .before .before .before .before .before .before .before .before .before .enum-told .given .1) .1)) ∙ ap (pathRoom f) (sym e)) (c .before .before .before .before .before .before .before .before .before .enum-told3 .given .1) (then-goes _ (c .before .before .before .before .before .before .before .before .reports-room .ensures) (c .before .before .before .before .before .before .enum-told5 .given .1) (then-goes _ (c .before .before .before .before .before .settings .ensures) (c .before .before .before .enum-told7 .given .1) (then-stops _ (c .before .before .trials-hold .ensures) (c .enum-told10 .given .1)))))
 
 accepts-requires : tie.Need-accepts-requires
-accepts-requires c κs = let s = sizes-judges (floorOf (c .before .before .before .before .before .before .before .before .before .before .before .before .before .before .before .before .before .args .job) (now (c .before .before .before .before .before .before .before .before .before .before .before .before .before .before .before .before .before .args .floor))) (length (now (c .before .before .before .before .before .before .before .before .before .before .before .before .before .before .before .before .before .args .table))) .gives (sym (c .before .before .before .before .before .before .before .before .before .before .before .before .before .before .sizes .ensures) ∙ c .before .before .before .before .before .before .before .before .before .before .before .before .enum-told .given .1) in let g = settings-judges (c .before .before .before .before .before .before .before .before .before .before .before .before .before .before .before .before .before .args .job) .gives (sym (c .before .before .before .before .before .settings .ensures) ∙ c .before .before .before .enum-told7 .given .1) in (s .0, s .1, g .fine)
+accepts-requires c κs =
+    let a = c .before .before .before .before .before .before .before .before .before .before .before .before .before .before .before .before .before .args in
+    let f = floorOf (a .job) (now (a .floor)) in
+    let s = sizes-judges f (length (now (a .table))) .gives (sym (c .before .before .before .before .before .before .before .before .before .before .before .before .before .before .sizes .ensures) ∙ c .before .before .before .before .before .before .before .before .before .before .before .before .enum-told .given .1) in let g = settings-judges (a .job) .gives (sym (c .before .before .before .before .before .settings .ensures) ∙ c .before .before .before .enum-told7 .given .1) in (s .0, s .1, g .fine)
 
 returns-6 : tie.Need-returns-6
 unfolding openRun
-returns-6 c = λ places e. then-goes _ (c .before .before .before .before .before .before .before .before .before .before .before .before .before .before .before .sizes .ensures) (c .before .before .before .before .before .before .before .before .before .before .before .before .before .enum-told .given .1) (then-goes _ (c .before .before .before .before .before .before .before .before .before .before .before .before .path-room .ensures (floorOf (c .before .before .before .before .before .before .before .before .before .before .before .before .before .before .before .before .before .before .args .job) (now (c .before .before .before .before .before .before .before .before .before .before .before .before .before .before .before .before .before .before .args .floor))) (sym (sizes-judges (floorOf (c .before .before .before .before .before .before .before .before .before .before .before .before .before .before .before .before .before .before .args .job) (now (c .before .before .before .before .before .before .before .before .before .before .before .before .before .before .before .before .before .before .args .floor))) _ .gives (sym (c .before .before .before .before .before .before .before .before .before .before .before .before .before .before .before .sizes .ensures) ∙ c .before .before .before .before .before .before .before .before .before .before .before .before .before .enum-told .given .1) .1)) ∙ ap (pathRoom (floorOf (c .before .before .before .before .before .before .before .before .before .before .before .before .before .before .before .before .before .before .args .job) (now (c .before .before .before .before .before .before .before .before .before .before .before .before .before .before .before .before .before .before .args .floor)))) (sym e)) (c .before .before .before .before .before .before .before .before .before .before .enum-told3 .given .1) (then-goes _ (c .before .before .before .before .before .before .before .before .before .reports-room .ensures) (c .before .before .before .before .before .before .before .enum-told5 .given .1) (then-goes _ (c .before .before .before .before .before .before .settings .ensures) (c .before .before .before .before .enum-told7 .given .1) (then-goes _ (c .before .before .before .trials-hold .ensures) (c .before .enum-told9 .given .1) (c .accepts .ensures)))))
+returns-6 c =
+    let a = c .before .before .before .before .before .before .before .before .before .before .before .before .before .before .before .before .before .before .args in
+    let f = floorOf (a .job) (now (a .floor)) in
+    λ places e. then-goes _ (c .before .before .before .before .before .before .before .before .before .before .before .before .before .before .before .sizes .ensures) (c .before .before .before .before .before .before .before .before .before .before .before .before .before .enum-told .given .1) (then-goes _ (c .before .before .before .before .before .before .before .before .before .before .before .before .path-room .ensures f (sym (sizes-judges f _ .gives (sym (c .before .before .before .before .before .before .before .before .before .before .before .before .before .before .before .sizes .ensures) ∙ c .before .before .before .before .before .before .before .before .before .before .before .before .before .enum-told .given .1) .1)) ∙ ap (pathRoom f) (sym e)) (c .before .before .before .before .before .before .before .before .before .before .enum-told3 .given .1) (then-goes _ (c .before .before .before .before .before .before .before .before .before .reports-room .ensures) (c .before .before .before .before .before .before .before .enum-told5 .given .1) (then-goes _ (c .before .before .before .before .before .before .settings .ensures) (c .before .before .before .before .enum-told7 .given .1) (then-goes _ (c .before .before .before .trials-hold .ensures) (c .before .enum-told9 .given .1) (c .accepts .ensures)))))
 
 pub open-run-spec : {M : Type 1} → statement M
 open-run-spec =

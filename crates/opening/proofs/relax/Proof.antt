@@ -15,7 +15,9 @@ returns : tie.Need-returns
 returns c = (refl, quiet-blocked _ (now (c .before .before .before .before .args .dist)) _ (sym (c .before .is-free .ensures) ∙ not-true _ (c .if1 .taken)))
 
 best-from-requires : tie.Need-best-from-requires
-best-from-requires c κs = (c .before .before .before .before .before .pre .0, c .before .before .before .before .before .pre .1, sym (c .before .before .is-free .ensures) ∙ not-false _ (c .before .if1 .left))
+best-from-requires c κs =
+    let p = c .before .before .before .before .before .pre in
+    (p .0, p .1, sym (c .before .before .is-free .ensures) ∙ not-false _ (c .before .if1 .left))
 
 mul-if2 : tie.Need-mul-if2
 mul-if2 c = search needs
@@ -33,13 +35,16 @@ same-length : tie.Need-same-length
 same-length c = search needs
 
 returns-2 : tie.Need-returns-2
-returns-2 c = lowered-one _ _ (c .before .before .before .before .before .before .before .before .pre .1) (c .before .before .before .before .before .before .before .before .pre .2) (c .if2 .taken) (c .before .before .best-from .ensures .met (c .if2 .taken))
+returns-2 c =
+    let p = c .before .before .before .before .before .before .before .before .pre in
+    lowered-one _ _ (p .1) (p .2) (c .if2 .taken) (c .before .before .best-from .ensures .met (c .if2 .taken))
 
 same-length-2 : tie.Need-same-length-2
 same-length-2 c = search needs
 
 returns-3 : tie.Need-returns-3
-returns-3 c = (refl, quiet-best _ (now (c .before .before .before .before .before .before .before .before .args .dist)) _ _ (c .before .before .best-from .ensures) (c .if2 .left))
+returns-3 c =
+    (refl, quiet-best _ (now (c .before .before .before .before .before .before .before .before .args .dist)) _ _ (c .before .before .best-from .ensures) (c .if2 .left))
 
 pub relax-spec : {M : Type 1} → statement M
 relax-spec =

@@ -1,13 +1,11 @@
 -- `opening::settle` meets its contract. The invariant: steps alone were made, and a sweep that lowered nothing left every cell quiet.
 -- The measure is the sum of the numbers, and one more while a sweep is due. Assumes nothing.
-use Prim.Native.Nat.{ℕ, _+_}
+use Prim.Native.Nat.{_+_}
 use Rattle.floor.specs.Moves.{flat}
 use Rattle.opening.proofs.Search.{lowered-spread, lowered-join, Rested, bit, swept-lowered, swept-rested, swept-falls}
 use Rattle.opening.specs.Search.{Lowered, none, total}
-use borrow.Author.Needs.{needs}
 use denote.Ref.{now}
-use mathlib.Core.Bool.{true, false}
-use mathlib.Core.Path.{_≡_, sym, ap, _∙_, subst}
+use mathlib.Core.Path.{sym, ap, _∙_, subst}
 use native.Mathlib.Omega.{arith}
 use Rattle.opening.proofs.settle.Statement.{statement}
 use Rattle.opening.proofs.settle.Tie as tie
@@ -25,16 +23,28 @@ sweep-requires : tie.Need-sweep-requires Inv-loop μ-loop
 sweep-requires c κs = (c .before .before .before .before .before .pre .0, lowered-spread (c .before .before .loop .inv .0) (c .before .before .before .before .before .pre .1))
 
 loop-less : tie.Need-loop-less Inv-loop μ-loop
-loop-less c = omega (arith, swept-falls (flat (c .before .before .before .before .before .before .before .before .args .width) (c .before .before .before .before .before .before .before .before .args .height) (now (c .before .before .before .before .before .before .before .before .args .floor))) (c .before .before .before .before .before .loop .down) (c .before .before .sweep .result) _ (c .before .before .before .before .before .loop .dist) _ (c .before .before .sweep .ensures), ap bit (c .before .before .before .before .loop-test .taken))
+loop-less c =
+    let a = c .before .before .before .before .before .before .before .before .args in
+    let f = flat (a .width) (a .height) (now (a .floor)) in
+    let l = c .before .before .before .before .before .loop in
+    omega (arith, swept-falls f (l .down) (c .before .before .sweep .result) _ (l .dist) _ (c .before .before .sweep .ensures), ap bit (c .before .before .before .before .loop-test .taken))
 
 loop-again : tie.Need-loop-again Inv-loop μ-loop
-loop-again c = (lowered-join (c .before .before .before .before .before .loop .inv .0) (swept-lowered (flat (c .before .before .before .before .before .before .before .before .args .width) (c .before .before .before .before .before .before .before .before .args .height) (now (c .before .before .before .before .before .before .before .before .args .floor))) (c .before .before .before .before .before .loop .down) (c .before .before .sweep .result) _ (c .before .before .before .before .before .loop .dist) _ (c .before .before .sweep .ensures)), swept-rested (flat (c .before .before .before .before .before .before .before .before .args .width) (c .before .before .before .before .before .before .before .before .args .height) (now (c .before .before .before .before .before .before .before .before .args .floor))) (c .before .before .before .before .before .loop .down) (c .before .before .sweep .result) (c .before .before .before .before .before .loop .dist) _ (c .before .before .sweep .ensures))
+loop-again c =
+    let a = c .before .before .before .before .before .before .before .before .args in
+    let f = flat (a .width) (a .height) (now (a .floor)) in
+    let l = c .before .before .before .before .before .loop in
+    (lowered-join (l .inv .0) (swept-lowered f (l .down) (c .before .before .sweep .result) _ (l .dist) _ (c .before .before .sweep .ensures)), swept-rested f (l .down) (c .before .before .sweep .result) (l .dist) _ (c .before .before .sweep .ensures))
 
 same-length : tie.Need-same-length Inv-loop μ-loop
 same-length c = lowered-spread (c .before .loop .inv .0) (c .before .before .before .before .pre .1) .long ∙ sym (c .before .before .before .before .pre .1 .long)
 
 returns : tie.Need-returns Inv-loop μ-loop
-returns c = record { lowered = c .before .loop .inv .0; quiet = subst (λ b. Rested (flat (c .before .before .before .before .args .width) (c .before .before .before .before .args .height) (now (c .before .before .before .before .args .floor))) b (c .before .loop .dist)) (c .loop-test .left) (c .before .loop .inv .1) }
+returns c =
+    let a = c .before .before .before .before .args in
+    let f = flat (a .width) (a .height) (now (a .floor)) in
+    let l = c .before .loop in
+    record { lowered = l .inv .0; quiet = subst (λ b. Rested f b (l .dist)) (c .loop-test .left) (l .inv .1) }
 
 pub settle-spec : {M : Type 1} → statement M
 settle-spec =

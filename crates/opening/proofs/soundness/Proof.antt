@@ -12,13 +12,19 @@ no-distances-requires : tie.Need-no-distances-requires
 no-distances-requires c κs = search needs
 
 array-borrow-prefix-dist : tie.Need-array-borrow-prefix-dist
-array-borrow-prefix-dist c = omega (arith, c .before .before .before .pre .long, c .no-distances .ensures, cells-le _ _ (c .before .before .before .pre .sized .narrow) (c .before .before .before .pre .sized .low))
+array-borrow-prefix-dist c =
+    let p = c .before .before .before .pre in
+    omega (arith, p .long, c .no-distances .ensures, cells-le _ _ (p .sized .narrow) (p .sized .low))
 
 slice-aggregate-judge-in : tie.Need-slice-aggregate-judge-in
-slice-aggregate-judge-in c = sym (length-take-le _ (c .before .no-distances .result) (omega (arith, c .before .before .before .before .pre .long, c .before .no-distances .ensures, cells-le _ _ (c .before .before .before .before .pre .sized .narrow) (c .before .before .before .before .pre .sized .low))))
+slice-aggregate-judge-in c =
+    let p = c .before .before .before .before .pre in
+    sym (length-take-le _ (c .before .no-distances .result) (omega (arith, p .long, c .before .no-distances .ensures, cells-le _ _ (p .sized .narrow) (p .sized .low))))
 
 judge-in-requires : tie.Need-judge-in-requires
-judge-in-requires c κs = (c .before .before .before .before .pre, length-take-le _ (c .before .no-distances .result) (omega (arith, c .before .before .before .before .pre .long, c .before .no-distances .ensures, cells-le _ _ (c .before .before .before .before .pre .sized .narrow) (c .before .before .before .before .pre .sized .low))) ∙ c .before .before .before .before .pre .long)
+judge-in-requires c κs =
+    let p = c .before .before .before .before .pre in
+    (p, length-take-le _ (c .before .no-distances .result) (omega (arith, p .long, c .before .no-distances .ensures, cells-le _ _ (p .sized .narrow) (p .sized .low))) ∙ p .long)
 
 returns : tie.Need-returns
 returns c = search needs

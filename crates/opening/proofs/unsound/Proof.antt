@@ -1,6 +1,6 @@
 -- `opening::unsound` meets its contract. The invariant: no cell that was passed is above its true figure.
 -- Assumes nothing.
-use Prim.Native.Nat.{ℕ, _-_, _≤_}
+use Prim.Native.Nat.{_-_, _≤_}
 use Rattle.model.proofs.Accepted.{NoneBelow, naming-names, naming-done}
 use Rattle.opening.specs.Distances.{above}
 use borrow.Author.Count.{below-more}
@@ -40,7 +40,10 @@ refuse-at-requires : tie.Need-refuse-at-requires Inv-loop μ-loop
 refuse-at-requires c κs = search needs
 
 returns : tie.Need-returns Inv-loop μ-loop
-returns c = c .refuse-at .ensures ∙ sym (naming-names _ (λ y. above (c .before .before .before .before .before .before .before .before .before .args .q) (getD (now (c .before .before .before .before .before .before .before .before .before .args .dist)) y 0) (getD (now (c .before .before .before .before .before .before .before .before .before .args .table)) y 0)) 7 (c .before .before .before .before .before .before .loop .x) (omega arith) (c .before .before .before .before .before .before .loop .inv .1) (sym (c .before .before .is-above .ensures) ∙ c .before .if1 .taken))
+returns c =
+    let a = c .before .before .before .before .before .before .before .before .before .args in
+    let l = c .before .before .before .before .before .before .loop in
+    c .refuse-at .ensures ∙ sym (naming-names _ (λ y. above (a .q) (getD (now (a .dist)) y 0) (getD (now (a .table)) y 0)) 7 (l .x) (omega arith) (l .inv .1) (sym (c .before .before .is-above .ensures) ∙ c .before .if1 .taken))
 
 add-x : tie.Need-add-x Inv-loop μ-loop
 add-x c = search needs
@@ -52,7 +55,9 @@ loop-again : tie.Need-loop-again Inv-loop μ-loop
 loop-again c = (omega arith, below-more _ _ (c .before .before .before .before .before .loop .inv .1) (sym (c .before .is-above .ensures) ∙ c .if1 .left))
 
 returns-2 : tie.Need-returns-2 Inv-loop μ-loop
-returns-2 c = sym (naming-done _ (λ y. above (c .before .before .before .before .args .q) (getD (now (c .before .before .before .before .args .dist)) y 0) (getD (now (c .before .before .before .before .args .table)) y 0)) 7 (λ k h. c .before .loop .inv .1 k (omega arith)))
+returns-2 c =
+    let a = c .before .before .before .before .args in
+    sym (naming-done _ (λ y. above (a .q) (getD (now (a .dist)) y 0) (getD (now (a .table)) y 0)) 7 (λ k h. c .before .loop .inv .1 k (omega arith)))
 
 pub unsound-spec : {M : Type 1} → statement M
 unsound-spec =

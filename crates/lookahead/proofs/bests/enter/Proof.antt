@@ -1,11 +1,10 @@
 -- `lookahead::bests::enter` meets its contract: the lower of the two is the least.
 -- Assumes nothing.
 use Prim.Native.Nat.{ℕ, _≤_, _<_, min}
-use mathlib.Core.List.{List}
 use mathlib.Core.Path.{_≡_, sym, ap, _∙_}
 use native.Mathlib.Omega.{arith}
 use borrow.Author.Needs.{needs}
-use lib.ListN.{length, getD, set}
+use lib.ListN.{getD, set}
 use lib.Seq.{set-getD}
 use Rattle.lookahead.proofs.bests.enter.Statement.{statement}
 use Rattle.lookahead.proofs.bests.enter.Tie as tie

@@ -1,6 +1,6 @@
 -- `lookahead::bests::greatest` meets its contract. The loop's invariant: top is the greatest of the entries 1 to k - 1.
 -- Assumes nothing.
-use Prim.Native.Nat.{ℕ, _+_, _-_, _≤_, _<_}
+use Prim.Native.Nat.{_+_, _-_, _≤_}
 use mathlib.Core.Path.{_≡_, subst}
 use native.Mathlib.Omega.{arith}
 use borrow.Author.Needs.{needs}

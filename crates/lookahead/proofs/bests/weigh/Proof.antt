@@ -1,13 +1,12 @@
 -- `lookahead::bests::weigh` meets its contract: a key of the window is small.
 -- Assumes nothing.
-use Prim.Native.Nat.{ℕ, _+_, _-_, _*_, _≤_, _<_, min}
-use mathlib.Core.Path.{_≡_, ap₂, _∙_}
+use Prim.Native.Nat.{_+_, _-_, _*_, _≤_, _<_, min}
+use mathlib.Core.Path.{ap₂, _∙_}
 use native.Mathlib.Omega.{arith}
 use native.Mathlib.Nat.{mul-le-mul}
 use borrow.Author.Needs.{needs}
 use lib.ListN.{length, getD, set}
 use Rattle.lookahead.proofs.Weighing.{value-lt, ring-is}
-use Rattle.lookahead.specs.Bests.{ringAt, value, key, Scores}
 use Rattle.lookahead.proofs.bests.weigh.Statement.{statement}
 use Rattle.lookahead.proofs.bests.weigh.Tie as tie
 

@@ -1,10 +1,9 @@
 -- `lookahead::bests::weigh_all` meets its contract. The loop's invariant: the keys of the first i cells are entered.
 -- Assumes nothing.
-use Prim.Native.Nat.{ℕ, _+_, _-_, _≤_, _<_}
+use Prim.Native.Nat.{_-_, _≤_}
 use mathlib.Core.Path.{_≡_, sym, _∙_, subst}
 use native.Mathlib.Omega.{arith}
 use borrow.Author.Needs.{needs}
-use lib.ListN.{getD}
 use Rattle.lookahead.proofs.Weighing.{in-ring, bests-more}
 use Rattle.lookahead.specs.Bests.{Bests}
 use Rattle.lookahead.specs.Marks.{In}

@@ -1,12 +1,12 @@
 -- `lookahead::costs::ease` meets its contract: what `lower` does, at the cell that the move leads to.
 -- Assumes nothing.
-use Prim.Native.Nat.{ℕ, _+_, _≤_, _<_}
+use Prim.Native.Nat.{_<_}
 use mathlib.Core.Path.{_≡_, sym, _∙_}
 use native.Mathlib.Omega.{arith}
 use borrow.Author.Needs.{needs}
 use Rattle.floor.proofs.Steps.{free-few, Stepped, stepped}
 use Rattle.floor.specs.Moves.{flat, stepOf}
-use Rattle.floor.specs.declared.Step.the-variants.{To, Wall}
+use Rattle.floor.specs.declared.Step.the-variants.{To}
 use Rattle.lookahead.proofs.Lowering.{eased, eased-out, eased-wall}
 use Rattle.lookahead.proofs.costs.ease.Statement.{statement}
 use Rattle.lookahead.proofs.costs.ease.Tie as tie

@@ -1,7 +1,7 @@
 -- `lookahead::costs::relax` meets its contract. The loop's invariant: the costs are still those of walks, and none has risen.
 -- The measure is their sum. Assumes nothing.
 use Prim.Native.Nat.{ℕ, _≤_}
-use mathlib.Core.Path.{_≡_, sym, _∙_}
+use mathlib.Core.Path.{sym, _∙_}
 use native.Mathlib.Omega.{arith}
 use Rattle.floor.specs.Moves.{flat}
 use Rattle.lookahead.proofs.Lowering.{relaxed, turned}

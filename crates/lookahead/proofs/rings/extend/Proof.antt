@@ -1,12 +1,12 @@
 -- `lookahead::rings::extend` meets its contract: what `reach` does, at the cell that the move leads to.
 -- Assumes nothing.
-use Prim.Native.Nat.{ℕ, _+_, _*_, _≤_, _<_}
+use Prim.Native.Nat.{_≤_, _<_}
 use mathlib.Core.Path.{_≡_, sym, _∙_}
 use native.Mathlib.Omega.{arith}
 use borrow.Author.Needs.{needs}
 use Rattle.floor.proofs.Steps.{free-few, stepped}
 use Rattle.floor.specs.Moves.{flat, stepOf}
-use Rattle.floor.specs.declared.Step.the-variants.{To, Wall}
+use Rattle.floor.specs.declared.Step.the-variants.{To}
 use Rattle.lookahead.proofs.Grow.{extended-to, extended-wall}
 use Rattle.lookahead.specs.Marks.{state, costAt}
 use Rattle.lookahead.proofs.rings.extend.Statement.{statement}

@@ -1,9 +1,8 @@
 -- `lookahead::rings::rings` meets its contract. The loop's invariant: rings 0 to r are marked, none is empty, and the goal is in none of them.
 -- Assumes nothing.
-use Prim.Native.Nat.{ℕ, _+_, _-_, _*_, _≤_, _<_}
-use mathlib.Core.Path.{_≡_, refl, ap, sym, _∙_, subst}
+use Prim.Native.Nat.{_+_, _-_, _≤_, _<_}
+use mathlib.Core.Path.{_≡_, sym, _∙_, subst}
 use native.Mathlib.Omega.{arith}
-use borrow.Author.Needs.{needs}
 use lib.ListN.{getD}
 use Rattle.floor.proofs.Steps.{free-few}
 use Rattle.floor.specs.Moves.{flat}

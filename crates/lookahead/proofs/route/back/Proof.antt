@@ -1,6 +1,6 @@
 -- `lookahead::route::back` meets its contract. The loop's invariant: b is the lowest cell before x that the first j moves lead to.
 -- Assumes nothing.
-use Prim.Native.Nat.{ℕ, _+_, _-_, _≤_, _<_}
+use Prim.Native.Nat.{_-_, _≤_}
 use mathlib.Core.Path.{_≡_, refl, subst}
 use native.Mathlib.Omega.{arith}
 use borrow.Author.Needs.{needs}

@@ -1,12 +1,12 @@
 -- `lookahead::route::consider` meets its contract: each test that fails leaves the link.
 -- Assumes nothing.
-use Prim.Native.Nat.{ℕ, _+_, _≤_, _<_}
+use Prim.Native.Nat.{_<_}
 use mathlib.Core.Path.{_≡_, sym, _∙_}
 use native.Mathlib.Omega.{arith}
 use borrow.Author.Needs.{needs}
 use Rattle.floor.proofs.Steps.{free-few, Stepped, stepped}
 use Rattle.floor.specs.Moves.{flat, stepOf}
-use Rattle.floor.specs.declared.Step.the-variants.{To, Wall}
+use Rattle.floor.specs.declared.Step.the-variants.{To}
 use Rattle.lookahead.proofs.Linking.{linked-out, linked-wall, linked-slack, linked-high, linked-new}
 use Rattle.lookahead.proofs.route.consider.Statement.{statement}
 use Rattle.lookahead.proofs.route.consider.Tie as tie

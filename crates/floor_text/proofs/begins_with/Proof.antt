@@ -1,0 +1,63 @@
+-- `floor_text::begins_with` meets its contract: the invariant: `Begun`, i bytes are the same.
+-- Assumes nothing.
+use Prim.Native.Nat.{_-_}
+use lib.ListN.{length}
+use Rattle.floor_text.proofs.Laws.{Begun, begun, begun-more, begun-not, begun-all, begins-short}
+use mathlib.Core.Path.{sym}
+use borrow.Author.Needs.{needs}
+use native.Mathlib.Omega.{arith}
+use Prim.Native.Nat.{_-_}
+use lib.ListN.{length}
+use native.Mathlib.Omega.{arith}
+use Rattle.floor_text.proofs.Laws.{Begun, begun, begun-more, begun-not, begun-all, begins-short}
+use Rattle.floor_text.proofs.begins_with.Statement.{statement}
+use Rattle.floor_text.proofs.begins_with.Tie as tie
+
+abbrev Inv-loop : tie.InvT-loop
+Inv-loop word text i₀ i = Begun word text i
+
+abbrev μ-loop : tie.MeasureT-loop
+μ-loop word text i₀ i = length word - i
+
+returns : tie.Need-returns Inv-loop μ-loop
+returns c = sym (begins-short _ _ (omega arith))
+
+loop-holds : tie.Need-loop-holds Inv-loop μ-loop
+loop-holds c = begun _ _
+
+shared-slice-read-if2 : tie.Need-shared-slice-read-if2 Inv-loop μ-loop
+shared-slice-read-if2 c = search needs
+
+shared-slice-read-if2-2 : tie.Need-shared-slice-read-if2-2 Inv-loop μ-loop
+shared-slice-read-if2-2 c = search needs
+
+returns-2 : tie.Need-returns-2 Inv-loop μ-loop
+returns-2 c = begun-not _ _ _ (c .before .before .before .before .loop .inv) (c .if2 .taken) (omega arith)
+
+add-i : tie.Need-add-i Inv-loop μ-loop
+add-i c = search needs
+
+loop-less : tie.Need-loop-less Inv-loop μ-loop
+loop-less c = search needs
+
+loop-again : tie.Need-loop-again Inv-loop μ-loop
+loop-again c = begun-more _ _ _ (c .before .before .before .before .loop .inv) (c .if2 .left) (omega arith)
+
+returns-3 : tie.Need-returns-3 Inv-loop μ-loop
+returns-3 c = begun-all _ _ _ (c .before .loop .inv) (omega arith)
+
+pub begins-with-spec : {M : Type 1} → statement M
+begins-with-spec =
+    tie.close
+    (tie.spec
+    Inv-loop
+    μ-loop
+    returns
+    loop-holds
+    shared-slice-read-if2
+    shared-slice-read-if2-2
+    returns-2
+    add-i
+    loop-less
+    loop-again
+    returns-3)

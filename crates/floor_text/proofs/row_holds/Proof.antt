@@ -1,0 +1,63 @@
+-- `floor_text::row_holds` meets its contract: the invariant: `Lettered`, i letters are passed.
+-- Assumes nothing.
+use Prim.Native.Nat.{_-_}
+use borrow.Author.Tests.{not-true, not-false}
+use mathlib.Core.Path.{sym, _∙_}
+use Rattle.floor_text.proofs.Laws.{Lettered, lettered, lettered-more, row-short, row-not, row-end}
+use borrow.Author.Needs.{needs}
+use native.Mathlib.Omega.{arith}
+use Rattle.floor_text.proofs.row_holds.Statement.{statement}
+use Rattle.floor_text.proofs.row_holds.Tie as tie
+
+abbrev Inv-loop : tie.InvT-loop
+Inv-loop width text i₀ i = Lettered width text i
+
+abbrev μ-loop : tie.MeasureT-loop
+μ-loop width text i₀ i = width - i
+
+returns : tie.Need-returns Inv-loop μ-loop
+returns c = row-short _ _ (omega arith)
+
+loop-holds : tie.Need-loop-holds Inv-loop μ-loop
+loop-holds c = lettered _ _
+
+shared-slice-read-is-letter : tie.Need-shared-slice-read-is-letter Inv-loop μ-loop
+shared-slice-read-is-letter c = search needs
+
+is-letter-requires : tie.Need-is-letter-requires Inv-loop μ-loop
+is-letter-requires c κs = search needs
+
+returns-2 : tie.Need-returns-2 Inv-loop μ-loop
+returns-2 c = row-not _ _ _ (c .before .before .before .before .loop .inv) (sym (c .before .is-letter .ensures) ∙ not-true _ (c .if2 .taken)) (omega arith)
+
+add-i : tie.Need-add-i Inv-loop μ-loop
+add-i c = search needs
+
+loop-less : tie.Need-loop-less Inv-loop μ-loop
+loop-less c = search needs
+
+loop-again : tie.Need-loop-again Inv-loop μ-loop
+loop-again c = lettered-more _ _ _ (c .before .before .before .before .loop .inv) (sym (c .before .is-letter .ensures) ∙ not-false _ (c .if2 .left)) (omega arith)
+
+shared-slice-read-result : tie.Need-shared-slice-read-result Inv-loop μ-loop
+shared-slice-read-result c = search needs
+
+returns-3 : tie.Need-returns-3 Inv-loop μ-loop
+returns-3 c = row-end _ _ _ (c .before .before .loop .inv) (omega arith)
+
+pub row-holds-spec : {M : Type 1} → statement M
+row-holds-spec =
+    tie.close
+    (tie.spec
+    Inv-loop
+    μ-loop
+    returns
+    loop-holds
+    shared-slice-read-is-letter
+    is-letter-requires
+    returns-2
+    add-i
+    loop-less
+    loop-again
+    shared-slice-read-result
+    returns-3)

@@ -1,0 +1,213 @@
+-- Laws of the table file: what each check asks, as a record that it is equal to; and one step of reading and of writing.
+-- The code cites them, and the round trip.
+use mathlib.Core.Path.{_≡_, refl, sym, _∙_, ap}
+use mathlib.Core.Bool.{Bool, true, false, not, _&&_}
+use mathlib.Core.List.{List, [], _∷_}
+use mathlib.Core.Logic.{_⊎_, inl, inr, ⊎-elim}
+use Prim.Native.Nat.{ℕ, zero, suc, _+_, _-_, _*_, _≤_, _<_}
+use native.Mathlib.Omega.{arith}
+use lib.Dec.{leb, ltb, eqb}
+use borrow.Author.Tests.{leb-true, ltb-false, leb-false, eqb-true, not-false, le-leb, lt-leb, le-ltb, eq-eqb, ne-eqb}
+use lib.ListN.{length, getD, take, drop, length-append}
+use Rattle.answers.specs.declared.Place.the-variants as P
+use Rattle.answers.specs.declared.Verdict.the-variants as Vd
+use Rattle.model.specs.Basics.{choose, refuseAt, unless, naming}
+use Rattle.model.specs.Floor.{Floor, size, free, opening}
+use Rattle.model.specs.Checks.{ceiling, figures}
+use Rattle.model.specs.Opening.{openTable}
+use Rattle.model.specs.TableFile.{halfAt, trailer, countIn, backIn, isLetters, trailerHolds, checkTrailer, findRecords, sameJob, cellIn, figureIn, recordFault, judgeRecords, changed, readVerdict, recordsOf, trailerOf, fileOf, unlike, fileRoom, writeVerdict}
+use Rattle.model.proofs.Moves.{both, both-of}
+use Rattle.model.proofs.Accepted.{then-done}
+
+-- a test that can't pass fails
+pub fails : (b : Bool) → (b ≡ true → ⊥) → b ≡ false
+fails true h = absurd (h refl)
+fails false h = refl
+
+pub unless-done : (b : Bool) (number : ℕ) → unless b number ≡ Vd.Done → b ≡ true
+unless-done true number e = refl
+unless-done false number e = let z : _≡_ {A = ℕ} 0 1 = cc in absurd (omega arith)
+
+-- ---- 13, the trailer
+
+pub record Trailer (file : List ℕ) : Type 0 where
+  pub long : 16 ≤ length file
+  pub letters : isLetters (trailer file) ≡ true
+  pub edition : getD (trailer file) 5 0 ≡ 1
+  pub even : backIn file ≡ 16 + 6 * countIn file
+  pub within : backIn file ≤ length file
+
+module _ (file : List ℕ) where
+  pub trailer-true : Trailer file → trailerHolds file ≡ true
+  unfolding trailerHolds
+  trailer-true t =
+      both-of _ _ (both-of _ _ (both-of _ _ (both-of _ _ (le-leb 16 (length file) (t .long)) (t .letters)) (eq-eqb (getD (trailer file) 5 0) 1 (t .edition)))
+      (eq-eqb (backIn file) (16 + 6 * countIn file) (t .even))) (le-leb (backIn file) (length file) (t .within))
+
+  pub trailer-gives : trailerHolds file ≡ true → Trailer file
+  unfolding trailerHolds
+  trailer-gives e =
+      let a = both _ (leb (backIn file) (length file)) e in
+      let b = both _ (eqb (backIn file) (16 + 6 * countIn file)) (a .0) in
+      let c = both _ (eqb (getD (trailer file) 5 0) 1) (b .0) in
+      let d = both (leb 16 (length file)) (isLetters (trailer file)) (c .0) in
+      record { long = leb-true 16 (length file) (d .0); letters = d .1; edition = eqb-true _ _ (c .1); even = eqb-true _ _ (b .1); within = leb-true _ _ (a .1) }
+
+  pub trailer-false : (Trailer file → ⊥) → trailerHolds file ≡ false
+  trailer-false h = fails (trailerHolds file) (λ e. h (trailer-gives e))
+
+  pub check-done : trailerHolds file ≡ true → checkTrailer file ≡ Vd.Done
+  unfolding checkTrailer
+  check-done e = rw e
+
+  pub check-refused : trailerHolds file ≡ false → checkTrailer file ≡ refuseAt 13 P.Nowhere
+  unfolding checkTrailer
+  check-refused e = rw e
+
+  pub check-gives : checkTrailer file ≡ Vd.Done → Trailer file
+  unfolding checkTrailer
+  check-gives e = trailer-gives (unless-done (trailerHolds file) 13 e)
+
+  -- the records that a sound trailer points to
+  pub found : trailerHolds file ≡ true → findRecords file ≡ take (6 * countIn file) (drop (length file - backIn file) file)
+  unfolding findRecords
+  found e = rw e
+
+  pub found-none : trailerHolds file ≡ false → findRecords file ≡ []
+  unfolding findRecords
+  found-none e = rw e
+
+-- ---- 14, this job's
+
+pub record Same (f : Floor) (q : ℕ) (gs t : List ℕ) : Type 0 where
+  pub width : getD t 0 0 ≡ f .width
+  pub height : getD t 1 0 ≡ f .height
+  pub goal : halfAt t 2 ≡ getD gs 0 0
+  pub scale : getD t 4 0 ≡ q
+
+module _ (f : Floor) (q : ℕ) (gs file : List ℕ) where
+  pub same-done : Same f q gs (trailer file) → sameJob f q gs file ≡ Vd.Done
+  unfolding sameJob
+  same-done s =
+      let t = trailer file in
+      simp (eq-eqb (getD t 0 0) (f .width) (s .width), eq-eqb (getD t 1 0) (f .height) (s .height), eq-eqb (halfAt t 2) (getD gs 0 0) (s .goal), eq-eqb (getD t 4 0) q (s .scale))
+
+  pub same-gives : sameJob f q gs file ≡ Vd.Done → Same f q gs (trailer file)
+  unfolding sameJob
+  same-gives e =
+      let t = trailer file in
+      let a = both _ (eqb (getD t 4 0) q) (unless-done _ 14 e) in
+      let b = both _ (eqb (halfAt t 2) (getD gs 0 0)) (a .0) in
+      let c = both (eqb (getD t 0 0) (f .width)) (eqb (getD t 1 0) (f .height)) (b .0) in
+      record { width = eqb-true _ _ (c .0); height = eqb-true _ _ (c .1); goal = eqb-true _ _ (b .1); scale = eqb-true _ _ (a .1) }
+
+  pub same-refused : (Same f q gs (trailer file) → ⊥) → sameJob f q gs file ≡ refuseAt 14 P.Nowhere
+  unfolding sameJob
+  same-refused h =
+      let t = trailer file in
+      let test = eqb (getD t 0 0) (f .width) && eqb (getD t 1 0) (f .height) && eqb (halfAt t 2) (getD gs 0 0) && eqb (getD t 4 0) q in
+      ap (λ b. unless b 14) (fails test (λ e. h (same-gives (ap (λ b. unless b 14) e))))
+
+-- ---- 15, a record
+
+-- a record that is lawful after the cells below low
+pub record Lawful (f : Floor) (q : ℕ) (gs : List ℕ) (low : ℕ) (part : List ℕ) : Type 0 where
+  pub inside : cellIn part < size f
+  pub open-cell : free f (cellIn part) ≡ true
+  pub rising : low ≤ cellIn part
+  pub above : opening f q gs (cellIn part) < figureIn part
+  pub within : figureIn part ≤ ceiling
+
+passed : (b : Bool) (x : ℕ) → choose b 15 x ≡ 0 → (b ≡ false) × (x ≡ 0)
+passed true x e = absurd (omega arith)
+passed false x e = (refl, e)
+
+-- a fault's number is 15 or 0
+two : (b : Bool) {x : ℕ} → (x ≡ 0) ⊎ (x ≡ 15) → (choose b 15 x ≡ 0) ⊎ (choose b 15 x ≡ 15)
+two true h = inr refl
+two false h = h
+
+module _ (f : Floor) (q : ℕ) (gs : List ℕ) (low : ℕ) (part : List ℕ) where
+  pub no-fault : Lawful f q gs low part → recordFault f q gs low part ≡ 0
+  unfolding recordFault
+  no-fault l =
+      simp (lt-leb (size f) (cellIn part) (l .inside), l .open-cell, le-ltb (cellIn part) low (l .rising), lt-leb (figureIn part) (opening f q gs (cellIn part)) (l .above), le-ltb ceiling (figureIn part) (l .within))
+
+  pub lawful : recordFault f q gs low part ≡ 0 → Lawful f q gs low part
+  unfolding recordFault
+  lawful e =
+      let a = passed _ _ e in
+      let b = passed _ _ (a .1) in
+      let c = passed _ _ (b .1) in
+      let d = passed _ _ (c .1) in
+      let g = passed _ _ (d .1) in
+      record { inside = leb-false _ _ (a .0); open-cell = not-false _ (b .0); rising = ltb-false _ _ (c .0); above = leb-false _ _ (d .0); within = ltb-false _ _ (g .0) }
+
+  pub fault : (Lawful f q gs low part → ⊥) → recordFault f q gs low part ≡ 15
+  unfolding recordFault
+  fault h = ⊎-elim (λ e. absurd (h (lawful e))) (λ e. e)
+      (two (leb (size f) (cellIn part)) (two (not (free f (cellIn part))) (two (ltb (cellIn part) low) (two (leb (figureIn part) (opening f q gs (cellIn part))) (two (ltb ceiling (figureIn part)) (inl refl))))))
+
+  pub judge-more : (n i : ℕ) → recordFault f q gs low part ≡ 0 → judgeRecords f q gs (suc n) i low part ≡ judgeRecords f q gs n (suc i) (suc (cellIn part)) (drop 6 part)
+  unfolding judgeRecords
+  judge-more n i e = rw (judgeRecords, e)
+
+  pub judge-stop : (n i k : ℕ) → recordFault f q gs low part ≡ k → (k ≡ 0 → ⊥) → judgeRecords f q gs (suc n) i low part ≡ refuseAt k (P.Record i)
+  unfolding judgeRecords
+  judge-stop n i k e h = rw (judgeRecords, ne-eqb (recordFault f q gs low part) 0 (λ z. h (sym e ∙ z))) (ap (λ (j : ℕ). refuseAt j (P.Record i)) e)
+
+-- ---- writing
+
+module _ (f : Floor) (q : ℕ) (gs table : List ℕ) where
+  -- one cell more: it differs from the opening figure, or it does not
+  pub changed-same : (n x : ℕ) → getD table x 0 ≡ opening f q gs x → changed f q gs table (suc n) x ≡ changed f q gs table n (suc x)
+  unfolding changed
+  changed-same n x e = simp (eq-eqb (getD table x 0) (opening f q gs x) e)
+
+  pub changed-more : (n x : ℕ) → (getD table x 0 ≡ opening f q gs x → ⊥) → changed f q gs table (suc n) x ≡ x ∷ changed f q gs table n (suc x)
+  unfolding changed
+  changed-more n x e = simp (ne-eqb (getD table x 0) (opening f q gs x) e)
+
+  pub changed-few : (n x : ℕ) → length (changed f q gs table n x) ≤ n
+  unfolding changed
+  changed-few zero x = omega arith
+  changed-few (suc n) x = by (eqb (getD table x 0) (opening f q gs x)) (changed-few n (suc x))
+    where
+      by : (b : Bool) → length (changed f q gs table n (suc x)) ≤ n → length (choose b (changed f q gs table n (suc x)) (x ∷ changed f q gs table n (suc x))) ≤ suc n
+      by true h = omega arith
+      by false h = omega arith
+
+pub length-records : (table cells : List ℕ) → length (recordsOf table cells) ≡ 6 * length cells
+unfolding recordsOf
+length-records table [] = omega arith
+length-records table (x ∷ xs) = let h = length-records table xs in omega arith
+
+pub length-trailer : (f : Floor) (q : ℕ) (gs : List ℕ) (count : ℕ) → length (trailerOf f q gs count) ≡ 16
+unfolding trailerOf
+length-trailer f q gs count = refl
+
+pub length-file : (f : Floor) (q : ℕ) (gs table : List ℕ) → length (fileOf f q gs table) ≡ 16 + 6 * length (changed f q gs table (size f) 0)
+unfolding fileOf
+length-file f q gs table =
+    let cells = changed f q gs table (size f) 0 in
+    length-append (recordsOf table cells) (trailerOf f q gs (length cells)) ∙ omega (arith, length-records table cells, length-trailer f q gs (length cells))
+
+-- ---- the calls' verdicts
+
+pub read-gives : (f : Floor) (q : ℕ) (gs file : List ℕ) (n : ℕ) → readVerdict f q gs file n ≡ Vd.Done
+    → (openTable f q gs n ≡ Vd.Done) × (checkTrailer file ≡ Vd.Done) × (sameJob f q gs file ≡ Vd.Done) × (judgeRecords f q gs (countIn file) 0 0 (findRecords file) ≡ Vd.Done)
+unfolding readVerdict
+read-gives f q gs file n e =
+    let a = then-done _ _ e in
+    let b = then-done _ _ (a .1) in
+    let c = then-done _ _ (b .1) in
+    (a .0, b .0, c .0, c .1)
+
+pub write-gives : (f : Floor) (q : ℕ) (gs table : List ℕ) (room : ℕ) → writeVerdict f q gs table room ≡ Vd.Done
+    → (openTable f q gs (length table) ≡ Vd.Done) × (figures f table ≡ Vd.Done) × (naming (size f) (unlike f q gs table) 16 ≡ Vd.Done) × (length (fileOf f q gs table) ≤ room)
+unfolding writeVerdict fileRoom
+write-gives f q gs table room e =
+    let a = then-done _ _ e in
+    let b = then-done _ _ (a .1) in
+    let c = then-done _ _ (b .1) in
+    (a .0, b .0, c .0, leb-true (length (fileOf f q gs table)) room (unless-done _ 17 (c .1)))

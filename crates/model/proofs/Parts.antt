@@ -1,0 +1,14 @@
+-- Parts of a list as code takes them.
+use mathlib.Core.Path.{_≡_}
+use mathlib.Core.List.{List}
+use Prim.Native.Nat.{ℕ, _-_, _≤_}
+use native.Mathlib.Omega.{arith}
+use lib.ListN.{length, take, drop, length-drop, drop-of-length-le}
+use lib.Seq.{take-all, take-nil}
+
+-- the remaining part, and nothing past the end
+pub rest : (n : ℕ) (t : List ℕ) → take (length t - n) (drop n t) ≡ drop n t
+rest n t = take-all (length t - n) (drop n t) (rw (length-drop n t) (omega arith))
+
+pub rest-end : (n : ℕ) (t : List ℕ) → length t ≤ n → take (length t - length t) (drop (length t) t) ≡ drop n t
+rest-end n t h = rw (drop-of-length-le t {i = length t} (omega arith), drop-of-length-le t {i = n} h) (take-nil (length t - length t))

@@ -1,0 +1,127 @@
+-- 6 and 7 in the words of walks: 6 just where no walk leads from the start to a goal, 7 just where some cell that can reach a goal is
+-- above its true figure, and it names the lowest. Assumes nothing.
+use Prim.Native.Nat.{ℕ, _*_, _<_}
+use mathlib.Core.Path.{_≡_, refl, sym, ap, _∙_, subst}
+use mathlib.Core.Bool.{Bool, true, false, _&&_}
+use mathlib.Core.List.{List}
+use native.Mathlib.Omega.{arith}
+use borrow.Author.Tests.{ltb-true, lt-ltb}
+use lib.Dec.{T, ltb}
+use lib.ListN.{getD}
+use Rattle.learning.specs.Walk.{Reaches}
+use Rattle.learning.specs.Ground.{Goal, netOf, reachOf, distOf}
+use Rattle.learning.proofs.Ground.{on-floor, reach-of, reach-true}
+use Rattle.answers.specs.declared.Job.{Job}
+use Rattle.answers.specs.declared.Refusal.{Refusal}
+use Rattle.answers.specs.declared.Place.the-variants as P
+use Rattle.answers.specs.declared.Verdict.{Verdict}
+use Rattle.answers.specs.declared.Verdict.the-variants as Vd
+use Rattle.model.specs.Basics.{then, refuseAt, unless, naming}
+use Rattle.model.specs.Floor.{size}
+use Rattle.model.specs.Checks.{floorOf, groundIn}
+use Rattle.model.specs.Opening.{soundness}
+use Rattle.model.proofs.Moves.{is-true, both, both-of}
+use Rattle.model.proofs.Accepted.{never, naming-names, naming-done, naming-none, naming-found}
+
+-- a cell can reach a goal; its figure is above the true one
+abbrev pub CanReach : Job → List ℕ → ℕ → Type 0
+CanReach j bytes x = Reaches (netOf (groundIn j bytes)) (Goal (groundIn j bytes)) x
+
+abbrev pub Above : Job → (bytes table : List ℕ) → ℕ → Type 0
+Above j bytes table x = CanReach j bytes x × (j .q * distOf (groundIn j bytes) x < getD table x 0)
+
+same-refusal : {r s : Refusal} → Vd.Refused r ≡ Vd.Refused s → r ≡ s
+same-refusal e = cc
+
+module _ (j : Job) (bytes : List ℕ) where
+  reach-shown : (x : ℕ) → CanReach j bytes x → reachOf (groundIn j bytes) x ≡ true
+  reach-shown x r = is-true (reachOf (groundIn j bytes) x) (reach-of (groundIn j bytes) x r)
+
+  reach-told : (x : ℕ) → reachOf (groundIn j bytes) x ≡ true → CanReach j bytes x
+  reach-told x e = reach-true (groundIn j bytes) x (subst T (sym e) tt)
+
+  reach-not : (x : ℕ) → ¬ CanReach j bytes x → reachOf (groundIn j bytes) x ≡ false
+  reach-not x h = by (reachOf (groundIn j bytes) x) refl
+    where
+      by : (b : Bool) → reachOf (groundIn j bytes) x ≡ b → b ≡ false
+      by true e = absurd (h (reach-told x e))
+      by false e = refl
+
+  module _ (start : ℕ) (table : List ℕ) where
+    abbrev fault : ℕ → Bool
+    fault x = reachOf (groundIn j bytes) x && ltb (j .q * distOf (groundIn j bytes) x) (getD table x 0)
+
+    fault-shown : (x : ℕ) → Above j bytes table x → fault x ≡ true
+    fault-shown x (r, l) = both-of (reachOf (groundIn j bytes) x) _ (reach-shown x r) (lt-ltb (j .q * distOf (groundIn j bytes) x) (getD table x 0) l)
+
+    fault-told : (x : ℕ) → fault x ≡ true → Above j bytes table x
+    fault-told x e =
+        let p = both (reachOf (groundIn j bytes) x) (ltb (j .q * distOf (groundIn j bytes) x) (getD table x 0)) e in
+        (reach-told x (p .0), ltb-true (j .q * distOf (groundIn j bytes) x) (getD table x 0) (p .1))
+
+    fault-not : (x : ℕ) → ¬ Above j bytes table x → fault x ≡ false
+    fault-not x h = by (fault x) refl
+      where
+        by : (b : Bool) → fault x ≡ b → b ≡ false
+        by true e = absurd (h (fault-told x e))
+        by false e = refl
+
+    searched : Verdict
+    searched = naming (size (floorOf j bytes)) fault 7
+
+    shape : soundness j bytes start table ≡ then (unless (reachOf (groundIn j bytes) start) 6) searched
+    unfolding soundness reachOf distOf searched
+    shape = refl
+
+    from-reached : CanReach j bytes start → soundness j bytes start table ≡ searched
+    from-reached r = shape ∙ ap (λ b. then (unless b 6) searched) (reach-shown start r)
+
+    -- 6: no walk from start to goal exists
+    pub no-way : ¬ CanReach j bytes start → soundness j bytes start table ≡ refuseAt 6 P.Nowhere
+    no-way h = shape ∙ ap (λ b. then (unless b 6) searched) (reach-not start h)
+
+    -- what a refusal past the start has found
+    refused-named : {r : Refusal} → CanReach j bytes start → soundness j bytes start table ≡ Vd.Refused r
+        → (x : ℕ) × Above j bytes table x × ((y : ℕ) → y < x → ¬ Above j bytes table y) × (r ≡ record { number = 7; place = P.Cell x })
+    unfolding searched
+    refused-named reach e =
+        let (x, n) = naming-found (size (floorOf j bytes)) 7 fault (sym (from-reached reach) ∙ e) in
+        (x, fault-told x (n .faulty), λ y h a. never (fault-shown y a) (n .first y h), same-refusal (sym e ∙ from-reached reach ∙ n .answer))
+
+    -- and only then
+    pub no-way-only : {r : Refusal} → soundness j bytes start table ≡ Vd.Refused r → r .number ≡ 6 → ¬ CanReach j bytes start
+    no-way-only e q reach = let (x, a, f, g) = refused-named reach e in omega (arith, ap (λ (y : Refusal). y .number) g)
+
+    -- 7: a cell that can reach the goal is above its true figure; names the lowest
+    pub unsound : CanReach j bytes start → (x : ℕ) → Above j bytes table x → ((y : ℕ) → y < x → ¬ Above j bytes table y)
+        → soundness j bytes start table ≡ refuseAt 7 (P.Cell x)
+    unfolding searched
+    unsound r x a first =
+        from-reached r ∙ naming-names (size (floorOf j bytes)) fault 7 x (on-floor (groundIn j bytes) x (a .0)) (λ y h. fault-not y (first y h)) (fault-shown x a)
+
+    -- and only then
+    pub unsound-only : {r : Refusal} → soundness j bytes start table ≡ Vd.Refused r → r .number ≡ 7
+        → CanReach j bytes start × ((x : ℕ) × (r .place ≡ P.Cell x) × Above j bytes table x × ((y : ℕ) → y < x → ¬ Above j bytes table y))
+    unsound-only {r} e q = by (reachOf (groundIn j bytes) start) refl
+      where
+        by : (b : Bool) → reachOf (groundIn j bytes) start ≡ b
+            → CanReach j bytes start × ((x : ℕ) × (r .place ≡ P.Cell x) × Above j bytes table x × ((y : ℕ) → y < x → ¬ Above j bytes table y))
+        by true t = let (x, a, f, g) = refused-named (reach-told start t) e in (reach-told start t, (x, ap (λ (y : Refusal). y .place) g, a, f))
+        by false t =
+            let g = same-refusal (sym e ∙ shape ∙ ap (λ b. then (unless b 6) searched) t) in
+            absurd (omega (arith, ap (λ (y : Refusal). y .number) g))
+
+    -- neither: every figure of a cell that can reach a goal is at most the true one
+    pub sound : CanReach j bytes start → ((x : ℕ) → ¬ Above j bytes table x) → soundness j bytes start table ≡ Vd.Done
+    unfolding searched
+    sound r low = from-reached r ∙ naming-done (size (floorOf j bytes)) fault 7 (λ x h. fault-not x (low x))
+
+    pub sound-only : soundness j bytes start table ≡ Vd.Done → CanReach j bytes start × ((x : ℕ) → ¬ Above j bytes table x)
+    unfolding searched
+    sound-only e = by (reachOf (groundIn j bytes) start) refl
+      where
+        by : (b : Bool) → reachOf (groundIn j bytes) start ≡ b → CanReach j bytes start × ((x : ℕ) → ¬ Above j bytes table x)
+        by true t =
+            let none = naming-none (size (floorOf j bytes)) fault 7 (sym (from-reached (reach-told start t)) ∙ e) in
+            (reach-told start t, λ x a. never (fault-shown x a) (none x (on-floor (groundIn j bytes) x (a .0))))
+        by false t = let w = sym e ∙ shape ∙ ap (λ b. then (unless b 6) searched) t in let z : _≡_ {A = ℕ} 0 1 = cc in absurd (omega arith)

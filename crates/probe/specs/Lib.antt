@@ -1,0 +1,2 @@
+-- The definitions that the contract of `probe` cites.
+pub mod Plain

@@ -1,0 +1,214 @@
+-- Where the reader's loops stand: what is left to judge, or to put, answers like the whole.
+use mathlib.Core.Path.{_≡_, refl, sym, _∙_, ap}
+use mathlib.Core.Bool.{true, false}
+use mathlib.Core.List.{List, [], _∷_, _++_, append-nil, append-assoc}
+use Prim.Native.Nat.{ℕ, suc, _+_, _-_, _*_, _≤_, _<_}
+use native.Mathlib.Numerals.{add-one}
+use native.Mathlib.Omega.{arith}
+use lib.ListN.{length, take, drop, set, getD, length-drop, length-set, drop-of-length-le}
+use lib.Seq.{take-all, take-suc, drop-cons, set-at, set-out, length-take-le}
+use Rattle.learning.proofs.Spread.{list-at, list-length}
+use Rattle.answers.specs.Says.{saysVerdict}
+use Rattle.answers.specs.declared.Place.the-variants as P
+use Rattle.answers.specs.declared.Verdict.{Verdict}
+use Rattle.answers.specs.declared.Verdict.the-variants as Vd
+use Rattle.model.specs.Basics.{then, refuseAt}
+use Rattle.model.specs.Floor.{Floor, size, free, opening, openingTable}
+use Rattle.model.specs.TableFile.{cellIn, figureIn, countIn, backIn, trailerHolds, findRecords, recordFault, judgeRecords, applied, readVerdict, readOf, readTable}
+use Rattle.model.specs.Opening.{openTable}
+use Rattle.model.specs.Checks.{ceiling, scale}
+use Rattle.model.proofs.Parts.{rest}
+use Rattle.model.proofs.Files.{Lawful, judge-more, judge-stop, trailer-gives, found}
+use Rattle.model.proofs.Accepted.{then-done, sizes-judges, scale-judges, bench-judges}
+use Rattle.model.proofs.Moves.{free-lt}
+use Rattle.table_file.specs.Promises.{Opened, passed, startOf, Reads}
+
+-- a check that has passed is done, and one that has not stands
+pub passes-done : (v : Verdict) → passed v ≡ true → v ≡ Vd.Done
+passes-done Vd.Done e = refl
+passes-done (Vd.Refused r) e = let z : _≡_ {A = ℕ} 0 1 = cc in absurd (omega arith)
+
+pub stands : (v w : Verdict) → passed v ≡ false → then v w ≡ v
+stands Vd.Done w e = let z : _≡_ {A = ℕ} 0 1 = cc in absurd (omega arith)
+stands (Vd.Refused r) w e = refl
+
+-- one check after another: one that has not passed is the answer, and past one that has the next ones are
+pub stop : (s : Verdict) {u : Verdict} (w : Verdict) → s ≡ u → passed s ≡ false → s ≡ then u w
+stop s w e h = sym (stands s w h) ∙ ap (λ (v : Verdict). then v w) e
+
+pub next : (s : Verdict) {u w r : Verdict} → s ≡ u → passed s ≡ true → r ≡ w → r ≡ then u w
+next s {u} {w} e h k = k ∙ ap (λ (v : Verdict). then v w) (sym (passes-done s h) ∙ e)
+
+pub past : {u w r : Verdict} → u ≡ Vd.Done → r ≡ w → r ≡ then u w
+past {u} {w} e k = k ∙ ap (λ (v : Verdict). then v w) (sym e)
+
+pub done-by : (s : Verdict) {u : Verdict} → s ≡ u → passed s ≡ true → u ≡ Vd.Done
+done-by s e h = sym e ∙ passes-done s h
+
+-- what an opened table gives
+pub opened : (f : Floor) (q goal n : ℕ) → openTable f q (goal ∷ []) n ≡ Vd.Done → Opened f q goal × (n ≡ size f)
+unfolding openTable
+opened f q goal n e =
+    let a = then-done _ _ e in
+    let b = then-done _ _ (a .1) in
+    let s = sizes-judges f n .gives (a .0) in
+    (record { sized = s .0; scale = scale-judges q .gives (b .0) .1; bench = free-lt f (s .0) goal (bench-judges f goal .gives (b .1)) }, s .1)
+
+-- where the records begin, and that the part found begins there
+module _ (file : List ℕ) where
+  pub start-none : trailerHolds file ≡ false → 0 ≡ startOf file
+  unfolding startOf
+  start-none e = rw e
+
+  pub start-some : (b : ℕ) → b ≡ backIn file → trailerHolds file ≡ true → length file - b ≡ startOf file
+  unfolding startOf
+  start-some b d e = rw (e, d)
+
+  pub found-part : (b k : ℕ) → b ≡ backIn file → k ≡ countIn file → trailerHolds file ≡ true → take (length file - b + 6 * k - (length file - b)) (drop (length file - b) file) ≡ findRecords file
+  found-part b k d c e =
+      let z : length file - b + 6 * k - (length file - b) ≡ 6 * k = omega arith in
+      rw (z, d, c) (sym (found file e))
+
+  found-long : trailerHolds file ≡ true → countIn file * 6 ≤ length (findRecords file)
+  found-long e =
+      let t = trailer-gives file e in
+      let d : length (drop (length file - backIn file) file) ≡ length file - (length file - backIn file) = length-drop (length file - backIn file) file in
+      rw (found file e) (omega (arith, length-take-le (6 * countIn file) (drop (length file - backIn file) file) (omega (arith, t .even, t .within))))
+
+  pub records-long : (n : ℕ) (part : List ℕ) → n ≡ countIn file → part ≡ findRecords file → trailerHolds file ≡ true → n * 6 ≤ length part
+  records-long n part a b e = rw (a, b) (found-long e)
+
+pub judged-by : (f : Floor) (q : ℕ) (gs file : List ℕ) (n : ℕ) (part : List ℕ) (v : Verdict) → v ≡ judgeRecords f q gs n 0 0 part → n ≡ countIn file → part ≡ findRecords file
+    → v ≡ judgeRecords f q gs (countIn file) 0 0 (findRecords file)
+judged-by f q gs file n part v e a b = e ∙ λ i. judgeRecords f q gs (a i) 0 0 (b i)
+
+-- a record by the numbers that the code reads
+module _ (f : Floor) (q : ℕ) (gs : List ℕ) (low : ℕ) (part : List ℕ) (cell figure o : ℕ) (c : cell ≡ cellIn part) where
+  pub lawful-by : free f cell ≡ true → o ≡ opening f q gs cell → figure ≡ figureIn part → (cell < size f) × (low ≤ cell) × (o < figure) × (figure ≤ ceiling) → Lawful f q gs low part
+  lawful-by e d g h = record {
+    inside = rw c at (h .0);
+    open-cell = rw c at e;
+    rising = rw c at (h .1);
+    above = let k : opening f q gs (cellIn part) ≡ o = sym (rw c at d) in rw k (rw g at (h .2));
+    within = rw g at (h .3);
+  }
+
+  pub lawful-free : Lawful f q gs low part → free f cell ≡ true
+  lawful-free l = ap (free f) c ∙ l .open-cell
+
+  pub lawful-above : o ≡ opening f q gs cell → figure ≡ figureIn part → Lawful f q gs low part → o < figure
+  lawful-above d g l = rw (d, c, g) (l .above)
+
+-- i of n records are judged: the next cell is low at least, and t is left
+pub record Judging (f : Floor) (q : ℕ) (gs : List ℕ) (n : ℕ) (part : List ℕ) (i low : ℕ) (t : List ℕ) : Type 0 where
+  pub most : i ≤ n
+  pub enough : (n - i) * 6 ≤ length t
+  pub left : judgeRecords f q gs (n - i) i low t ≡ judgeRecords f q gs n 0 0 part
+
+module _ (f : Floor) (q : ℕ) (gs : List ℕ) (n : ℕ) (part : List ℕ) where
+  pub judging : n * 6 ≤ length part → Judging f q gs n part 0 0 part
+  judging h = let e : n - 0 ≡ n = omega arith in record { most = omega arith; enough = omega arith; left = rw e }
+
+  module _ (i low : ℕ) (t : List ℕ) (g : Judging f q gs n part i low t) where
+    pub judging-more : (cell : ℕ) → cell ≡ cellIn t → recordFault f q gs low t ≡ 0 → i < n → Judging f q gs n part (i + 1) (cell + 1) (take (length t - 6) (drop 6 t))
+    judging-more cell c e l =
+        let k : n - i ≡ suc (n - (i + 1)) = omega arith in
+        let d : length (drop 6 t) ≡ length t - 6 = length-drop 6 t in
+        record {
+          most = omega arith;
+          enough = rw (rest 6 t) (omega (arith, g .enough));
+          left = rw (rest 6 t, add-one i, add-one cell, c) (sym (judge-more f q gs low t (n - suc i) i e) ∙ (let j : n - i ≡ suc (n - suc i) = omega arith in rw j at (g .left)));
+        }
+
+    pub judging-stop : (k : ℕ) → k ≡ recordFault f q gs low t → (k ≡ 0 → ⊥) → i < n → refuseAt k (P.Record i) ≡ judgeRecords f q gs n 0 0 part
+    judging-stop k e h l =
+        let j : n - i ≡ suc (n - suc i) = omega arith in
+        sym (judge-stop f q gs low t (n - suc i) i k (sym e) h) ∙ rw j at (g .left)
+
+    pub judging-all : n ≤ i → Vd.Done ≡ judgeRecords f q gs n 0 0 part
+    unfolding judgeRecords
+    judging-all h = (let e : n - i ≡ 0 = omega arith in rw e) ∙ g .left
+
+-- i of n records are put into the table, and t is left
+pub record Applying (n : ℕ) (part table₀ : List ℕ) (i : ℕ) (t table : List ℕ) : Type 0 where
+  pub most : i ≤ n
+  pub enough : (n - i) * 6 ≤ length t
+  pub same : length table ≡ length table₀
+  pub left : applied (n - i) t table ≡ applied n part table₀
+
+module _ (n : ℕ) (part table₀ : List ℕ) where
+  pub applying : n * 6 ≤ length part → Applying n part table₀ 0 part table₀
+  applying h = let e : n - 0 ≡ n = omega arith in record { most = omega arith; enough = omega arith; same = refl; left = rw e }
+
+  module _ (i : ℕ) (t table : List ℕ) (g : Applying n part table₀ i t table) where
+    pub applying-more : (cell figure : ℕ) (next : List ℕ) → cell ≡ cellIn t → figure ≡ figureIn t → next ≡ set table cell figure → i < n → Applying n part table₀ (i + 1) (take (length t - 6) (drop 6 t)) next
+    unfolding applied
+    applying-more cell figure next c d e l =
+        let k : n - i ≡ suc (n - (i + 1)) = omega arith in
+        let m : length (drop 6 t) ≡ length t - 6 = length-drop 6 t in
+        record {
+          most = omega arith;
+          enough = rw (rest 6 t) (omega (arith, g .enough));
+          same = ap length e ∙ (length-set table cell figure ∙ g .same);
+          left = rw (rest 6 t, e, c, d) (rw k at (g .left));
+        }
+
+    pub applying-all : n ≤ i → table ≡ applied n part table₀
+    unfolding applied
+    applying-all h = (let e : n - i ≡ 0 = omega arith in rw e) ∙ g .left
+
+-- a figure is stored at a cell of the table's, and nothing past its end
+pub put-past : (table : List ℕ) (cell figure : ℕ) → length table ≤ cell → table ≡ set table cell figure
+put-past table cell figure h = sym (set-out table cell figure h)
+
+-- x cells have their opening figure
+pub record Filling (f : Floor) (q : ℕ) (gs table₀ : List ℕ) (x : ℕ) (table : List ℕ) : Type 0 where
+  pub most : x ≤ length table₀
+  pub same : length table ≡ length table₀
+  pub so-far : table ≡ take x (openingTable f q gs) ++ drop x table₀
+
+module _ (f : Floor) (q : ℕ) (gs table₀ : List ℕ) where
+  pub filling : Filling f q gs table₀ 0 table₀
+  filling = record { most = omega arith; same = refl; so-far = refl }
+
+  length-opening : length (openingTable f q gs) ≡ size f
+  unfolding openingTable
+  length-opening = list-length (size f) (opening f q gs)
+
+  opening-at : (x : ℕ) → x < size f → getD (openingTable f q gs) x 0 ≡ opening f q gs x
+  unfolding openingTable
+  opening-at x h = list-at (size f) (opening f q gs) x 0 h
+
+  module _ (x : ℕ) (table : List ℕ) (g : Filling f q gs table₀ x table) (n : length table₀ ≡ size f) where
+    pub filling-more : (v : ℕ) → v ≡ opening f q gs x → x < length table → Filling f q gs table₀ (x + 1) (set table x v)
+    filling-more v e l =
+        let a : x < length (openingTable f q gs) = omega (arith, length-opening, g .same) in
+        let b : x < length table₀ = omega (arith, g .same) in
+        let m : length (take x (openingTable f q gs)) ≡ x = length-take-le x (openingTable f q gs) (omega arith) in
+        let w : v ≡ getD (openingTable f q gs) x 0 = e ∙ sym (opening-at x (omega arith)) in
+        record {
+          most = omega arith;
+          same = length-set table x v ∙ g .same;
+          so-far = rw (g .so-far, add-one, take-suc (openingTable f q gs) x 0, append-assoc, drop-cons table₀ x 0, set-at (take x (openingTable f q gs)) (getD table₀ x 0) (drop (suc x) table₀) v x m, w);
+        }
+
+    pub filling-all : length table ≤ x → table ≡ openingTable f q gs
+    filling-all l = g .so-far ∙ rw (take-all x (openingTable f q gs) (omega (arith, length-opening, g .same)), drop-of-length-le table₀ {i = x} (omega (arith, g .same))) (append-nil (openingTable f q gs))
+
+-- The reader's answer and table, by its verdict.
+module _ (f : Floor) (q : ℕ) (gs file table : List ℕ) (v : Verdict) (e : v ≡ readVerdict f q gs file (length table)) where
+  pub read-refused : passed v ≡ false → Reads (readVerdict f q gs file (length table)) (readTable f q gs file table) v table
+  unfolding readTable
+  read-refused h = record { answer = ap saysVerdict e; table = by v h ∙ ap (λ (u : Verdict). readOf u f q gs file table) e }
+    where
+      by : (u : Verdict) → passed u ≡ false → table ≡ readOf u f q gs file table
+      by Vd.Done h = let z : _≡_ {A = ℕ} 0 1 = cc in absurd (omega arith)
+      by (Vd.Refused r) h = refl
+
+  pub read-done : (n : ℕ) (part filled after : List ℕ) → passed v ≡ true → filled ≡ openingTable f q gs → after ≡ applied n part filled → n ≡ countIn file → part ≡ findRecords file
+      → Reads (readVerdict f q gs file (length table)) (readTable f q gs file table) v after
+  unfolding readTable
+  read-done n part filled after h a b c d = record {
+    answer = ap saysVerdict e;
+    table = (b ∙ λ i. applied (c i) (d i) (a i)) ∙ ap (λ (u : Verdict). readOf u f q gs file table) (sym (done-by v e h));
+  }

@@ -1,0 +1,182 @@
+-- Where the writer's loops stand: what is left to count, or to put, makes the whole. And the writer's answer, check by check.
+use mathlib.Core.Path.{_≡_, refl, sym, _∙_, ap}
+use mathlib.Core.Bool.{true, false, not}
+use mathlib.Core.List.{List, [], _∷_, _++_, append-assoc}
+use Prim.Native.Nat.{ℕ, suc, _+_, _-_, _*_, _%_, _≤_, _<_}
+use native.Mathlib.Nat.{mod-eq-of-lt}
+use native.Mathlib.Numerals.{add-one}
+use native.Mathlib.Omega.{arith}
+use lib.Dec.{ltb, eqb}
+use borrow.Author.Tests.{le-leb, lt-leb}
+use lib.ListN.{length, take, drop, getD, take-append-drop}
+use lib.Seq.{take-at, drop-at, drop-drop}
+use Rattle.answers.specs.Says.{saysWritten}
+use Rattle.answers.specs.declared.Place.the-variants as P
+use Rattle.answers.specs.declared.Refusal.{Refusal}
+use Rattle.answers.specs.declared.Verdict.{Verdict}
+use Rattle.answers.specs.declared.Verdict.the-variants as Vd
+use Rattle.answers.specs.declared.Written.the-variants as Wr
+use Rattle.model.specs.Basics.{refuseAt}
+use Rattle.model.specs.Floor.{Floor, size, free, opening}
+use Rattle.model.specs.TableFile.{half, word, changed, recordsOf, trailerOf, fileOf, unlike, fileRoom, writeVerdict, writeTable}
+use Rattle.model.proofs.Files.{changed-same, changed-more, changed-few, length-records, length-file, write-gives}
+use Rattle.model.proofs.Cells.{cells-le}
+use Rattle.table_file.specs.Promises.{Opened, put, Writes}
+use Rattle.table_file.proofs.Puts.{put-next, put-then, length-put}
+use Rattle.table_file.proofs.Reading.{opened}
+
+-- 16, of one cell
+module _ (f : Floor) (q : ℕ) (gs table : List ℕ) (x a o : ℕ) (e : a ≡ getD table x 0) (d : o ≡ opening f q gs x) where
+  pub unlike-free : free f x ≡ true → ltb a o ≡ unlike f q gs table x
+  unfolding unlike
+  unlike-free h = rw (h, e, d)
+
+  pub unlike-blocked : free f x ≡ false → not (eqb a o) ≡ unlike f q gs table x
+  unfolding unlike
+  unlike-blocked h = rw (h, e, d)
+
+-- n of the first x cells differ from their opening figure
+pub record Counting (f : Floor) (q : ℕ) (gs table : List ℕ) (all n x : ℕ) : Type 0 where
+  pub most : x ≤ all
+  pub few : n ≤ x
+  pub left : n + length (changed f q gs table (all - x) x) ≡ length (changed f q gs table all 0)
+
+module _ (f : Floor) (q : ℕ) (gs table : List ℕ) (all : ℕ) where
+  pub counting : Counting f q gs table all 0 0
+  counting = let e : all - 0 ≡ all = omega arith in record { most = omega arith; few = omega arith; left = rw e (omega arith) }
+
+  module _ (n x : ℕ) (g : Counting f q gs table all n x) where
+    pub counting-same : getD table x 0 ≡ opening f q gs x → x < all → Counting f q gs table all n (x + 1)
+    counting-same e l =
+        let k : all - x ≡ suc (all - suc x) = omega arith in
+        record {
+          most = omega arith;
+          few = omega (arith, g .few);
+          left = rw (add-one x) (rw (k, changed-same f q gs table (all - suc x) x e) at (g .left));
+        }
+
+    pub counting-more : (getD table x 0 ≡ opening f q gs x → ⊥) → x < all → Counting f q gs table all (n + 1) (x + 1)
+    counting-more e l =
+        let k : all - x ≡ suc (all - suc x) = omega arith in
+        let h = rw (k, changed-more f q gs table (all - suc x) x e) at (g .left) in
+        record { most = omega arith; few = omega (arith, g .few); left = rw (add-one x) (omega (arith, h)) }
+
+    pub counting-all : all ≤ x → n ≡ length (changed f q gs table all 0)
+    unfolding changed
+    counting-all l = let e : all - x ≡ 0 = omega arith in let h = rw e at (g .left) in omega (arith, h)
+
+-- n records are put, of the first x cells: putting those that are left gives the whole
+pub record Putting (f : Floor) (q : ℕ) (gs table out₀ : List ℕ) (all n x : ℕ) (out : List ℕ) : Type 0 where
+  pub counted : Counting f q gs table all n x
+  pub room : 6 * length (changed f q gs table all 0) ≤ length out₀
+  pub same : length out ≡ length out₀
+  pub left : put (6 * n) (recordsOf table (changed f q gs table (all - x) x)) out ≡ put 0 (recordsOf table (changed f q gs table all 0)) out₀
+
+module _ (f : Floor) (q : ℕ) (gs table out₀ : List ℕ) (all : ℕ) where
+  pub putting : 6 * length (changed f q gs table all 0) ≤ length out₀ → Putting f q gs table out₀ all 0 0 out₀
+  putting h = let e : all - 0 ≡ all = omega arith in record { counted = counting f q gs table all; room = h; same = refl; left = rw e }
+
+  module _ (n x : ℕ) (out : List ℕ) (g : Putting f q gs table out₀ all n x out) where
+    pub putting-same : getD table x 0 ≡ opening f q gs x → x < all → Putting f q gs table out₀ all n (x + 1) out
+    putting-same e l =
+        let k : all - x ≡ suc (all - suc x) = omega arith in
+        record {
+          counted = counting-same f q gs table all n x (g .counted) e l;
+          room = g .room;
+          same = g .same;
+          left = rw (add-one x) (rw (k, changed-same f q gs table (all - suc x) x e) at (g .left));
+        }
+
+    -- room for one record more
+    pub room-left : (getD table x 0 ≡ opening f q gs x → ⊥) → x < all → 6 * n + 6 + 6 * length (changed f q gs table (all - suc x) (suc x)) ≤ length out
+    room-left e l =
+        let k : all - x ≡ suc (all - suc x) = omega arith in
+        let h = rw (k, changed-more f q gs table (all - suc x) x e) at (g .counted .left) in
+        omega (arith, h, g .room, g .same)
+
+    pub putting-more : (figure : ℕ) (next : List ℕ) → figure ≡ getD table x 0 → next ≡ put (6 * n) (half x ++ word figure) out → (getD table x 0 ≡ opening f q gs x → ⊥) → x < all
+        → Putting f q gs table out₀ all (n + 1) (x + 1) next
+    unfolding recordsOf
+    putting-more figure next d p e l =
+        let k : all - x ≡ suc (all - suc x) = omega arith in
+        let cells = changed f q gs table (all - suc x) (suc x) in
+        let r = room-left e l in
+        let m : 6 * (n + 1) ≡ 6 * n + 6 = omega arith in
+        let w : figure ≡ getD table x 0 = d in
+        record {
+          counted = counting-more f q gs table all n x (g .counted) e l;
+          room = g .room;
+          same = ap length p ∙ (length-put (6 * n) (half x ++ word figure) out (omega arith) ∙ g .same);
+          left = rw (add-one x, m, p, d)
+              (put-next (6 * n) (6 * n + 6) (half x ++ word (getD table x 0)) (recordsOf table cells) out refl (omega (arith, length-records table cells))
+              ∙ rw (k, changed-more f q gs table (all - suc x) x e) at (g .left));
+        }
+
+    pub putting-all : all ≤ x → (n ≡ length (changed f q gs table all 0)) × (out ≡ recordsOf table (changed f q gs table all 0) ++ drop (6 * n) out₀)
+    unfolding changed recordsOf
+    putting-all l =
+        let e : all - x ≡ 0 = omega arith in
+        let c = counting-all f q gs table all n x (g .counted) l in
+        let z : 6 * n + 0 ≡ 6 * n = omega arith in
+        let h = rw (e, z, take-append-drop (6 * n) out) at (g .left) in
+        let d : 0 + length (recordsOf table (changed f q gs table all 0)) ≡ 6 * n = omega (arith, length-records table (changed f q gs table all 0)) in
+        (c, rw d at h)
+
+-- The room, and the writer's answer and buffer.
+module _ (f : Floor) (q : ℕ) (gs table : List ℕ) (count room : ℕ) (c : count ≡ length (changed f q gs table (size f) 0)) where
+  pub no-room : room < 16 + 6 * count → fileRoom (length (fileOf f q gs table)) room ≡ refuseAt 17 P.Nowhere
+  unfolding fileRoom
+  no-room h = simp (lt-leb (length (fileOf f q gs table)) room (omega (arith, length-file f q gs table)))
+
+  pub roomy : 16 + 6 * count ≤ room → fileRoom (length (fileOf f q gs table)) room ≡ Vd.Done
+  unfolding fileRoom
+  roomy h = simp (le-leb (length (fileOf f q gs table)) room (omega (arith, length-file f q gs table)))
+
+-- the trailer's two parts after the records are the whole file
+pub whole : (f : Floor) (q goal n : ℕ) (table b₀ b₁ b₂ b₃ : List ℕ)
+    → n ≡ length (changed f q (goal ∷ []) table (size f) 0) → b₁ ≡ recordsOf table (changed f q (goal ∷ []) table (size f) 0) ++ drop (6 * n) b₀
+    → b₂ ≡ put (6 * n) (f .width % 256 ∷ f .height % 256 ∷ (half goal ++ (q % 256 ∷ 1 ∷ []))) b₁
+    → b₃ ≡ put (6 * n + 6) (half n ++ (word (16 + 6 * n) ++ (80 ∷ 68 ∷ 76 ∷ 84 ∷ []))) b₂
+    → (f .width ≤ 64) × (f .height ≤ 64) × (q ≤ 16) × (16 + 6 * n ≤ length b₁)
+    → b₃ ≡ fileOf f q (goal ∷ []) table ++ drop (length (fileOf f q (goal ∷ []) table)) b₀
+unfolding fileOf trailerOf
+whole f q goal n table b₀ b₁ b₂ b₃ c e₁ e₂ e₃ h =
+    let cells = changed f q (goal ∷ []) table (size f) 0 in
+    let w : f .width % 256 ≡ f .width = mod-eq-of-lt (omega arith) in
+    let y : f .height % 256 ≡ f .height = mod-eq-of-lt (omega arith) in
+    let s : q % 256 ≡ q = mod-eq-of-lt (omega arith) in
+    let job : List ℕ = f .width % 256 ∷ f .height % 256 ∷ (half goal ++ (q % 256 ∷ 1 ∷ [])) in
+    let back : List ℕ = half n ++ (word (16 + 6 * n) ++ (80 ∷ 68 ∷ 76 ∷ 84 ∷ [])) in
+    let t : b₃ ≡ put (6 * n) (job ++ back) b₁ = put-then (6 * n) (6 * n + 6) job back b₁ b₂ b₃ e₂ e₃ refl (omega arith) in
+    let r : length (recordsOf table cells) ≡ 6 * n = omega (arith, length-records table cells) in
+    let a : take (6 * n) b₁ ≡ recordsOf table cells = ap (take (6 * n)) e₁ ∙ take-at (recordsOf table cells) (drop (6 * n) b₀) (6 * n) r in
+    let d : drop (6 * n + 16) b₁ ≡ drop (6 * n + 16) b₀ =
+    sym (drop-drop 16 (6 * n) b₁) ∙ (ap (drop 16) (ap (drop (6 * n)) e₁ ∙ drop-at (recordsOf table cells) (drop (6 * n) b₀) (6 * n) r) ∙ drop-drop 16 (6 * n) b₀) in
+    let l : length (fileOf f q (goal ∷ []) table) ≡ 6 * n + 16 = omega (arith, length-file f q (goal ∷ []) table) in
+    let k : trailerOf f q (goal ∷ []) n ≡ trailerOf f q (goal ∷ []) (length cells) = ap (trailerOf f q (goal ∷ [])) c in
+    let j : job ++ back ≡ trailerOf f q (goal ∷ []) n = rw (w, y, s) in
+    t ∙ ((λ i. a i ++ ((j ∙ k) i ++ d i)) ∙ (sym (append-assoc (recordsOf table cells) (trailerOf f q (goal ∷ []) (length cells)) (drop (6 * n + 16) b₀))
+    ∙ ap (λ (m : ℕ). fileOf f q (goal ∷ []) table ++ drop m b₀) (sym l)))
+
+-- what an accepted writing gives
+pub write-open : (f : Floor) (q goal : ℕ) (table : List ℕ) (room : ℕ) → writeVerdict f q (goal ∷ []) table room ≡ Vd.Done
+    → Opened f q goal × (length table ≡ size f) × (16 + 6 * length (changed f q (goal ∷ []) table (size f) 0) ≤ room)
+write-open f q goal table room e =
+    let g = write-gives f q (goal ∷ []) table room e in
+    let o = opened f q goal (length table) (g .0) in
+    (o .0, o .1, omega (arith, length-file f q (goal ∷ []) table, g .3))
+
+pub at-most : (f : Floor) (q : ℕ) (gs table : List ℕ) (goal : ℕ) → Opened f q goal → length (changed f q gs table (size f) 0) ≤ 4096
+at-most f q gs table goal o = omega (arith, changed-few f q gs table (size f) 0, cells-le (f .width) (f .height) (o .sized .narrow) (o .sized .low))
+
+module _ (f : Floor) (q : ℕ) (gs table buffer : List ℕ) (v : Verdict) (e : v ≡ writeVerdict f q gs table (length buffer)) where
+  pub write-refused : (r : Refusal) → v ≡ Vd.Refused r → Writes (writeTable f q gs table buffer) (Wr.Refused r) buffer
+  unfolding writeTable
+  write-refused r h = rw (sym e ∙ h) (record { answer = refl; buffer = refl })
+
+  pub write-done : (n : ℕ) (after : List ℕ) → v ≡ Vd.Done → n ≡ length (changed f q gs table (size f) 0) → after ≡ fileOf f q gs table ++ drop (length (fileOf f q gs table)) buffer
+      → Writes (writeTable f q gs table buffer) (Wr.Length (16 + 6 * n)) after
+  unfolding writeTable
+  write-done n after h c k =
+      let l : 16 + 6 * n ≡ length (fileOf f q gs table) = omega (arith, length-file f q gs table) in
+      rw (sym e ∙ h) (record { answer = ap (λ (m : ℕ). saysWritten (Wr.Length m)) l; buffer = k })

@@ -1,0 +1,42 @@
+-- What the table calls promise, and what an opened table's job is known to meet.
+use Prim.Native.Nat.{ℕ, _+_, _-_, _≤_, _<_}
+use mathlib.Core.Path.{_≡_}
+use mathlib.Core.Bool.{Bool, true, false}
+use mathlib.Core.List.{List, _++_}
+use lib.ListN.{length, take, drop}
+use Rattle.answers.specs.Says.{saysVerdict, saysWritten}
+use Rattle.answers.specs.declared.Verdict.{Verdict}
+use Rattle.answers.specs.declared.Verdict.the-variants as Vd
+use Rattle.answers.specs.declared.Written.{Written}
+use Rattle.model.specs.Basics.{choose}
+use Rattle.model.specs.Floor.{Floor, Sized, size}
+use Rattle.model.specs.TableFile.{backIn, trailerHolds, WriteOutcome}
+
+-- what 1, 3 and 4 have shown
+pub record Opened (f : Floor) (q goal : ℕ) : Type 0 where
+  pub sized : Sized f
+  pub scale : q ≤ 16
+  pub bench : goal < size f
+
+-- whether a check has passed
+abbrev pub passed : Verdict → Bool
+passed Vd.Done = true
+passed (Vd.Refused r) = false
+
+-- bytes written over those from a place on
+abbrev pub put : ℕ → (bytes list : List ℕ) → List ℕ
+put at bytes list = take at list ++ (bytes ++ drop (at + length bytes) list)
+
+-- where in the file the records begin, and at its start where the trailer is faulty
+unfoldable pub startOf : List ℕ → ℕ
+startOf file = choose (trailerHolds file) (length file - backIn file) 0
+
+-- reading: the answer by its number and place, and the table as it is left
+pub record Reads (v : Verdict) (left : List ℕ) (r : Verdict) (after : List ℕ) : Type 0 where
+  pub answer : saysVerdict r ≡ saysVerdict v
+  pub table : after ≡ left
+
+-- writing: the answer by its number and values, and the buffer as it is left
+pub record Writes (o : WriteOutcome) (r : Written) (after : List ℕ) : Type 0 where
+  pub answer : saysWritten r ≡ saysWritten (o .answer)
+  pub buffer : after ≡ o .buffer

@@ -1,0 +1,143 @@
+-- What P1 to P12 leave open of a decision past its checks: the lookahead, the path, backing out and the moves.
+use Prim.Native.Nat.{ℕ, _*_}
+use mathlib.Core.Path.{_≡_, refl}
+use mathlib.Core.Bool.{true, false}
+use mathlib.Core.List.{List, [], _∷_, map}
+use lib.ListN.{set, replicate, take}
+use Rattle.answers.specs.declared.Job.{Job}
+use Rattle.answers.specs.declared.State.{State}
+use Rattle.answers.specs.declared.Place.the-variants as P
+use Rattle.answers.specs.declared.Answer.{Answer}
+use Rattle.answers.specs.declared.Answer.the-variants as A
+use Rattle.model.specs.Floor.{allowed}
+use Rattle.model.specs.Decision.{Outcome, decide}
+use Rattle.model.specs.Compute.{compute}
+use Rattle.worked.proofs.Hall.{hall, job, figures, state, fresh, buffer, leaves, refuses, firstOf, rowJob}
+
+-- on the worked floor, moves from place 0 on
+abbrev on : Job → State → (table path : List ℕ) → Outcome
+on j s table path = decide j hall s table path buffer 0
+
+-- the first decision of a trial with quota 1000 on w × h free cells
+abbrev clear : (w h goal depth current : ℕ) → (table : List ℕ) → Outcome
+clear w h goal depth current table =
+    decide (record { width = w; height = h; goal = goal; depth = depth; p = 1; q = 1; quota = 1000 }) (replicate (w * h) 0) (state current 0 0) table fresh buffer 0
+
+-- from the middle of 3 × 3 free cells to a goal beside it, with figure 9 at all other cells
+abbrev towards : ℕ → Outcome
+towards goal = clear 3 3 goal 1 4 (set (replicate 9 9) goal 0)
+
+-- the moves of an answer's first place
+abbrev firstMove : Outcome → List ℕ
+firstMove o = take 1 (o .moves)
+
+-- a path list that begins with these cells
+abbrev path1 : ℕ → List ℕ
+path1 a = a ∷ replicate 8 77
+
+-- rows `.....`, `.@@.@`, `.@@@.`, `.@@.@`, `.....`: from 0 to 24 in six moves, four of them diagonal, or in seven, one of them diagonal
+abbrev bend : List ℕ
+bend =
+    0 ∷ 0 ∷ 0 ∷ 0 ∷ 0 ∷ 0 ∷ 1 ∷ 1 ∷ 0 ∷ 1 ∷ 0 ∷ 1 ∷ 1 ∷ 1 ∷ 0 ∷ 0 ∷ 1 ∷ 1 ∷ 0 ∷ 1 ∷ 0 ∷ 0 ∷ 0 ∷ 0 ∷ 0 ∷ []
+
+pub record PinsDecision : Type 0 where
+  -- Eight moves, numbered clockwise from north; a straight move costs 10, a diagonal one 14
+  pub moves : map (λ g. firstMove (towards g)) (1 ∷ 2 ∷ 5 ∷ 8 ∷ 7 ∷ 6 ∷ 3 ∷ 0 ∷ [])
+      ≡ (0 ∷ []) ∷ (1 ∷ []) ∷ (2 ∷ []) ∷ (3 ∷ []) ∷ (4 ∷ []) ∷ (5 ∷ []) ∷ (6 ∷ []) ∷ (7 ∷ []) ∷ []
+  pub costs : map (λ g. towards g .answer) (1 ∷ 2 ∷ 5 ∷ 8 ∷ 7 ∷ 6 ∷ 3 ∷ 0 ∷ [])
+      ≡ A.Forward 1 1 1 ∷ A.Forward 2 5 1 ∷ A.Forward 5 1 1 ∷ A.Forward 8 5 1 ∷ A.Forward 7 1 1 ∷ A.Forward 6 5 1 ∷ A.Forward 3 1 1 ∷ A.Forward 0 5 1 ∷ []
+  -- A move is allowed when the cell moved into is on the floor and free: from 7, and from the middle of one column
+  pub allows : map (allowed (record { width = 3; height = 3; bytes = hall }) 7) (0 ∷ 1 ∷ 2 ∷ 3 ∷ 4 ∷ 5 ∷ 6 ∷ 7 ∷ [])
+      ≡ false ∷ true ∷ true ∷ false ∷ false ∷ false ∷ true ∷ false ∷ []
+  pub allows-column : map (allowed (record { width = 1; height = 3; bytes = 0 ∷ 0 ∷ 0 ∷ [] }) 1) (0 ∷ 1 ∷ 2 ∷ 3 ∷ 4 ∷ 5 ∷ 6 ∷ 7 ∷ [])
+      ≡ true ∷ false ∷ false ∷ false ∷ true ∷ false ∷ false ∷ false ∷ []
+  -- the cell moved into is on the floor: a move is named by where it goes, at every edge
+  pub edge-east : firstMove (clear 3 1 2 1 0 (0 ∷ 0 ∷ 0 ∷ [])) ≡ 2 ∷ []
+  pub edge-south : firstMove (clear 1 3 2 1 0 (0 ∷ 0 ∷ 0 ∷ [])) ≡ 4 ∷ []
+  pub edge-north : firstMove (clear 1 3 0 1 2 (0 ∷ 0 ∷ 0 ∷ [])) ≡ 0 ∷ []
+  pub edge-south-west : firstMove (clear 2 2 2 1 1 (9 ∷ 0 ∷ 0 ∷ 9 ∷ [])) ≡ 5 ∷ []
+  pub edge-west : firstMove (clear 2 2 2 1 3 (9 ∷ 9 ∷ 0 ∷ 9 ∷ [])) ≡ 6 ∷ []
+  pub edge-south-east : firstMove (clear 2 2 3 1 0 (0 ∷ 9 ∷ 9 ∷ 0 ∷ [])) ≡ 3 ∷ []
+  -- and no move leads from the end of a row to the next one's first cell
+  pub no-wrap : decide (record { width = 3; height = 2; goal = 3; depth = 1; p = 1; q = 1; quota = 0 }) (1 ∷ 1 ∷ 0 ∷ 0 ∷ 1 ∷ 1 ∷ []) (state 2 0 0) (replicate 6 0) fresh buffer 0 .answer
+      ≡ refuses 9 P.Nowhere
+  -- A floor byte 0 is free; every other byte is blocked
+  pub byte-2 : decide (rowJob 3 2 1 0) (0 ∷ 2 ∷ 0 ∷ []) (state 0 0 0) (0 ∷ 0 ∷ 0 ∷ []) fresh buffer 0 .answer ≡ refuses 9 P.Nowhere
+  -- The last ring m is d, or the goal's ring if that is smaller: beside the goal the true figure isn't raised
+  pub beside-goal : on (job 2 1 1 1000) (state 1 0 0) figures fresh ≡ leaves (A.Forward 0 0 1) (state 0 0 1) figures (path1 1) (6 ∷ replicate 289 9)
+  pub goal-seen : on (job 8 1 1 1000) (state 6 0 0) figures fresh .answer ≡ A.Forward 0 28 4
+  -- an empty ring after the goal's is no fault
+  pub goal-first : clear 2 1 1 2 0 (0 ∷ 0 ∷ []) .answer ≡ A.Forward 1 10 1
+  -- but one up to d is, where the goal is in none before it
+  pub ring-2-empty : decide (rowJob 4 3 2 0) (0 ∷ 0 ∷ 1 ∷ 0 ∷ []) (state 0 0 0) (0 ∷ 0 ∷ 0 ∷ 0 ∷ []) fresh buffer 0 .answer ≡ refuses 9 P.Nowhere
+  pub ring-1-full : decide (rowJob 4 3 1 0) (0 ∷ 0 ∷ 1 ∷ 0 ∷ []) (state 0 0 0) (10 ∷ 0 ∷ 0 ∷ 0 ∷ []) fresh buffer 0 .answer ≡ A.Forward 1 0 1
+  -- w may use more moves than x's ring: six moves, four diagonal (76), lose to seven, one diagonal (74)
+  pub more-moves : decide (record { width = 5; height = 5; goal = 24; depth = 6; p = 1; q = 1; quota = 1000 }) bend (state 0 0 0) (set (replicate 25 0) 23 90) (replicate 25 77) buffer 0
+      ≡ leaves (A.Forward 24 74 7) (state 24 74 1) (set (set (replicate 25 0) 23 90) 0 74) (0 ∷ replicate 24 77) (4 ∷ 4 ∷ 4 ∷ 3 ∷ 2 ∷ 2 ∷ 2 ∷ replicate 283 9)
+  -- The new figure is the greatest of the m bests, the target the best of ring m alone
+  pub greatest : clear 4 1 3 2 0 (0 ∷ 50 ∷ 0 ∷ 0 ∷ []) .answer ≡ A.Forward 2 60 2
+  -- p × w(x) + figure(x), p and q apart
+  pub weight : decide (job 1 2 3 1000) hall (state 6 0 0) (0 ∷ 30 ∷ 60 ∷ 30 ∷ 42 ∷ 72 ∷ 60 ∷ 72 ∷ 84 ∷ []) fresh buffer 0 .answer ≡ A.Forward 7 32 1
+  -- the route goes by the lowest-numbered window cell
+  pub lowest : clear 3 2 5 2 0 (0 ∷ 0 ∷ 10 ∷ 0 ∷ 0 ∷ 0 ∷ []) ≡ leaves (A.Forward 5 24 2) (state 5 24 1) (24 ∷ 0 ∷ 10 ∷ 0 ∷ 0 ∷ 0 ∷ []) (path1 0) (2 ∷ 3 ∷ replicate 288 9)
+  -- If the new figure is greater than the current cell's, store it; else the learned amount is 0 and no table entry is touched
+  pub unraised : on (job 1 1 1 1000) (state 7 0 1) (set figures 7 100) (path1 6) ≡ leaves (A.Forward 6 0 1) (state 6 0 0) (set figures 7 100) (6 ∷ 7 ∷ replicate 7 77) (6 ∷ replicate 289 9)
+  -- If u + a ≤ q × T: go forward
+  pub quota-met : on (job 1 1 1 28) (state 7 14 1) (set figures 6 34) (path1 6)
+      ≡ leaves (A.Forward 5 14 1) (state 5 28 2) (set (set figures 6 34) 7 38) (6 ∷ 7 ∷ replicate 7 77) (1 ∷ replicate 289 9)
+  -- Otherwise back out: u stays, the last cell is taken off, its entry stays in the list, and the cart goes there
+  pub quota-passed : on (job 1 1 1 27) (state 7 14 1) (set figures 6 34) (path1 6)
+      ≡ leaves (A.BackedOut 6 14 1) (state 6 14 0) (set (set figures 6 34) 7 38) (path1 6) (6 ∷ replicate 289 9)
+  -- q × T, in units of 1/q
+  pub quota-unit : firstOf (job 1 1 2 9) .answer ≡ A.Forward 7 18 1
+  pub quota-unit-passed : firstOf (job 1 1 2 8) .answer ≡ A.Stayed 18
+  -- With none it stays, and u stays
+  pub stays : on (job 1 1 1 5) (state 6 5 0) figures fresh ≡ leaves (A.Stayed 14) (state 6 5 0) (set figures 6 34) fresh buffer
+  -- by the reverse of that cell's own route: order turned round, each move the opposite one
+  pub reverse : on (job 2 1 1 28) (state 5 28 1) (set (set figures 6 48) 5 0) (path1 6) ≡ leaves (A.BackedOut 6 24 2) (state 6 28 0) (set figures 6 48) (path1 6) (5 ∷ 6 ∷ replicate 288 9)
+  -- its own: seen from 7, which is two moves away, though the goal beside the current cell shuts 7 out of that cell's window
+  pub own-route : on (job 2 1 1 0) (state 1 0 2) (set figures 1 0) (6 ∷ 7 ∷ replicate 7 77) ≡ leaves (A.BackedOut 7 10 2) (state 7 0 1) figures (6 ∷ 7 ∷ replicate 7 77) (3 ∷ 5 ∷ replicate 288 9)
+  -- If the target is already on the path, the length is cut so that the target and all after it are off the path; old entries remain
+  pub cut : on (job 1 1 1 1000) (state 7 3 3) (set (set figures 5 40) 6 40) (5 ∷ 8 ∷ 6 ∷ replicate 6 77)
+      ≡ leaves (A.Forward 8 14 1) (state 8 17 1) (set (set (set figures 5 40) 6 40) 7 38) (5 ∷ 8 ∷ 6 ∷ 7 ∷ replicate 5 77) (2 ∷ replicate 289 9)
+  -- entries beyond the length are no part of the path
+  pub beyond : on (job 1 1 1 1000) (state 6 0 0) figures (7 ∷ 7 ∷ 6 ∷ 0 ∷ 3 ∷ replicate 4 77) ≡ leaves (A.Forward 7 14 1) (state 7 14 1) (set figures 6 34) (6 ∷ 7 ∷ 6 ∷ 0 ∷ 3 ∷ replicate 4 77) (2 ∷ replicate 289 9)
+  -- At the goal: done, nothing changes
+  pub arrived : on (job 1 1 1 1000) (state 0 7 1) (set figures 0 3) (path1 6) ≡ leaves A.Arrived (state 0 7 1) (set figures 0 3) (path1 6) buffer
+
+pub pinsDecision : PinsDecision
+unfolding compute
+pinsDecision = record {
+  moves = refl;
+  costs = refl;
+  allows = refl;
+  allows-column = refl;
+  edge-east = refl;
+  edge-south = refl;
+  edge-north = refl;
+  edge-south-west = refl;
+  edge-west = refl;
+  edge-south-east = refl;
+  no-wrap = refl;
+  byte-2 = refl;
+  beside-goal = refl;
+  goal-seen = refl;
+  goal-first = refl;
+  ring-2-empty = refl;
+  ring-1-full = refl;
+  more-moves = refl;
+  greatest = refl;
+  weight = refl;
+  lowest = refl;
+  unraised = refl;
+  quota-met = refl;
+  quota-passed = refl;
+  quota-unit = refl;
+  quota-unit-passed = refl;
+  stays = refl;
+  reverse = refl;
+  own-route = refl;
+  cut = refl;
+  beyond = refl;
+  arrived = refl;
+}

@@ -1,0 +1,45 @@
+-- What trial and run answer and leave, past their checks.
+use mathlib.Core.Path.{_≡_, refl}
+use mathlib.Core.Bool.{true, false}
+use mathlib.Core.List.{[], _∷_}
+use lib.ListN.{set, replicate}
+use Rattle.answers.specs.declared.Ran.the-variants as Rn
+use Rattle.model.specs.Ride.{trial, run}
+use Rattle.model.specs.Compute.{compute}
+use Rattle.worked.proofs.Hall.{hall, job, figures, fresh, made, rowJob, blank, learnt}
+
+pub record PinsRide : Type 0 where
+  -- Start equal to goal gives one trial, all four 0
+  pub at-goal : trial (job 1 1 1 0) hall 0 figures fresh ≡ made 0 0 0 0 figures fresh
+  pub run-at-goal : run (job 1 1 1 0) hall 0 2 figures fresh (blank ∷ blank ∷ [])
+      ≡ record { answer = Rn.Made 1 true; table = figures; path = fresh; reports = record { decisions = 0; learned = 0; kept = 0; travel = 0 } ∷ blank ∷ [] }
+  -- a trial on a table of true figures, where nothing is left to learn, comes to the goal too
+  pub nothing-left : trial (job 1 1 1 0) hall 6 (set learnt 8 34) fresh ≡ made 4 0 48 48 (set learnt 8 34) (6 ∷ 7 ∷ 5 ∷ 1 ∷ replicate 5 77)
+  -- and one that learns least at each decision, backs out all the way and goes again: decisions until done
+  pub there-and-back : trial (rowJob 6 5 1 0) (replicate 6 0) 0 (49 ∷ 39 ∷ 29 ∷ 19 ∷ 9 ∷ 0 ∷ []) fresh
+      ≡ made 14 5 50 130 (50 ∷ 40 ∷ 30 ∷ 20 ∷ 10 ∷ 0 ∷ []) (0 ∷ 1 ∷ 2 ∷ 3 ∷ 4 ∷ replicate 4 77)
+  -- trials until the number asked for is used: one that learns more than 0 is not settled
+  pub unsettled : run (job 1 1 1 0) hall 6 1 figures fresh (blank ∷ [])
+      ≡ record { answer = Rn.Made 1 false; table = learnt; path = 6 ∷ 7 ∷ 5 ∷ 1 ∷ replicate 5 77; reports = record { decisions = 8; learned = 42; kept = 48; travel = 68 } ∷ [] }
+  -- kept cost: the legs along the path at the end, each at its own cost
+  pub kept : trial (job 2 1 1 1000) hall 6 figures fresh ≡ made 2 28 48 48 (set figures 6 48) (6 ∷ 5 ∷ replicate 7 77)
+  -- each trial goes on with the table and the path list that the one before left: rows `.@.`, `.@.`, `...`, from 8
+  pub carried : run (job 1 1 1 1000) (0 ∷ 1 ∷ 0 ∷ 0 ∷ 1 ∷ 0 ∷ 0 ∷ 0 ∷ 0 ∷ []) 8 5 figures fresh (blank ∷ blank ∷ blank ∷ blank ∷ blank ∷ [])
+      ≡ record {
+        answer = Rn.Made 2 true;
+        table = 0 ∷ 10 ∷ 40 ∷ 10 ∷ 14 ∷ 38 ∷ 20 ∷ 24 ∷ 34 ∷ [];
+        path = 8 ∷ 7 ∷ 3 ∷ 3 ∷ replicate 5 77;
+        reports = record { decisions = 6; learned = 40; kept = 48; travel = 68 } ∷ record { decisions = 3; learned = 0; kept = 34; travel = 34 } ∷ blank ∷ blank ∷ blank ∷ [];
+      }
+
+pub pinsRide : PinsRide
+unfolding compute
+pinsRide = record {
+  at-goal = refl;
+  run-at-goal = refl;
+  nothing-left = refl;
+  there-and-back = refl;
+  unsettled = refl;
+  kept = refl;
+  carried = refl;
+}

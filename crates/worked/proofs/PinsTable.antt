@@ -1,0 +1,193 @@
+-- The table file: its trailer, records, reader and writer, each fault alone, each limit on both sides, and the lower number first.
+use Prim.Native.Nat.{ℕ, _+_}
+use mathlib.Core.Path.{_≡_, refl}
+use mathlib.Core.List.{List, [], _∷_, _++_, map}
+use lib.ListN.{length, set, replicate, take, drop}
+use Rattle.answers.specs.declared.Place.{Place}
+use Rattle.answers.specs.declared.Place.the-variants as P
+use Rattle.answers.specs.declared.Verdict.{Verdict}
+use Rattle.answers.specs.declared.Verdict.the-variants as Vd
+use Rattle.answers.specs.declared.Written.the-variants as Wr
+use Rattle.model.specs.Floor.{Floor, openingTable}
+use Rattle.model.specs.TableFile.{checkTrailer, findRecords, readVerdict, readTable, writeTable}
+use Rattle.model.specs.Compute.{compute}
+use Rattle.worked.proofs.Hall.{hall, figures, no, learnt, workedFile}
+
+abbrev floor : Floor
+floor = record { width = 3; height = 3; bytes = hall }
+
+-- the trailer of a file with so many records on the worked floor, and a record of a cell and a figure, all of numbers below 256
+abbrev ending : (count back : ℕ) → List ℕ
+ending count back = 3 ∷ 3 ∷ 0 ∷ 0 ∷ 1 ∷ 1 ∷ 0 ∷ count ∷ 0 ∷ 0 ∷ 0 ∷ back ∷ 80 ∷ 68 ∷ 76 ∷ 84 ∷ []
+
+abbrev entry : (cell figure : ℕ) → List ℕ
+entry cell figure = 0 ∷ cell ∷ 0 ∷ 0 ∷ 0 ∷ figure ∷ []
+
+-- reading a file on the worked floor, and one whose trailer has another byte at a place
+abbrev reads : List ℕ → Verdict
+reads file = readVerdict floor 1 (0 ∷ []) file 9
+
+abbrev with : (place byte : ℕ) → Verdict
+with place byte = reads (set (entry 6 48 ++ ending 1 22) (6 + place) byte)
+
+-- what reading a file answers, and the table after; a refused reading leaves it as lent
+abbrev reading : Floor → (q goal : ℕ) → (file table : List ℕ) → Verdict × List ℕ
+reading f q goal file table = (readVerdict f q (goal ∷ []) file (length table), readTable f q (goal ∷ []) file table)
+
+abbrev Read : List ℕ → List ℕ → Type 0
+Read file table = reading floor 1 0 file (replicate 9 5) ≡ (Vd.Done, table)
+
+abbrev Unread : Floor → (q goal : ℕ) → (file table : List ℕ) → (number : ℕ) → Place → Type 0
+Unread f q goal file table number place = reading f q goal file table ≡ (no number place, table)
+
+-- a refused writing leaves the buffer as lent
+abbrev Unwritten : Floor → (q goal : ℕ) → (table buffer : List ℕ) → (number : ℕ) → Place → Type 0
+Unwritten f q goal table buffer number place =
+    writeTable f q (goal ∷ []) table buffer ≡ record { answer = Wr.Refused (record { number = number; place = place }); buffer = buffer }
+
+-- one row of two free cells, and its file with q 3 where cell 1 is at 31
+abbrev oblong : Floor
+oblong = record { width = 2; height = 1; bytes = 0 ∷ 0 ∷ [] }
+
+abbrev oblongFile : List ℕ
+oblongFile = 0 ∷ 1 ∷ 0 ∷ 0 ∷ 0 ∷ 31 ∷ 2 ∷ 1 ∷ 0 ∷ 0 ∷ 3 ∷ 1 ∷ 0 ∷ 1 ∷ 0 ∷ 0 ∷ 0 ∷ 22 ∷ 80 ∷ 68 ∷ 76 ∷ 84 ∷ []
+
+-- 64 × 5 free cells, goal 257: numbers that take both bytes
+abbrev long : Floor
+long = record { width = 64; height = 5; bytes = replicate 320 0 }
+
+abbrev longTable : List ℕ
+longTable = openingTable long 2 (257 ∷ [])
+
+abbrev longFile : List ℕ
+longFile = 1 ∷ 44 ∷ 0 ∷ 1 ∷ 17 ∷ 112 ∷ 64 ∷ 5 ∷ 1 ∷ 1 ∷ 2 ∷ 1 ∷ 0 ∷ 1 ∷ 0 ∷ 0 ∷ 0 ∷ 22 ∷ 80 ∷ 68 ∷ 76 ∷ 84 ∷ []
+
+pub record PinsTable : Type 0 where
+  -- The reader gives every other cell its opening figure
+  pub read : Read workedFile learnt
+  pub read-none : Read (ending 0 16) figures
+  -- bytes ahead of the first record are older material and are ignored
+  pub older : Read (9 ∷ 8 ∷ 7 ∷ workedFile) learnt
+  -- The finder of the records, trailer left off; a faulty trailer gives the empty part
+  pub found : findRecords (9 ∷ 8 ∷ workedFile) ≡ entry 6 48 ++ entry 7 38
+  pub found-none : findRecords (entry 6 48 ++ ending 0 16) ≡ []
+  pub found-faulty : findRecords (set workedFile 27 85) ≡ []
+  -- 13: under 16 bytes
+  pub short : map reads ([] ∷ drop 1 (ending 0 16) ∷ []) ≡ no 13 P.Nowhere ∷ no 13 P.Nowhere ∷ []
+  -- letters
+  pub letters : map (λ i. with (12 + i) 65) (0 ∷ 1 ∷ 2 ∷ 3 ∷ []) ≡ no 13 P.Nowhere ∷ no 13 P.Nowhere ∷ no 13 P.Nowhere ∷ no 13 P.Nowhere ∷ []
+  -- edition
+  pub edition : map (with 5) (0 ∷ 2 ∷ []) ≡ no 13 P.Nowhere ∷ no 13 P.Nowhere ∷ []
+  -- `back` not 16 + 6 × count, in each of its bytes
+  pub back : map (λ i. with (8 + i) 23) (0 ∷ 1 ∷ 2 ∷ 3 ∷ []) ≡ no 13 P.Nowhere ∷ no 13 P.Nowhere ∷ no 13 P.Nowhere ∷ no 13 P.Nowhere ∷ []
+  pub count : map (with 7) (0 ∷ 2 ∷ []) ≡ no 13 P.Nowhere ∷ no 13 P.Nowhere ∷ []
+  pub count-both : checkTrailer (replicate 1536 0 ++ (3 ∷ 3 ∷ 0 ∷ 0 ∷ 1 ∷ 1 ∷ 1 ∷ 0 ∷ 0 ∷ 0 ∷ 6 ∷ 16 ∷ 80 ∷ 68 ∷ 76 ∷ 84 ∷ [])) ≡ Vd.Done
+  -- or `back` past the file's start
+  pub past-start : reads (drop 1 workedFile) ≡ no 13 P.Nowhere
+  -- 14: width, height, goal or q not this job's; after 13 and before 15
+  pub thirteen-first : Unread floor 2 0 (set workedFile 27 85) (replicate 9 5) 13 P.Nowhere
+  pub width-other : map (with 0) (2 ∷ 4 ∷ []) ≡ no 14 P.Nowhere ∷ no 14 P.Nowhere ∷ []
+  pub height-other : map (with 1) (2 ∷ 4 ∷ []) ≡ no 14 P.Nowhere ∷ no 14 P.Nowhere ∷ []
+  pub goal-other : map (with 3) (1 ∷ []) ++ map (with 2) (1 ∷ []) ≡ no 14 P.Nowhere ∷ no 14 P.Nowhere ∷ []
+  pub goal-lower : Unread floor 1 5 (ending 0 16) (replicate 9 5) 14 P.Nowhere
+  pub q-other : with 4 2 ≡ no 14 P.Nowhere
+  pub fourteen-first : Unread floor 2 0 (entry 3 48 ++ ending 1 22) (replicate 9 5) 14 P.Nowhere
+  -- 15: off the floor, blocked, not above the cell before, not above the opening figure, or above the ceiling; names the first such record
+  pub off : Unread floor 1 0 (entry 9 48 ++ ending 1 22) (replicate 9 5) 15 (P.Record 0)
+  pub off-high : reads (1 ∷ 6 ∷ 0 ∷ 0 ∷ 0 ∷ 48 ∷ ending 1 22) ≡ no 15 (P.Record 0)
+  pub blocked : reads (entry 2 48 ++ (entry 3 48 ++ ending 2 28)) ≡ no 15 (P.Record 1)
+  pub same-cell : reads (entry 6 48 ++ (entry 6 48 ++ ending 2 28)) ≡ no 15 (P.Record 1)
+  pub lower-cell : reads (entry 5 48 ++ (entry 7 48 ++ (entry 6 48 ++ ending 3 34))) ≡ no 15 (P.Record 2)
+  pub not-above : reads (entry 6 48 ++ (entry 7 24 ++ (entry 3 48 ++ ending 3 34))) ≡ no 15 (P.Record 1)
+  pub just-above : reads (entry 6 48 ++ (entry 7 25 ++ ending 2 28)) ≡ Vd.Done
+  pub ceiling-passed : reads (0 ∷ 8 ∷ 0 ∷ 13 ∷ 255 ∷ 33 ∷ ending 1 22) ≡ no 15 (P.Record 0)
+  pub ceiling-far : reads (0 ∷ 8 ∷ 1 ∷ 0 ∷ 0 ∷ 48 ∷ ending 1 22) ≡ no 15 (P.Record 0)
+  pub ceiling-met : Read (0 ∷ 8 ∷ 0 ∷ 13 ∷ 255 ∷ 32 ∷ ending 1 22) (set figures 8 917280)
+  pub first-cell : Read (entry 0 1 ++ (entry 1 11 ++ ending 2 28)) (set (set figures 0 1) 1 11)
+  -- the table calls judge sizes, q, goal and their own numbers
+  pub read-1 : Unread floor 0 0 workedFile (replicate 8 5) 1 P.Nowhere
+  pub read-3 : Unread floor 0 4 workedFile (replicate 9 5) 3 P.Nowhere
+  pub read-4 : Unread floor 1 4 [] (replicate 9 5) 4 P.Nowhere
+  -- the writer also 5, before 16; 16 before 17
+  pub write-1 : Unwritten floor 0 0 (take 8 figures) [] 1 P.Nowhere
+  pub write-3 : Unwritten floor 0 4 figures [] 3 P.Nowhere
+  pub write-4 : Unwritten floor 1 4 (set figures 8 917281) [] 4 P.Nowhere
+  pub write-5 : Unwritten floor 1 0 (set (set figures 8 917281) 1 9) [] 5 (P.Cell 8)
+  pub write-5-blocked : Unwritten floor 1 0 (set (set figures 8 917281) 4 917281) [] 5 (P.Cell 4)
+  -- 16: a free cell below its opening figure, or a blocked one unlike it; names the lowest
+  pub below : Unwritten floor 1 0 (set (set figures 7 23) 8 27) [] 16 (P.Cell 7)
+  pub blocked-above : Unwritten floor 1 0 (set (set figures 3 11) 8 27) [] 16 (P.Cell 3)
+  pub blocked-below : Unwritten floor 1 0 (set figures 4 13) [] 16 (P.Cell 4)
+  -- 17: no room
+  pub no-room : Unwritten floor 1 0 learnt (replicate 27 5) 17 P.Nowhere
+  pub room : writeTable floor 1 (0 ∷ []) learnt (replicate 28 5) ≡ record { answer = Wr.Length 28; buffer = workedFile }
+  -- Figures that differ from the opening figure: none
+  pub write-none : writeTable floor 1 (0 ∷ []) figures (replicate 17 5) ≡ record { answer = Wr.Length 16; buffer = ending 0 16 ++ 5 ∷ [] }
+  -- up to the ceiling, the first cell and the last; numbers are big-endian
+  pub write-ends : writeTable floor 1 (0 ∷ []) (set (set (set figures 0 917280) 7 131071) 8 131072) (replicate 34 5)
+      ≡ record { answer = Wr.Length 34; buffer = 0 ∷ 0 ∷ 0 ∷ 13 ∷ 255 ∷ 32 ∷ 0 ∷ 7 ∷ 0 ∷ 1 ∷ 255 ∷ 255 ∷ 0 ∷ 8 ∷ 0 ∷ 2 ∷ 0 ∷ 0 ∷ ending 3 34 }
+  -- width before height
+  pub write-oblong : writeTable oblong 3 (0 ∷ []) (0 ∷ 31 ∷ []) (replicate 22 5) ≡ record { answer = Wr.Length 22; buffer = oblongFile }
+  pub read-oblong : reading oblong 3 0 oblongFile (5 ∷ 5 ∷ []) ≡ (Vd.Done, 0 ∷ 31 ∷ [])
+  -- cell and goal take two bytes, figure and back four, and are read as they are written
+  pub write-long : writeTable long 2 (257 ∷ []) (set longTable 300 70000) (replicate 22 5) ≡ record { answer = Wr.Length 22; buffer = longFile }
+  pub read-long : reading long 2 257 longFile (replicate 320 5) ≡ (Vd.Done, set longTable 300 70000)
+  -- and count two: 320 records
+  pub count-long : drop 1920 (writeTable long 2 (257 ∷ []) (replicate 320 900000) (replicate 1936 5) .buffer)
+      ≡ 64 ∷ 5 ∷ 1 ∷ 1 ∷ 2 ∷ 1 ∷ 1 ∷ 64 ∷ 0 ∷ 0 ∷ 7 ∷ 144 ∷ 80 ∷ 68 ∷ 76 ∷ 84 ∷ []
+
+pub pinsTable : PinsTable
+unfolding compute
+pinsTable = record {
+  read = refl;
+  read-none = refl;
+  older = refl;
+  found = refl;
+  found-none = refl;
+  found-faulty = refl;
+  short = refl;
+  letters = refl;
+  edition = refl;
+  back = refl;
+  count = refl;
+  count-both = refl;
+  past-start = refl;
+  thirteen-first = refl;
+  width-other = refl;
+  height-other = refl;
+  goal-other = refl;
+  goal-lower = refl;
+  q-other = refl;
+  fourteen-first = refl;
+  off = refl;
+  off-high = refl;
+  blocked = refl;
+  same-cell = refl;
+  lower-cell = refl;
+  not-above = refl;
+  just-above = refl;
+  ceiling-passed = refl;
+  ceiling-far = refl;
+  ceiling-met = refl;
+  first-cell = refl;
+  read-1 = refl;
+  read-3 = refl;
+  read-4 = refl;
+  write-1 = refl;
+  write-3 = refl;
+  write-4 = refl;
+  write-5 = refl;
+  write-5-blocked = refl;
+  below = refl;
+  blocked-above = refl;
+  blocked-below = refl;
+  no-room = refl;
+  room = refl;
+  write-none = refl;
+  write-ends = refl;
+  write-oblong = refl;
+  read-oblong = refl;
+  write-long = refl;
+  read-long = refl;
+  count-long = refl;
+}

@@ -1,0 +1,242 @@
+//! The comparison: this program's answers beside another program's, input by input, byte by byte.
+
+use crate::calls;
+use crate::make::{self, Program};
+use std::io::{Read, Write};
+use std::process::{Command, Stdio};
+use std::sync::mpsc;
+use std::time::{Duration, Instant};
+
+/// Another program that takes longer than this for one input is taken to hang.
+const PATIENCE: Duration = Duration::from_secs(60);
+
+/// How much of an input or output is shown.
+const SHOWN: usize = 2_000;
+
+pub struct Plan {
+    pub aisle: Option<String>,
+    pub calls: Option<String>,
+    pub from: u64,
+    pub count: u64,
+    pub seconds: Option<u64>,
+    pub need_all: bool,
+}
+
+/// Compares seed by seed; answers whether all went well.
+pub fn compare(plan: &Plan) -> bool {
+    let begun = Instant::now();
+    let mut tally = Tally::default();
+    let mut compared = 0u64;
+    for seed in plan.from..plan.from.saturating_add(plan.count) {
+        if plan.seconds.is_some_and(|seconds| begun.elapsed() >= Duration::from_secs(seconds)) {
+            println!("stopped early at seed {seed}: the time given is used up");
+            break;
+        }
+        let program = make::program_of(seed);
+        let other = match program {
+            Program::Aisle => &plan.aisle,
+            Program::Calls => &plan.calls,
+        };
+        let Some(other) = other else { continue };
+        let input = make::input(program, seed);
+        let ours = program.answer(&input);
+        let theirs = ask(other, &input);
+        compared += 1;
+        if theirs.as_ref() != Ok(&ours) {
+            show_difference(program, seed, &input, &ours, &theirs);
+            return false;
+        }
+        tally.add(program, &input, &ours);
+    }
+    tally.print();
+    let missing = tally.missing();
+    let complete = !plan.need_all || missing.is_empty();
+    if !complete {
+        println!("these numbers did not occur: {missing:?}");
+    }
+    println!("{compared} compared, 0 different");
+    complete
+}
+
+/// Runs the other program on an input. An error says in words why it has no output.
+fn ask(path: &str, input: &[u8]) -> Result<Vec<u8>, String> {
+    let mut child = Command::new(path)
+        .stdin(Stdio::piped())
+        .stdout(Stdio::piped())
+        .spawn()
+        .map_err(|error| format!("{path} can't be started: {error}"))?;
+    let (mut stdin, mut stdout) = match (child.stdin.take(), child.stdout.take()) {
+        (Some(stdin), Some(stdout)) => (stdin, stdout),
+        _ => return Err(format!("{path} has no pipes")),
+    };
+    // Writing and reading each have a thread: with one after the other both sides could wait on a full pipe.
+    let bytes = input.to_vec();
+    let writer = std::thread::spawn(move || {
+        // A program may rightly stop reading early, so a broken pipe is no fault.
+        let _ = stdin.write_all(&bytes);
+    });
+    let (send, receive) = mpsc::channel();
+    let reader = std::thread::spawn(move || {
+        let mut output = Vec::new();
+        let read = stdout.read_to_end(&mut output).map(|_| output);
+        let _ = send.send(read);
+    });
+    let output = receive.recv_timeout(PATIENCE);
+    if output.is_err() {
+        let _ = child.kill();
+    }
+    let status = child.wait();
+    let _ = writer.join();
+    let _ = reader.join();
+    let output = match output {
+        Ok(Ok(output)) => output,
+        Ok(Err(error)) => return Err(format!("its output can't be read: {error}")),
+        Err(_) => return Err(format!("it gave no whole output in {} seconds", PATIENCE.as_secs())),
+    };
+    match status {
+        // No code at all means that a signal ended it: it crashed, whatever it printed before.
+        Ok(status) if status.code().is_none() => Err(format!("it crashed: {status}")),
+        Ok(_) => Ok(output),
+        Err(error) => Err(format!("it can't be waited for: {error}")),
+    }
+}
+
+fn show_difference(program: Program, seed: u64, input: &[u8], ours: &[u8], theirs: &Result<Vec<u8>, String>) {
+    let name = program.name();
+    println!("seed {seed}, {name}: different");
+    println!("--- input, {} bytes", input.len());
+    println!("{}", shown(input));
+    println!("--- second's output, {} bytes", ours.len());
+    println!("{}", shown(ours));
+    match theirs {
+        Ok(theirs) => {
+            println!("--- the other's output, {} bytes", theirs.len());
+            println!("{}", shown(theirs));
+            let same = ours.iter().zip(theirs).take_while(|(a, b)| a == b).count();
+            println!("--- they differ from byte {same} on (counted from 0)");
+        }
+        Err(error) => println!("--- the other gave none: {error}"),
+    }
+    println!("--- the input again: second make {name} {seed}");
+}
+
+fn shown(bytes: &[u8]) -> String {
+    let text = String::from_utf8_lossy(bytes);
+    match text.char_indices().nth(SHOWN) {
+        Some((end, _)) => format!("{} ...", &text[..end]),
+        None => text.into_owned(),
+    }
+}
+
+/// How often each number, call and kind of decision occurred.
+#[derive(Default)]
+pub struct Tally {
+    numbers: [u64; 18],
+    calls: [u64; 11],
+    malformed: u64,
+    aisle: u64,
+    /// Arrived, forward, backed out, stayed, refused.
+    decisions: [u64; 5],
+    cuts: u64,
+    refused_on_backing_out: u64,
+}
+
+const CALL_NAMES: [&str; 11] = [
+    "",
+    "open",
+    "decide",
+    "trial",
+    "run",
+    "read floor text",
+    "write table file",
+    "read table file",
+    "find records",
+    "check trailer",
+    "opening table",
+];
+
+impl Tally {
+    pub fn add(&mut self, program: Program, input: &[u8], output: &[u8]) {
+        match program {
+            Program::Aisle => self.add_aisle(output),
+            Program::Calls => self.add_call(input, output),
+        }
+    }
+
+    fn add_number(&mut self, number: u64) {
+        if let Some(count) = self.numbers.get_mut(number as usize) {
+            *count += 1;
+        }
+    }
+
+    fn add_aisle(&mut self, output: &[u8]) {
+        self.aisle += 1;
+        let text = String::from_utf8_lossy(output);
+        let mut words = text.split_ascii_whitespace();
+        let number = if words.next() == Some("refused") { words.next() } else { Some("0") };
+        self.add_number(number.and_then(|number| number.parse().ok()).unwrap_or(u64::MAX));
+    }
+
+    fn add_call(&mut self, input: &[u8], output: &[u8]) {
+        if output == b"malformed\n" {
+            self.malformed += 1;
+            return;
+        }
+        let (Some(asked), Some(answered)) = (calls::numbers(input), leading_numbers(output)) else { return };
+        let call = asked[0] as usize;
+        self.calls[call] += 1;
+        match call {
+            2 => {
+                self.add_number(answered[1]);
+                self.add_decision(&asked, &answered);
+            }
+            // The finder answers no number.
+            8 => {}
+            _ => self.add_number(answered[0]),
+        }
+    }
+
+    fn add_decision(&mut self, asked: &[u64], answered: &[u64]) {
+        let kind = answered[0];
+        self.decisions[kind as usize] += 1;
+        let (length_before, length_after) = (asked[5], answered[9]);
+        if kind == 1 && length_after <= length_before {
+            self.cuts += 1;
+        }
+        let (u, q, quota) = (asked[4], asked[9], asked[10]);
+        if answered[1] == 8 && u <= q * quota {
+            // With the largest quota nothing backs out: if the same call is then accepted, only that part was at fault.
+            let mut words: Vec<String> = asked.iter().map(u64::to_string).collect();
+            words[10] = "1000000".into();
+            let output = calls::answer(words.join(" ").as_bytes());
+            self.refused_on_backing_out += u64::from(!output.starts_with(b"4 "));
+        }
+    }
+
+    pub fn missing(&self) -> Vec<usize> {
+        (0..self.numbers.len()).filter(|&number| self.numbers[number] == 0).collect()
+    }
+
+    pub fn print(&self) {
+        println!("number  answered");
+        for (number, count) in self.numbers.iter().enumerate() {
+            println!("{number:6}  {count}");
+        }
+        println!("call                 made");
+        for (call, count) in self.calls.iter().enumerate().skip(1) {
+            println!("{call:2} {:16}  {count}", CALL_NAMES[call]);
+        }
+        println!("   {:16}  {}", "malformed", self.malformed);
+        println!("   {:16}  {}", "aisle", self.aisle);
+        let [arrived, forward, backed_out, stayed, refused] = self.decisions;
+        let (cuts, by_8) = (self.cuts, self.refused_on_backing_out);
+        print!("decisions: {arrived} arrived, {forward} forward ({cuts} cut the path), {backed_out} backed out, ");
+        println!("{stayed} stayed, {refused} refused ({by_8} by the backing-out part of 8)");
+    }
+}
+
+/// The numbers that an output begins with. Outputs may be longer than inputs, so `calls::numbers` doesn't do.
+fn leading_numbers(output: &[u8]) -> Option<Vec<u64>> {
+    let text = std::str::from_utf8(output).ok()?;
+    text.split_ascii_whitespace().take(10).map(|word| word.parse().ok()).collect()
+}

@@ -1,0 +1,18 @@
+//! The second program: the route learner of document 01 once more, written from the papers alone,
+//! so that another implementation can be compared with it byte for byte.
+
+pub mod aisle;
+pub mod calls;
+pub mod checks;
+pub mod compare;
+pub mod decision;
+pub mod floor;
+pub mod floor_text;
+pub mod lookahead;
+pub mod make;
+pub mod opening;
+pub mod promises;
+pub mod refusal;
+pub mod table_file;
+pub mod timing;
+pub mod trial;

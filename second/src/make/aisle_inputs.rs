@@ -1,0 +1,137 @@
+//! Inputs of the program `aisle`: a line and a floor text, good and spoiled.
+
+use super::dice::Dice;
+use super::jobs;
+use super::texts;
+
+pub fn input(dice: &mut Dice) -> Vec<u8> {
+    let mut kit = if dice.chance(40) { jobs::long_kit(dice) } else { jobs::kit(dice) };
+    if dice.chance(4) {
+        kit.goal = kit.start;
+    }
+    let mut numbers = vec![
+        kit.start as u64,
+        kit.goal as u64,
+        kit.depth,
+        kit.p,
+        kit.q,
+        kit.quota,
+        if dice.chance(95) { kit.trials.min(60) } else { kit.trials },
+    ];
+    let mut text = texts::text(&kit.floor, kit.width, kit.height, dice);
+    let mut length = dice.pick(&[2, 3, 5, 6, 7, 7, 7, 7]);
+    let mut spoil_words = false;
+    let mut spoil_line = false;
+    for _ in 0..[0, 1, 2, 3][dice.weighted(&[50, 25, 16, 9])] {
+        match dice.below(8) {
+            0 => {
+                let blocked = kit.blocked_cells();
+                let cells = kit.cells() as u64;
+                numbers[dice.index(2)] = if blocked.is_empty() || dice.chance(40) {
+                    dice.pick(&[cells, cells + 1, 65_536, 9_999_999])
+                } else {
+                    dice.pick(&blocked) as u64
+                };
+            }
+            1 => {
+                let which = dice.from_to(2, 6) as usize;
+                numbers[which] = match which {
+                    2 => dice.pick(&[0, 1, 8, 9, 257, 9_999_999]),
+                    3 => dice.pick(&[0, numbers[4] + 1, numbers[4], 17]),
+                    4 => dice.pick(&[0, numbers[3].saturating_sub(1), 16, 17]),
+                    5 => dice.pick(&[0, 1_000_000, 1_000_001, 9_999_999]),
+                    _ => dice.pick(&[0, 1, 1_000, 1_000, 1_001]),
+                };
+            }
+            2 => length = dice.pick(&[0, 1, 4, 8, 2, 3, 5, 6]),
+            3 => spoil_words = true,
+            4 => spoil_line = true,
+            5 => {
+                let short = dice.from_to(1, 9_000) as usize;
+                text.resize(
+                    text.len() + dice.pick(&[short, short, short, 70_000, 300_000]),
+                    dice.pick(b".@\nx"),
+                );
+            }
+            _ => texts::spoil(&mut text, dice),
+        }
+    }
+    numbers.resize(length, 1);
+    let mut words: Vec<String> = numbers.iter().map(u64::to_string).collect();
+    if dice.chance(10) {
+        zeros_in_front(&mut words, 7, dice);
+    }
+    if spoil_words {
+        spoil_one_word(&mut words, dice);
+    }
+    let mut line = words.join(" ").into_bytes();
+    line.push(b'\n');
+    if spoil_line {
+        spoil_whole_line(&mut line, dice);
+    }
+    let mut input = line;
+    if dice.chance(99) {
+        input.extend(text);
+    }
+    input
+}
+
+/// Zeros in front of some words, up to so many digits.
+fn zeros_in_front(words: &mut [String], digits: usize, dice: &mut Dice) {
+    for word in words {
+        if dice.chance(50) {
+            *word = format!("{word:0>width$}", width = dice.from_to(1, digits as u64) as usize);
+        }
+    }
+}
+
+fn spoil_one_word(words: &mut [String], dice: &mut Dice) {
+    if words.is_empty() {
+        return;
+    }
+    let at = dice.index(words.len());
+    let word = words[at].clone();
+    words[at] = match dice.below(9) {
+        0 => format!("{word:0>8}"),
+        1 => format!("{word:0>7}"),
+        2 => format!("-{word}"),
+        3 => format!("+{word}"),
+        4 => format!("{word}x"),
+        5 => String::new(),
+        6 => "12345678".into(),
+        7 => "10000000000000000000000".into(),
+        _ => format!("{word}."),
+    };
+}
+
+fn spoil_whole_line(line: &mut Vec<u8>, dice: &mut Dice) {
+    match dice.below(11) {
+        // Longer than any good line, and than any floor text.
+        10 => {
+            line.splice(0..0, vec![b'0'; dice.pick(&[60, 6_000])]);
+        }
+        0 => line.insert(0, b' '),
+        1 => line.insert(line.len() - 1, b' '),
+        2 => line.insert(line.len() - 1, b'\r'),
+        3 => {
+            if let Some(space) = line.iter().position(|&byte| byte == b' ') {
+                line.insert(space, dice.pick(b" \t"));
+            }
+        }
+        4 => {
+            if let Some(space) = line.iter().position(|&byte| byte == b' ') {
+                line[space] = b'\t';
+            }
+        }
+        5 => line.clear(),
+        6 => {
+            line.pop();
+        }
+        7 => *line = b"\n".to_vec(),
+        8 => {
+            let place = dice.index(line.len());
+            line[place] = dice.byte();
+        }
+        _ => line.insert(0, b'\n'),
+    }
+}

@@ -1,0 +1,346 @@
+//! Inputs of the program `calls`: every call good, spoiled in up to three arguments, or malformed as text.
+
+use super::dice::Dice;
+use super::drafts::{Draft, List, Scalar};
+use super::files;
+use super::floors;
+use super::jobs::{self, Kit, TableKind};
+use super::states;
+use super::texts;
+use super::winding;
+use crate::calls::{BYTE_ROOM, CELL_ROOM, MOST_INPUT, MOVE_ROOM, REPORT_ROOM};
+use crate::lookahead::MOST_MOVES;
+
+pub fn input(dice: &mut Dice) -> Vec<u8> {
+    let call = 1 + dice.weighted(&[9, 40, 11, 12, 8, 7, 9, 2, 3, 2]) as u64;
+    let long = match call {
+        2 => dice.chance(50),
+        3 | 4 => dice.chance(70),
+        _ => false,
+    };
+    let mut kit = if long { jobs::long_kit(dice) } else { jobs::kit(dice) };
+    let mut draft = match call {
+        1 => open(&kit),
+        2 => decision(&mut kit, dice),
+        3 => trial(&kit, dice),
+        4 => run(&kit, dice),
+        5 => read_floor_text(&kit, dice),
+        6 => write_table_file(&mut kit, dice),
+        7 => read_table_file(&kit, dice),
+        8 | 9 => records_or_trailer(&kit, call, dice),
+        _ => opening_table(&kit, dice),
+    };
+    // Several faults at once show the order in which they are judged.
+    let weights = if long { [80, 12, 5, 3] } else { [55, 27, 11, 7] };
+    for _ in 0..[0, 1, 2, 3][dice.weighted(&weights)] {
+        draft.spoil(&kit, dice);
+    }
+    let words = draft.words();
+    if dice.chance(6) {
+        malformed(&draft, words, dice)
+    } else {
+        text(&words, dice)
+    }
+}
+
+/// Words between blanks; mostly single spaces, sometimes any blanks and zeros in front.
+fn text(words: &[String], dice: &mut Dice) -> Vec<u8> {
+    let blanks: &[&str] = match dice.below(10) {
+        0 => &[" ", "\n", "  ", " \n", "\n\n   "],
+        1 => &["\n"],
+        _ => &[" "],
+    };
+    let zeros = dice.chance(3);
+    let mut text = String::new();
+    if dice.chance(5) {
+        text.push_str(blanks[0]);
+    }
+    for (index, word) in words.iter().enumerate() {
+        if index > 0 {
+            text.push_str(dice.pick(blanks));
+        }
+        if zeros && dice.chance(20) {
+            text.push_str("00");
+        }
+        text.push_str(word);
+    }
+    text.push_str(dice.pick(&["\n", "\n", "\n", "", " ", "\n\n"]));
+    text.into_bytes()
+}
+
+/// Something that isn't the call's shape, or just still is.
+fn malformed(draft: &Draft, mut words: Vec<String>, dice: &mut Dice) -> Vec<u8> {
+    let at = dice.index(words.len());
+    let lengths = draft.length_places();
+    let length_at = lengths[dice.index(lengths.len())];
+    match dice.below(22) {
+        0 => {
+            words.pop();
+        }
+        1 => words.push("0".into()),
+        2 => {
+            words.remove(at);
+        }
+        3 => words.insert(at, "1".into()),
+        4 => {
+            words[at] = dice
+                .pick(&[
+                    "4294967296",
+                    "4294967295",
+                    "04294967295",
+                    "18446744073709551616",
+                    "99999999999999999999999",
+                ])
+                .into();
+        }
+        // Entries that their lists' types can't hold, or just can.
+        5 | 6 | 17 => {
+            let which = dice.index(lengths.len());
+            let (name, entries) = &draft.lists[which];
+            if !entries.is_empty() {
+                let choices: &[&str] = match name {
+                    List::Path => &["65536", "65535", "4294967295"],
+                    List::Table | List::Reports => &["4294967296", "4294967295"],
+                    _ => &["256", "255", "65536", "4294967295"],
+                };
+                words[lengths[which] + 1 + dice.index(entries.len())] = dice.pick(choices).into();
+            }
+        }
+        // Lists as long as the room, or longer.
+        7 | 8 | 18..=21 => {
+            let which = dice.index(lengths.len());
+            let (name, entries) = &draft.lists[which];
+            let (room, width) = match name {
+                List::Moves => (MOVE_ROOM, 1),
+                List::Reports => (REPORT_ROOM, 4),
+                List::Text | List::File | List::FileBuffer => (BYTE_ROOM, 1),
+                // CALLS.md doesn't say how much room this buffer has, only that it's bytes: too long by any reading.
+                List::FloorBuffer => (BYTE_ROOM + 1, 1),
+                List::Floor | List::Table | List::Path => (CELL_ROOM, 1),
+            };
+            let new = (room + dice.index(2)) * width;
+            let end = lengths[which] + 1 + entries.len();
+            let more = vec![String::from("0"); new.saturating_sub(entries.len())];
+            words.splice(end..end, more);
+            words[lengths[which]] = (new / width).to_string();
+        }
+        9 => words[length_at] = "4294967295".into(),
+        10 => words[0] = dice.pick(&["0", "11", "4294967295", "256", "257", "x"]).into(),
+        11 => {
+            return dice
+                .pick::<&[u8]>(&[b"", b" ", b"\n", b"\n\n", b"7", b"malformed\n", b"8 0", b"9 0\n"])
+                .to_vec()
+        }
+        12 | 13 => {
+            let mut text = text(&words, dice);
+            let place = dice.index(text.len() + 1);
+            let any = dice.byte();
+            text.insert(place, dice.pick(&[b'\t', b'\r', b'-', b'+', b'.', b',', b'x', 0, 0xFF, 0x0B, any]));
+            return text;
+        }
+        14 => {
+            let mut text = text(&words, dice);
+            let length = dice.index(text.len() + 1);
+            text.truncate(length);
+            return text;
+        }
+        15 => words[at].insert(0, '-'),
+        // Blanks up to the most bytes that are read, or one more.
+        _ => {
+            let mut text = text(&words, dice);
+            let length = dice.pick(&[MOST_INPUT, MOST_INPUT + 1, MOST_INPUT + 1_000]);
+            text.resize(length.max(text.len()), dice.pick(b" \n"));
+            return text;
+        }
+    }
+    text(&words, dice)
+}
+
+fn bytes_as_entries(bytes: &[u8]) -> Vec<u64> {
+    bytes.iter().map(|&byte| u64::from(byte)).collect()
+}
+
+/// Entries that nobody should touch or look at.
+fn junk(length: usize, bound: u64, dice: &mut Dice) -> Vec<u64> {
+    let fixed = dice.chance(50).then(|| dice.below(bound));
+    (0..length).map(|_| fixed.unwrap_or_else(|| dice.below(bound))).collect()
+}
+
+fn job_scalars(kit: &Kit) -> Vec<(Scalar, u64)> {
+    vec![
+        (Scalar::Width, kit.width as u64),
+        (Scalar::Height, kit.height as u64),
+        (Scalar::Start, kit.start as u64),
+        (Scalar::Goal, kit.goal as u64),
+        (Scalar::Depth, kit.depth),
+        (Scalar::P, kit.p),
+        (Scalar::Q, kit.q),
+        (Scalar::Quota, kit.quota),
+    ]
+}
+
+fn table_call_scalars(kit: &Kit) -> Vec<(Scalar, u64)> {
+    vec![
+        (Scalar::Width, kit.width as u64),
+        (Scalar::Height, kit.height as u64),
+        (Scalar::Goal, kit.goal as u64),
+        (Scalar::Q, kit.q),
+    ]
+}
+
+fn floor_list(kit: &Kit) -> (List, Vec<u64>) {
+    (List::Floor, bytes_as_entries(&kit.floor))
+}
+
+fn table_list(kit: &Kit) -> (List, Vec<u64>) {
+    (List::Table, kit.table.iter().map(|&figure| u64::from(figure)).collect())
+}
+
+/// A path list with room to spare now and then, and old entries all over.
+fn path_list(kit: &Kit, dice: &mut Dice) -> Vec<u64> {
+    let more = if dice.chance(25) { dice.index(65) } else { 0 };
+    junk(kit.cells() + more, dice.pick_bound(kit), dice)
+}
+
+impl Dice {
+    /// Junk cells are sometimes cells of the floor and sometimes anything.
+    fn pick_bound(&mut self, kit: &Kit) -> u64 {
+        self.pick(&[kit.cells() as u64, 65_536])
+    }
+}
+
+fn open(kit: &Kit) -> Draft {
+    Draft { call: 1, scalars: job_scalars(kit), lists: vec![floor_list(kit), table_list(kit)] }
+}
+
+fn trial(kit: &Kit, dice: &mut Dice) -> Draft {
+    let path = path_list(kit, dice);
+    Draft {
+        call: 3,
+        scalars: job_scalars(kit),
+        lists: vec![floor_list(kit), table_list(kit), (List::Path, path)],
+    }
+}
+
+fn run(kit: &Kit, dice: &mut Dice) -> Draft {
+    let mut scalars = job_scalars(kit);
+    scalars.push((Scalar::Trials, kit.trials));
+    let more = match dice.below(40) {
+        0 => REPORT_ROOM as u64 - kit.trials,
+        1..=20 => dice.below(4),
+        _ => 0,
+    };
+    let reports = junk(4 * (kit.trials + more) as usize, 100, dice);
+    let path = path_list(kit, dice);
+    let lists = vec![floor_list(kit), table_list(kit), (List::Path, path), (List::Reports, reports)];
+    Draft { call: 4, scalars, lists }
+}
+
+fn read_floor_text(kit: &Kit, dice: &mut Dice) -> Draft {
+    let text = texts::text(&kit.floor, kit.width, kit.height, dice);
+    let more = if dice.chance(50) { dice.index(65) } else { 0 };
+    let buffer = junk(kit.cells() + more, 256, dice);
+    Draft {
+        call: 5,
+        scalars: vec![],
+        lists: vec![(List::Text, bytes_as_entries(&text)), (List::FloorBuffer, buffer)],
+    }
+}
+
+fn write_table_file(kit: &mut Kit, dice: &mut Dice) -> Draft {
+    // Mostly tables that can be written: blocked cells at their opening figures, free ones not below.
+    if dice.chance(60) {
+        let kind = dice.pick(&[TableKind::Opening, TableKind::Learned, TableKind::NearCeiling]);
+        kit.set_table(kind, dice);
+        for cell in kit.blocked_cells() {
+            kit.table[cell] = kit.opening_figure(cell);
+        }
+    }
+    if dice.chance(10) {
+        // One figure that can't be written, or just can.
+        let cell = dice.index(kit.cells());
+        let opening = kit.opening_figure(cell);
+        kit.table[cell] = dice.pick(&[opening.saturating_sub(1), opening + 1]);
+    }
+    let records = (0..kit.cells()).filter(|&cell| kit.table[cell] != kit.opening_figure(cell)).count();
+    let more = if dice.chance(60) { dice.index(40) } else { 0 };
+    let fewer = usize::from(dice.chance(10));
+    let buffer = junk(16 + 6 * records + more * (1 - fewer) - fewer, 256, dice);
+    let lists = vec![floor_list(kit), table_list(kit), (List::FileBuffer, buffer)];
+    Draft { call: 6, scalars: table_call_scalars(kit), lists }
+}
+
+fn read_table_file(kit: &Kit, dice: &mut Dice) -> Draft {
+    let mut file = files::Draft::new(kit, dice);
+    // The general spoiling seldom hits the file, so some are spoiled here.
+    if dice.chance(30) {
+        file.spoil_record(kit, dice);
+    }
+    if dice.chance(15) {
+        file.spoil_trailer(kit, dice);
+    }
+    let table = junk(kit.cells(), dice.pick_bound(kit), dice);
+    let lists = vec![floor_list(kit), (List::File, bytes_as_entries(&file.bytes())), (List::Table, table)];
+    Draft { call: 7, scalars: table_call_scalars(kit), lists }
+}
+
+fn records_or_trailer(kit: &Kit, call: u64, dice: &mut Dice) -> Draft {
+    let mut file = files::Draft::new(kit, dice);
+    if dice.chance(15) {
+        file.spoil_trailer(kit, dice);
+    }
+    Draft { call, scalars: vec![], lists: vec![(List::File, bytes_as_entries(&file.bytes()))] }
+}
+
+fn opening_table(kit: &Kit, dice: &mut Dice) -> Draft {
+    let table = junk(kit.cells(), dice.pick_bound(kit), dice);
+    Draft { call: 10, scalars: table_call_scalars(kit), lists: vec![floor_list(kit), (List::Table, table)] }
+}
+
+fn decision(kit: &mut Kit, dice: &mut Dice) -> Draft {
+    let mut path: Vec<u16> = path_list(kit, dice).iter().map(|&entry| entry as u16).collect();
+    let state = match dice.weighted(&[58, 15, 5, 7, 15]) {
+        0 => states::middle_of_a_trial(kit, &mut path, dice),
+        1 => states::made_up_state(kit, &mut path, dice),
+        2 => {
+            kit.set_table(TableKind::NearCeiling, dice);
+            states::made_up_state(kit, &mut path, dice)
+        }
+        3 => {
+            // Pockets closed in on all sides, and a lookahead deeper than they are.
+            let (width, height) = floors::sizes(dice);
+            let floor = (0..width * height).map(|_| u8::from(dice.chance(60))).collect();
+            *kit = jobs::kit_on(floor, width, height, dice);
+            kit.depth = dice.from_to(1, 8);
+            path = path_list(kit, dice).iter().map(|&entry| entry as u16).collect();
+            states::made_up_state(kit, &mut path, dice)
+        }
+        _ => {
+            let (winding_kit, state, last) = winding::kit_and_state(dice);
+            *kit = winding_kit;
+            path = path_list(kit, dice).iter().map(|&entry| entry as u16).collect();
+            path[0] = last.unwrap_or(path[0]);
+            state
+        }
+    };
+    let from = if dice.chance(60) { 0 } else { dice.index(300) };
+    let more = if dice.chance(50) { dice.index(100) } else { 0 };
+    let length = if dice.chance(4) { MOVE_ROOM } else { from + MOST_MOVES + more };
+    let moves = junk(length, 256, dice);
+    let scalars = vec![
+        (Scalar::Width, kit.width as u64),
+        (Scalar::Height, kit.height as u64),
+        (Scalar::Current, state.current),
+        (Scalar::U, state.u),
+        (Scalar::Length, state.length),
+        (Scalar::Goal, kit.goal as u64),
+        (Scalar::Depth, kit.depth),
+        (Scalar::P, kit.p),
+        (Scalar::Q, kit.q),
+        (Scalar::Quota, kit.quota),
+        (Scalar::From, from as u64),
+    ];
+    let path = path.iter().map(|&cell| u64::from(cell)).collect();
+    let lists = vec![floor_list(kit), table_list(kit), (List::Path, path), (List::Moves, moves)];
+    Draft { call: 2, scalars, lists }
+}

@@ -1,0 +1,170 @@
+//! Table files, good and spoiled: older bytes ahead, every fault of the trailer, every fault of a record.
+
+use super::dice::Dice;
+use super::jobs::Kit;
+use crate::checks::CEILING;
+
+/// A file by its parts, so that each can be made faulty by itself.
+pub struct Draft {
+    older: Vec<u8>,
+    records: Vec<(u16, u32)>,
+    width: u8,
+    height: u8,
+    goal: u16,
+    q: u8,
+    edition: u8,
+    count: u16,
+    back: u32,
+    letters: [u8; 4],
+    /// How many bytes of the whole are left out, at the end or at the front.
+    cut_end: usize,
+    cut_front: usize,
+}
+
+impl Draft {
+    /// A good file of a job: some of its cells at figures above their opening figures.
+    pub fn new(kit: &Kit, dice: &mut Dice) -> Draft {
+        let from_table = dice.chance(50);
+        let percent = dice.pick(&[0, 5, 30, 100]);
+        let mut records = Vec::new();
+        for cell in kit.free_cells() {
+            let opening = kit.opening_figure(cell);
+            let figure = match (from_table, dice.chance(percent)) {
+                (true, _) => kit.table[cell],
+                (false, true) => dice.from_to(u64::from(opening) + 1, u64::from(opening) + 60) as u32,
+                (false, false) => opening,
+            };
+            if figure > opening && figure <= CEILING {
+                records.push((cell as u16, figure));
+            }
+        }
+        let older_length = if dice.chance(40) { dice.from_to(1, 40) } else { 0 };
+        let older = (0..older_length).map(|_| dice.byte()).collect();
+        let mut draft = Draft {
+            older,
+            records,
+            width: kit.width as u8,
+            height: kit.height as u8,
+            goal: kit.goal as u16,
+            q: kit.q as u8,
+            edition: 1,
+            count: 0,
+            back: 0,
+            letters: *b"PDLT",
+            cut_end: 0,
+            cut_front: 0,
+        };
+        draft.recount();
+        draft
+    }
+
+    /// Sets count and back by the records.
+    fn recount(&mut self) {
+        self.count = self.records.len() as u16;
+        self.back = 16 + 6 * self.records.len() as u32;
+    }
+
+    pub fn bytes(&self) -> Vec<u8> {
+        let mut bytes = self.older.clone();
+        for (cell, figure) in &self.records {
+            bytes.extend(cell.to_be_bytes());
+            bytes.extend(figure.to_be_bytes());
+        }
+        bytes.extend([self.width, self.height]);
+        bytes.extend(self.goal.to_be_bytes());
+        bytes.extend([self.q, self.edition]);
+        bytes.extend(self.count.to_be_bytes());
+        bytes.extend(self.back.to_be_bytes());
+        bytes.extend(self.letters);
+        bytes.truncate(bytes.len().saturating_sub(self.cut_end));
+        bytes.drain(..self.cut_front.min(bytes.len()));
+        bytes
+    }
+
+    /// Spoils the trailer or the file's length.
+    pub fn spoil_trailer(&mut self, kit: &Kit, dice: &mut Dice) {
+        match dice.below(13) {
+            0 => self.letters[dice.index(4)] ^= dice.pick(&[0x20, 1, 0xFF]),
+            1 => self.edition = dice.pick(&[0, 2, 255]),
+            2 => {
+                self.back = dice.pick(&[
+                    self.back.wrapping_add(1),
+                    self.back.wrapping_sub(1),
+                    0,
+                    16,
+                    self.back ^ 6,
+                    u32::MAX,
+                ])
+            }
+            3 => self.count = dice.pick(&[self.count.wrapping_add(1), self.count.wrapping_sub(1), u16::MAX]),
+            4 => {
+                // Count and back agree, and point before the file's start or into older material.
+                self.count = self.count.wrapping_add(dice.pick(&[1, 2, 7, 1000]));
+                self.back = 16 + 6 * u32::from(self.count);
+                if dice.chance(70) {
+                    self.older.clear();
+                }
+            }
+            5 => {
+                // One record fewer is told than there is: the first becomes older material.
+                self.count = self.count.saturating_sub(1);
+                self.back = 16 + 6 * u32::from(self.count);
+            }
+            6 => self.width = dice.pick(&[0, self.width.wrapping_add(1), self.height, 65, 255]),
+            7 => self.height = dice.pick(&[0, self.height.wrapping_add(1), self.width, 65, 255]),
+            8 => {
+                self.goal =
+                    dice.pick(&[self.goal ^ 1, 0, kit.cells() as u16, self.goal.swap_bytes(), u16::MAX])
+            }
+            9 => self.q = dice.pick(&[0, self.q.wrapping_add(1), 16, 17, 255]),
+            10 => self.cut_end = dice.from_to(1, 17) as usize,
+            11 => self.cut_front = self.older.len() + 6 * self.records.len() + dice.index(17),
+            _ => self.cut_front = self.older.len() + dice.from_to(1, 6) as usize,
+        }
+    }
+
+    /// Spoils one record in one way, or in two.
+    pub fn spoil_record(&mut self, kit: &Kit, dice: &mut Dice) {
+        if self.records.is_empty() {
+            let cell = dice.index(kit.cells());
+            self.records.push((cell as u16, kit.opening_figure(cell) + dice.below(2) as u32));
+            self.recount();
+            return;
+        }
+        let at = dice.index(self.records.len());
+        for _ in 0..dice.pick(&[1, 1, 1, 2]) {
+            let opening = kit.opening_figure(usize::from(self.records[at].0) % kit.cells());
+            let random = dice.roll() as u32;
+            match dice.below(10) {
+                0 => {
+                    let cells = kit.cells() as u16;
+                    self.records[at].0 =
+                        dice.pick(&[cells, cells + 1, u16::MAX, 256 + self.records[at].0 % 256]);
+                }
+                1 => {
+                    let blocked = kit.blocked_cells();
+                    if !blocked.is_empty() {
+                        // In its rising place, so that being blocked is the only fault.
+                        let cell = dice.pick(&blocked) as u16;
+                        self.records.push((cell, kit.opening_figure(usize::from(cell)) + 1));
+                        self.records.sort_unstable();
+                        self.recount();
+                    }
+                }
+                2 => {
+                    let other = dice.index(self.records.len());
+                    self.records.swap(at, other);
+                }
+                3 => {
+                    let again = self.records[at];
+                    self.records.insert(at, again);
+                    self.recount();
+                }
+                4 => self.records[at].1 = dice.pick(&[opening, opening, opening.saturating_sub(1), 0]),
+                5 | 8 | 9 => self.records[at].1 = dice.pick(&[CEILING, CEILING + 1, CEILING + 1, u32::MAX]),
+                6 => self.records[at].1 = dice.pick(&[opening + 1, random]),
+                _ => self.records[at].0 = self.records[0].0,
+            }
+        }
+    }
+}

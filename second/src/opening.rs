@@ -1,0 +1,137 @@
+//! Opening a job: the opening figures, the true distances, and the checks 1 to 7.
+
+use crate::checks::{self, Job};
+use crate::floor::{Floor, MOVE_COST};
+use crate::refusal::Refusal;
+
+/// The distance of a cell from which no walk leads to the goal.
+pub const NO_WAY: u32 = u32::MAX;
+
+/// The opening figure of a cell, blocked or free.
+pub fn opening_figure(width: usize, cell: usize, goal: usize, q: u32) -> u32 {
+    let dx = (cell % width).abs_diff(goal % width) as u32;
+    let dy = (cell / width).abs_diff(goal / width) as u32;
+    q * (14 * dx.min(dy) + 10 * dx.abs_diff(dy))
+}
+
+/// The opening figures of all cells, into a table as long as the floor.
+pub fn fill(width: usize, goal: usize, q: u32, table: &mut [u32]) {
+    for (cell, figure) in table.iter_mut().enumerate() {
+        *figure = opening_figure(width, cell, goal, q);
+    }
+}
+
+/// The public call that fills a table with opening figures; judges 1, 3 and 4.
+pub fn opening_table(
+    width: u64,
+    height: u64,
+    goal: u64,
+    q: u64,
+    floor: &[u8],
+    table: &mut [u32],
+) -> Result<(), Refusal> {
+    checks::sizes(width, height, floor, table)?;
+    checks::q_alone(q)?;
+    let goal = checks::free_cell(floor, goal)?;
+    fill(width as usize, goal, q as u32, table);
+    Ok(())
+}
+
+/// The true distance of every cell, by Dijkstra from the goal; `NO_WAY` where there is none.
+pub fn distances(floor: &Floor, goal: usize) -> Vec<u32> {
+    let mut distance = vec![NO_WAY; floor.cells()];
+    // A move costs at most 14, so all waiting cells lie within 14 of the cost in hand and 16 buckets used in turn do.
+    let mut buckets: [Vec<u16>; 16] = Default::default();
+    let mut waiting = 1usize;
+    let mut cost = 0u32;
+    distance[goal] = 0;
+    buckets[0].push(goal as u16);
+    while waiting > 0 {
+        let bucket = cost as usize % 16;
+        let mut cells = std::mem::take(&mut buckets[bucket]);
+        waiting -= cells.len();
+        for x in cells.drain(..) {
+            let x = x as usize;
+            if distance[x] != cost {
+                continue; // it was reached more cheaply since it was put here
+            }
+            let mut exits = floor.exits(x);
+            while exits != 0 {
+                let way = exits.trailing_zeros() as usize;
+                exits &= exits - 1;
+                // Moves between free cells go both ways at one cost, so walking from the goal measures walks to it.
+                let y = floor.after(x, way);
+                let new = cost + MOVE_COST[way];
+                if new < distance[y] {
+                    distance[y] = new;
+                    buckets[new as usize % 16].push(y as u16);
+                    waiting += 1;
+                }
+            }
+        }
+        buckets[bucket] = cells; // handed back for its room
+        cost += 1;
+    }
+    distance
+}
+
+/// 6 and 7: a walk from start to goal exists, and no cell that can reach the goal is above its true figure.
+fn judge_ways(floor: &Floor, start: usize, goal: usize, q: u32, table: &[u32]) -> Result<(), Refusal> {
+    let distance = distances(floor, goal);
+    if distance[start] == NO_WAY {
+        return Err(Refusal::plain(6));
+    }
+    let above = (0..table.len()).find(|&cell| distance[cell] != NO_WAY && table[cell] > q * distance[cell]);
+    match above {
+        Some(cell) => Err(Refusal::at_cell(7, cell)),
+        None => Ok(()),
+    }
+}
+
+/// A job that has been accepted: its numbers are in range and its ways are known to exist.
+pub struct Opened {
+    pub floor: Floor,
+    pub start: usize,
+    pub goal: usize,
+    pub depth: usize,
+    pub p: u32,
+    pub q: u32,
+    pub quota: u64,
+}
+
+/// Judges 1 to 7 in order. `lists` is the caller's number 2 (path list, reports), `trials` its own part of 3.
+pub fn open_with(
+    job: &Job,
+    start: u64,
+    table: &[u32],
+    lists: impl FnOnce(usize) -> bool,
+    trials: Option<u64>,
+) -> Result<Opened, Refusal> {
+    let cells = checks::sizes(job.width, job.height, job.floor, table)?;
+    if !lists(cells) {
+        return Err(Refusal::plain(2));
+    }
+    checks::settings(job.depth, job.p, job.q, job.quota)?;
+    if let Some(trials) = trials {
+        checks::trials(trials)?;
+    }
+    let start = checks::free_cell(job.floor, start)?;
+    let goal = checks::free_cell(job.floor, job.goal)?;
+    checks::ceiling(table)?;
+    let floor = Floor::new(job.width as usize, job.height as usize, job.floor);
+    judge_ways(&floor, start, goal, job.q as u32, table)?;
+    Ok(Opened {
+        floor,
+        start,
+        goal,
+        depth: job.depth as usize,
+        p: job.p as u32,
+        q: job.q as u32,
+        quota: job.quota,
+    })
+}
+
+/// The public call that opens a job. It takes no lists but floor and table.
+pub fn open(job: &Job, start: u64, table: &[u32]) -> Result<Opened, Refusal> {
+    open_with(job, start, table, |_| true, None)
+}

@@ -1,0 +1,142 @@
+//! The self-check of demand 3: its promises of figures, decisions, kept cost and travel, tried on random jobs.
+
+use crate::checks::Job;
+use crate::decision::{decide, Answer, State};
+use crate::lookahead::MOST_MOVES;
+use crate::make::dice::Dice;
+use crate::make::jobs::{self, Kit};
+use crate::opening;
+use crate::table_file;
+use crate::trial::{Cart, Counts};
+
+/// A trial that takes longer than this in a self-check is passed over; it says nothing against the promise.
+const MOST_DECISIONS: u64 = 20_000;
+
+/// Tries the seeds; answers how many jobs were accepted, or what went wrong first.
+pub fn check_seeds(from: u64, count: u64) -> Result<u64, String> {
+    let mut accepted = 0;
+    for seed in from..from.saturating_add(count) {
+        let mut dice = Dice::new(seed);
+        let kit = if seed % 2 == 0 { jobs::long_kit(&mut dice) } else { jobs::kit(&mut dice) };
+        if opening::open(&kit.job(), kit.start as u64, &kit.table).is_ok() {
+            accepted += 1;
+            check_job(&kit).map_err(|fault| format!("seed {seed}: {fault}"))?;
+        }
+    }
+    Ok(accepted)
+}
+
+fn holds(promise: bool, words: &str) -> Result<(), String> {
+    if promise {
+        Ok(())
+    } else {
+        Err(words.into())
+    }
+}
+
+/// Runs an accepted job trial by trial and decision by decision, and tries each promise.
+pub fn check_job(kit: &Kit) -> Result<(), String> {
+    let job = kit.job();
+    let mut table = kit.table.clone();
+    let mut path = vec![0u16; kit.cells()];
+    check_file(kit, &table)?;
+    for _ in 0..kit.trials.min(20) {
+        let Some(counts) = check_trial(kit, &job, &mut table, &mut path)? else { break };
+        check_file(kit, &table)?;
+        if counts.learned == 0 {
+            break;
+        }
+    }
+    Ok(())
+}
+
+/// One trial; none when it was too long for a self-check.
+fn check_trial(kit: &Kit, job: &Job, table: &mut [u32], path: &mut [u16]) -> Result<Option<Counts>, String> {
+    let reaching: Vec<(usize, u32)> =
+        (0..kit.cells()).filter_map(|cell| Some((cell, kit.true_figure(cell)?))).collect();
+    let largest = reaching.iter().map(|&(_, figure)| u64::from(figure)).max().unwrap_or(0);
+    let k = u128::from(1 + largest / (10 * kit.p));
+    let r: u128 = reaching.iter().map(|&(cell, figure)| u128::from(figure - table[cell])).sum();
+
+    // The trial once as a whole, and once decision by decision, which must be the same.
+    let opened =
+        opening::open(job, kit.start as u64, table).map_err(|refusal| format!("refused: {refusal:?}"))?;
+    let (mut whole_table, mut whole_path, mut whole_moves) = (table.to_vec(), path.to_vec(), Vec::new());
+    let whole =
+        Cart::new(opened).trial(&mut whole_table, &mut whole_path, Some(&mut whole_moves), MOST_DECISIONS);
+    let Some(whole) = whole else { return Ok(None) };
+
+    let mut counts = Counts::default();
+    let mut all_moves = Vec::new();
+    let mut state = State { current: kit.start as u64, u: 0, length: 0 };
+    loop {
+        let current = state.current as usize;
+        let mut before = table.to_vec();
+        let mut moves = [0u8; MOST_MOVES];
+        let (rise, count) = match decide(job, &mut state, table, path, &mut moves, 0) {
+            Answer::Arrived => break,
+            Answer::Forward { rise, moves, .. } | Answer::BackedOut { rise, moves, .. } => (rise, moves),
+            Answer::Stayed { rise } => (rise, 0),
+            Answer::Refused(refusal) => return Err(format!("a decision was refused: {refusal:?}")),
+        };
+        counts.decisions += 1;
+        counts.learned += u64::from(rise);
+        counts.travel += moves[..count].iter().map(|way| if way % 2 == 0 { 10 } else { 14 }).sum::<u64>();
+        all_moves.extend_from_slice(&moves[..count]);
+        holds(u128::from(counts.decisions) < k * (r + 1), "too many decisions")?;
+        holds(table[current] >= before[current], "a figure fell")?;
+        before[current] = table[current];
+        holds(table == before, "another cell's figure changed")?;
+        let truth = kit.true_figure(current).ok_or("the cart stands where no way leads from")?;
+        holds(table[current] <= truth, "a figure passed the true one")?;
+    }
+    counts.kept = whole.kept;
+    holds(counts == whole, "a trial's counts aren't those of its decisions")?;
+    holds(table == whole_table, "a trial's table isn't that of its decisions")?;
+    holds(path == whole_path, "a trial's path isn't that of its decisions")?;
+    holds(all_moves == whole_moves, "a trial's moves aren't those of its decisions")?;
+    let walked = walk(kit, &all_moves).ok_or("a move isn't allowed")?;
+    holds(walked == kit.goal, "the moves don't lead to the goal")?;
+
+    let distance = u64::from(kit.distance[kit.start]);
+    holds(kit.p * counts.kept <= kit.q * (distance + kit.quota), "the kept way costs too much")?;
+    holds(counts.kept >= distance || kit.start == kit.goal, "the kept way is cheaper than any way")?;
+    holds(
+        counts.learned > 0 || kit.p * counts.travel <= kit.q * distance,
+        "a trial that learned nothing travels too far",
+    )?;
+    Ok(Some(counts))
+}
+
+/// Where the moves lead from the start; none when one isn't allowed.
+fn walk(kit: &Kit, moves: &[u8]) -> Option<usize> {
+    let (mut x, mut y) = ((kit.start % kit.width) as i64, (kit.start / kit.width) as i64);
+    for way in moves {
+        x += [0, 1, 1, 1, 0, -1, -1, -1][usize::from(*way)];
+        y += [-1, -1, 0, 1, 1, 1, 0, -1][usize::from(*way)];
+        let on_floor = x >= 0 && y >= 0 && x < kit.width as i64 && y < kit.height as i64;
+        if !on_floor || kit.floor[y as usize * kit.width + x as usize] != 0 {
+            return None;
+        }
+    }
+    Some(y as usize * kit.width + x as usize)
+}
+
+/// A table that can be written reads back the same and writes the same bytes again, also behind older material.
+fn check_file(kit: &Kit, table: &[u32]) -> Result<(), String> {
+    let (width, height, goal) = (kit.width as u64, kit.height as u64, kit.goal as u64);
+    let mut file = vec![0xAA; 16 + 6 * kit.cells() + 3];
+    let Ok(length) = table_file::write(width, height, goal, kit.q, &kit.floor, table, &mut file) else {
+        return Ok(());
+    };
+    holds(file[length..].iter().all(|&byte| byte == 0xAA), "the writer touched bytes beyond its length")?;
+    let mut with_older = b"older".to_vec();
+    with_older.extend_from_slice(&file[..length]);
+    let mut again = vec![7u32; kit.cells()];
+    table_file::read(width, height, goal, kit.q, &kit.floor, &with_older, &mut again)
+        .map_err(|refusal| format!("a written table is refused: {refusal:?}"))?;
+    holds(again == table, "a written table reads back differently")?;
+    let mut file_again = vec![0u8; length];
+    let written = table_file::write(width, height, goal, kit.q, &kit.floor, &again, &mut file_again);
+    holds(written == Ok(length) && file_again == file[..length], "a read table writes other bytes")
+}

@@ -1,0 +1,53 @@
+//! The generator and the promises: every number occurs, nothing panics, and demand 3 holds on random jobs.
+
+use second::compare::Tally;
+use second::make::dice::Dice;
+use second::make::{input, program_of, Program};
+use second::{aisle, calls, promises};
+
+#[test]
+fn every_number_occurs() {
+    let mut tally = Tally::default();
+    for seed in 0..3_000 {
+        let program = program_of(seed);
+        let input = input(program, seed);
+        tally.add(program, &input, &program.answer(&input));
+    }
+    assert_eq!(tally.missing(), Vec::<usize>::new());
+}
+
+#[test]
+fn a_seed_always_gives_the_same_input() {
+    for seed in 0..50 {
+        for program in [Program::Aisle, Program::Calls] {
+            assert_eq!(input(program, seed), input(program, seed));
+        }
+    }
+}
+
+#[test]
+fn no_input_is_too_strange() {
+    for seed in 0..3_000u64 {
+        let mut dice = Dice::new(seed);
+        let program = program_of(seed);
+        let mut bytes = input(program, seed);
+        for _ in 0..dice.from_to(1, 4) {
+            let at = dice.index(bytes.len() + 1);
+            let end = (at + dice.index(9)).min(bytes.len());
+            let new: Vec<u8> = (0..dice.below(9)).map(|_| dice.pick(b"0123456789 \n\r-.@G\0\xFF")).collect();
+            bytes.splice(at..end, new);
+        }
+        // Ending without a panic is all that is asked; a long job may be given up.
+        let _ = match program {
+            Program::Aisle => aisle::answer_within(&bytes, 5_000),
+            Program::Calls => calls::answer_within(&bytes, 5_000),
+        };
+    }
+}
+
+#[test]
+fn demand_3_holds_on_random_jobs() {
+    // More of them: `second promises`.
+    let accepted = promises::check_seeds(0, 500).unwrap();
+    assert!(accepted > 300);
+}

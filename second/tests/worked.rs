@@ -1,0 +1,250 @@
+//! Every case that document 01 works out, tried on the library and on both programs.
+
+use second::checks::Job;
+use second::decision::{decide, Answer, State};
+use second::floor::Floor;
+use second::opening::{distances, open, opening_figure, opening_table};
+use second::refusal::{Halt, Refusal};
+use second::trial::{run, trial, Counts, Ran};
+use second::{aisle, calls, table_file};
+
+/// The floor `...`, `@@.`, `...`.
+const FLOOR: [u8; 9] = [0, 0, 0, 1, 1, 0, 0, 0, 0];
+const START: u64 = 6;
+
+fn job(depth: u64, p: u64, q: u64, quota: u64) -> Job<'static> {
+    Job { width: 3, height: 3, goal: 0, depth, p, q, quota, floor: &FLOOR }
+}
+
+fn opening(q: u64) -> Vec<u32> {
+    let mut table = vec![0; 9];
+    opening_table(3, 3, 0, q, &FLOOR, &mut table).unwrap();
+    table
+}
+
+struct Walk {
+    state: State,
+    table: Vec<u32>,
+    path: Vec<u16>,
+    moves: Vec<u8>,
+}
+
+impl Walk {
+    fn new(q: u64) -> Walk {
+        let state = State { current: START, u: 0, length: 0 };
+        Walk { state, table: opening(q), path: vec![0; 9], moves: vec![9; 288] }
+    }
+
+    fn decide(&mut self, job: &Job) -> Answer {
+        decide(job, &mut self.state, &mut self.table, &mut self.path, &mut self.moves, 0)
+    }
+
+    /// How many decisions a trial makes until it has arrived.
+    fn decisions(&mut self, job: &Job) -> u64 {
+        let mut decisions = 0;
+        while self.decide(job) != Answer::Arrived {
+            decisions += 1;
+        }
+        decisions
+    }
+}
+
+#[test]
+fn true_distances() {
+    let distance = distances(&Floor::new(3, 3, &FLOOR), 0);
+    let worked = [(0, 0), (1, 10), (2, 20), (5, 24), (7, 38), (6, 48), (8, 34)];
+    assert!(worked.iter().all(|&(cell, expected)| distance[cell] == expected));
+}
+
+#[test]
+fn p1_opening_figures() {
+    assert_eq!([6, 7, 8].map(|cell| opening_figure(3, cell, 0, 1)), [20, 24, 28]);
+}
+
+#[test]
+fn p2_and_p3_first_decisions_at_depth_1() {
+    let job = job(1, 1, 1, 1_000);
+    let mut walk = Walk::new(1);
+    assert_eq!(walk.decide(&job), Answer::Forward { target: 7, rise: 14, moves: 1 });
+    assert_eq!(walk.table[6], 34);
+    assert_eq!(walk.state, State { current: 7, u: 14, length: 1 });
+    assert_eq!((walk.moves[0], walk.moves[1]), (2, 9));
+    // At 7 the cells 5 and 8 tie at 38.
+    assert_eq!((14 + walk.table[5], 10 + walk.table[8]), (38, 38));
+    assert_eq!(walk.decide(&job), Answer::Forward { target: 5, rise: 14, moves: 1 });
+}
+
+#[test]
+fn p4_quota_13_stays() {
+    let mut walk = Walk::new(1);
+    assert_eq!(walk.decide(&job(1, 1, 1, 13)), Answer::Stayed { rise: 14 });
+    assert_eq!(walk.table[6], 34);
+    assert_eq!(walk.state, State { current: 6, u: 0, length: 0 });
+}
+
+#[test]
+fn p5_quota_14_goes_forward() {
+    let mut walk = Walk::new(1);
+    assert_eq!(walk.decide(&job(1, 1, 1, 14)), Answer::Forward { target: 7, rise: 14, moves: 1 });
+    assert_eq!(walk.state.u, 14);
+}
+
+#[test]
+fn p6_quota_27_takes_7_decisions() {
+    assert_eq!(Walk::new(1).decisions(&job(1, 1, 1, 27)), 7);
+    let counts = trial(&job(1, 1, 1, 27), START, &mut opening(1), &mut [0; 9], u64::MAX).unwrap();
+    assert_eq!(counts.decisions, 7);
+}
+
+#[test]
+fn p7_quota_28_takes_4_decisions() {
+    assert_eq!(Walk::new(1).decisions(&job(1, 1, 1, 28)), 4);
+    let counts = trial(&job(1, 1, 1, 28), START, &mut opening(1), &mut [0; 9], u64::MAX);
+    assert_eq!(counts, Ok(Counts { decisions: 4, learned: 28, kept: 48, travel: 48 }));
+}
+
+#[test]
+fn p8_depth_2() {
+    let mut walk = Walk::new(1);
+    assert_eq!(walk.decide(&job(2, 1, 1, 1_000)), Answer::Forward { target: 5, rise: 28, moves: 2 });
+    assert_eq!(walk.table[6], 48);
+    assert_eq!(walk.moves[..3], [2, 1, 9]);
+}
+
+#[test]
+fn p9_weight_one_half() {
+    let mut walk = Walk::new(2);
+    assert_eq!(walk.table[6], 40);
+    walk.decide(&job(1, 1, 2, 1_000));
+    assert_eq!(walk.table[6], 58);
+}
+
+#[test]
+fn p10_and_p11_a_figure_above_the_truth() {
+    let mut table = opening(1);
+    table[7] = 39;
+    assert_eq!(open(&job(1, 1, 1, 0), START, &table).err(), Some(Refusal::at_cell(7, 7)));
+    table[7] = 38;
+    assert!(open(&job(1, 1, 1, 0), START, &table).is_ok());
+}
+
+#[test]
+fn p12_no_way() {
+    let floor = [0, 0, 0, 1, 1, 1, 0, 0, 0];
+    let job = Job { floor: &floor, ..job(1, 1, 1, 0) };
+    assert_eq!(open(&job, START, &opening(1)).err(), Some(Refusal::plain(6)));
+}
+
+#[test]
+fn number_9_in_a_closed_pocket() {
+    let job = Job { width: 3, height: 1, goal: 2, floor: &[0, 1, 0], ..job(1, 1, 1, 0) };
+    let mut state = State { current: 0, u: 0, length: 0 };
+    let (mut table, mut path, mut moves) = (vec![20, 10, 0], vec![5; 3], vec![9; 288]);
+    let answer = decide(&job, &mut state, &mut table, &mut path, &mut moves, 0);
+    assert_eq!(answer, Answer::Refused(Refusal::plain(9)));
+    assert_eq!((table, path, moves), (vec![20, 10, 0], vec![5; 3], vec![9; 288]));
+}
+
+#[test]
+fn number_10_above_the_ceiling() {
+    let job = Job { width: 4, height: 1, goal: 3, floor: &[0, 0, 1, 0], ..job(1, 1, 1, 0) };
+    let mut state = State { current: 0, u: 0, length: 0 };
+    let (mut table, mut path, mut moves) = (vec![917_280, 917_280, 10, 0], vec![5; 4], vec![9; 288]);
+    let answer = decide(&job, &mut state, &mut table, &mut path, &mut moves, 0);
+    assert_eq!(answer, Answer::Refused(Refusal::plain(10)));
+    assert_eq!(table, [917_280, 917_280, 10, 0]);
+}
+
+#[test]
+fn numbers_3_and_1() {
+    for (depth, p, q) in [(0, 1, 1), (9, 1, 1), (1, 2, 1)] {
+        assert_eq!(open(&job(depth, p, q, 0), START, &opening(1)).err(), Some(Refusal::plain(3)));
+    }
+    let wide = Job { width: 65, ..job(1, 1, 1, 0) };
+    assert_eq!(open(&wide, START, &opening(1)).err(), Some(Refusal::plain(1)));
+}
+
+#[test]
+fn the_run_and_its_table_file() {
+    let (mut table, mut path) = (opening(1), vec![0; 9]);
+    let mut reports = vec![Counts { decisions: 9, ..Counts::default() }; 10];
+    let ran = run(&job(1, 1, 1, 0), START, 10, &mut table, &mut path, &mut reports, u64::MAX);
+    assert_eq!(ran, Ok(Ran { trials: 2, settled: true }));
+    assert_eq!(reports[0], Counts { decisions: 8, learned: 42, kept: 48, travel: 68 });
+    assert_eq!(reports[1], Counts { decisions: 4, learned: 0, kept: 48, travel: 48 });
+    assert_eq!(reports[2].decisions, 9);
+
+    let mut file = vec![0xEE; 40];
+    let length = table_file::write(3, 3, 0, 1, &FLOOR, &table, &mut file);
+    let worked = [
+        0x00, 0x06, 0x00, 0x00, 0x00, 0x30, 0x00, 0x07, 0x00, 0x00, 0x00, 0x26, 0x03, 0x03, 0x00, 0x00, 0x01,
+        0x01, 0x00, 0x02, 0x00, 0x00, 0x00, 0x1C, 0x50, 0x44, 0x4C, 0x54,
+    ];
+    assert_eq!(length, Ok(28));
+    assert_eq!(file[..28], worked);
+    assert_eq!(file[28..], [0xEE; 12]);
+    assert_eq!(table_file::find_records(&file[..28]), &worked[..12]);
+    let mut again = vec![0; 9];
+    assert_eq!(table_file::read(3, 3, 0, 1, &FLOOR, &worked, &mut again), Ok(()));
+    assert_eq!(again, table);
+}
+
+const TEXT: &str = "type octile\nheight 3\nwidth 3\nmap\n...\n@@.\n...\n";
+
+fn aisle(line: &str) -> String {
+    String::from_utf8(aisle::answer(format!("{line}\n{TEXT}").as_bytes())).unwrap()
+}
+
+#[test]
+fn the_program_aisle() {
+    let worked = "262176 8 42 48 68\n2176 4 0 48 48\nsettled 2\n";
+    assert_eq!(aisle("6 0 1 1 1 0 10"), worked);
+    assert_eq!(aisle("0000006 00 1 1 1 000 10"), worked);
+    assert_eq!(aisle("6 6"), "- 0 0 0 0\nsettled 1\n");
+    assert_eq!(aisle("6 0 1 1 1 0 1"), "262176 8 42 48 68\nunsettled 1\n");
+    assert_eq!(aisle("6 0 1 1"), "refused 3\n");
+    assert_eq!(aisle("6  0"), "refused 3\n");
+    assert_eq!(aisle("6 00000000"), "refused 3\n");
+    assert_eq!(aisle("6 0 9"), "refused 3\n");
+    assert_eq!(aisle("6 3"), "refused 4\n");
+    assert_eq!(aisle("9 0"), "refused 4\n");
+    assert_eq!(aisle::answer(b"6 0"), b"refused 3\n");
+    assert_eq!(aisle::answer(b"6 0\n"), b"refused 11\n");
+    assert_eq!(aisle::answer(format!("6 3\n{TEXT}x").as_bytes()), b"refused 12 8\n");
+    assert_eq!(aisle::answer(format!("6 3\n{}", TEXT.replace("@@.", "@S.")).as_bytes()), b"refused 12 6\n");
+}
+
+fn call(input: &str) -> String {
+    String::from_utf8(calls::answer(input.as_bytes())).unwrap()
+}
+
+#[test]
+fn the_program_calls() {
+    let floor = "9 0 0 0 1 1 0 0 0 0";
+    let table = "9 0 10 20 10 14 24 20 24 28";
+    assert_eq!(call(&format!("1 3 3 6 0 1 1 1 0 {floor} {table}\n")), "0 0 0\n");
+    assert_eq!(call(&format!("1 3 3 6 0 1 1 1 0 {floor} 9 0 10 20 10 14 24 20 39 28")), "7 1 7\n");
+    assert_eq!(call(&format!("10 3 3 0 1 {floor} 9 7 7 7 7 7 7 7 7 7")), format!("0 0 0 {table}\n"));
+    let ran =
+        call(&format!("4 3 3 6 0 1 1 1 0 10 {floor} {table} 9 8 8 8 8 8 8 8 8 8 10{}", " 5".repeat(40)));
+    let kept = "9 0 10 20 10 14 24 48 38 28 9 6 7 5 1 8 8 8 8 8 10 8 42 48 68 4 0 48 48";
+    assert_eq!(ran, format!("0 0 0 2 1 {kept}{}\n", " 5".repeat(32)));
+    let nines = " 9".repeat(288);
+    let decided = call(&format!("2 3 3 6 0 0 0 2 1 1 1000 0 {floor} {table} 9 8 8 8 8 8 8 8 8 8 288{nines}"));
+    let after = "9 0 10 20 10 14 24 48 24 28 9 6 8 8 8 8 8 8 8 8 288 2 1";
+    assert_eq!(decided, format!("1 0 0 0 5 28 2 5 28 1 {after}{}\n", " 9".repeat(286)));
+    assert_eq!(call("8 16 3 3 0 0 1 1 0 0 0 0 0 16 80 68 76 84"), "0\n");
+    assert_eq!(call("9 16 3 3 0 0 1 1 0 0 0 0 0 16 80 68 76 84"), "0 0 0\n");
+    assert_eq!(call("9 15 3 0 0 1 1 0 0 0 0 0 16 80 68 76 84"), "13 0 0\n");
+    for malformed in
+        ["", "\n", "0", "11", "8", "8 1", "8 1 256", "8 0 0", "8\t0", "8 -0", "8 4294967296", "9 32769"]
+    {
+        assert_eq!(call(malformed), "malformed\n");
+    }
+}
+
+#[test]
+fn a_limit_of_decisions_is_told_apart_from_a_refusal() {
+    let halt = trial(&job(1, 1, 1, 28), START, &mut opening(1), &mut [0; 9], 3);
+    assert_eq!(halt, Err(Halt::TooLong));
+}
