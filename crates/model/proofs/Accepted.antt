@@ -44,34 +44,43 @@ then-done (Vd.Refused r) w e = let z : _≡_ {A = ℕ} 0 1 = cc in absurd (omega
 
 -- ---- a test tells a fact
 
-record Tells (b : Bool) (F : Type 0) : Type 0 where
-  holds : b ≡ true → F
-  shown : F → b ≡ true
+pub record Tells (b : Bool) (F : Type 0) : Type 0 where
+  pub holds : b ≡ true → F
+  pub shown : F → b ≡ true
 
 pub record Judges (v : Verdict) (number : ℕ) (F : Type 0) : Type 0 where
   pub gives : v ≡ Vd.Done → F
   pub done : F → v ≡ Vd.Done
   pub refused : (F → ⊥) → v ≡ refuseAt number P.Nowhere
 
-le-tells : (a b : ℕ) → Tells (leb a b) (a ≤ b)
+pub le-tells : (a b : ℕ) → Tells (leb a b) (a ≤ b)
 le-tells a b = record { holds = leb-true a b; shown = le-leb a b }
 
 eq-tells : (a b : ℕ) → Tells (eqb a b) (a ≡ b)
 eq-tells a b = record { holds = eqb-true a b; shown = eq-eqb a b }
 
-is-tells : (b : Bool) → Tells b (b ≡ true)
+pub is-tells : (b : Bool) → Tells b (b ≡ true)
 is-tells b = record { holds = λ e. e; shown = λ e. e }
 
 and-tells : {a b : Bool} {F H : Type 0} → Tells a F → Tells b H → Tells (a && b) (F × H)
+both-first : (a b : Bool) → (a && b) ≡ true → a ≡ true
+both-first true b e = refl
+both-first false b e = e
+both-second : (a b : Bool) → (a && b) ≡ true → b ≡ true
+both-second true b e = e
+both-second false b e = let z : _≡_ {A = ℕ} 0 1 = cc in absurd (omega arith)
+both-shown : (a b : Bool) → a ≡ true → b ≡ true → (a && b) ≡ true
+both-shown a b e f = rw (e, f)
+pub and-tells : {a b : Bool} {F H : Type 0} → Tells a F → Tells b H → Tells (a && b) (F × H)
 and-tells {a} {b} s t = record {
   holds = λ e. (s .holds (both a b e .0), t .holds (both a b e .1));
   shown = λ h. both-of a b (s .shown (h .0)) (t .shown (h .1));
 }
 
-told : {b : Bool} {F H : Type 0} → Tells b F → (F → H) → (H → F) → Tells b H
+pub told : {b : Bool} {F H : Type 0} → Tells b F → (F → H) → (H → F) → Tells b H
 told t to from = record { holds = λ e. to (t .holds e); shown = λ h. t .shown (from h) }
 
-unless-judges : {F : Type 0} (b : Bool) (number : ℕ) → Tells b F → Judges (unless b number) number F
+pub unless-judges : {F : Type 0} (b : Bool) (number : ℕ) → Tells b F → Judges (unless b number) number F
 unless-judges true number t = record { gives = λ e. t .holds refl; done = λ f. refl; refused = λ h. absurd (h (t .holds refl)) }
 unless-judges false number t = record {
   gives = λ e. let z : _≡_ {A = ℕ} 0 1 = cc in absurd (omega arith);

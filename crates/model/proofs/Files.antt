@@ -12,12 +12,12 @@ use lib.ListN.{length, getD, take, drop, length-append}
 use Rattle.answers.specs.declared.Place.the-variants as P
 use Rattle.answers.specs.declared.Verdict.the-variants as Vd
 use Rattle.model.specs.Basics.{choose, refuseAt, unless, naming}
-use Rattle.model.specs.Floor.{Floor, size, free, opening}
+use Rattle.model.specs.Floor.{Floor, Sized, size, free, opening}
 use Rattle.model.specs.Checks.{ceiling, figures}
 use Rattle.model.specs.Opening.{openTable}
 use Rattle.model.specs.TableFile.{halfAt, trailer, countIn, backIn, isLetters, trailerHolds, checkTrailer, findRecords, sameJob, cellIn, figureIn, recordFault, judgeRecords, changed, readVerdict, recordsOf, trailerOf, fileOf, unlike, fileRoom, writeVerdict}
-use Rattle.model.proofs.Moves.{both, both-of}
-use Rattle.model.proofs.Accepted.{then-done}
+use Rattle.model.proofs.Moves.{both, both-of, free-lt}
+use Rattle.model.proofs.Accepted.{then-done, sizes-judges, scale-judges, bench-judges}
 
 -- a test that can't pass fails
 pub fails : (b : Bool) → (b ≡ true → ⊥) → b ≡ false
@@ -27,6 +27,22 @@ fails false h = refl
 pub unless-done : (b : Bool) (number : ℕ) → unless b number ≡ Vd.Done → b ≡ true
 unless-done true number e = refl
 unless-done false number e = let z : _≡_ {A = ℕ} 0 1 = cc in absurd (omega arith)
+
+-- ---- 1, 3 and 4, what an opened table's job is known to meet
+
+pub record Openable (f : Floor) (q goal n : ℕ) : Type 0 where
+  pub sized : Sized f
+  pub scale : q ≤ 16
+  pub bench : goal < size f
+  pub cells : n ≡ size f
+
+pub openable : (f : Floor) (q goal n : ℕ) → openTable f q (goal ∷ []) n ≡ Vd.Done → Openable f q goal n
+unfolding openTable
+openable f q goal n e =
+    let a = then-done _ _ e in
+    let b = then-done _ _ (a .1) in
+    let s = sizes-judges f n .gives (a .0) in
+    record { sized = s .0; scale = scale-judges q .gives (b .0) .1; bench = free-lt f (s .0) goal (bench-judges f goal .gives (b .1)); cells = s .1 }
 
 -- ---- 13, the trailer
 

@@ -3,6 +3,8 @@
 -- Rings: the search for an empty ring. Meaning: what the definitions mean, in document 01's words.
 -- Cases: a decision, test by test. Steps: a decision in a trial is one of `learning`. Judged: and its call is not refused. Rides: a trial, and a run's trials.
 -- Tables: what becomes of the figures. Demand: demand 3 of the mission, sentence by sentence.
+-- Looking: the goal, empty rings, and the moves along a route. Accepted: what each check says and gives.
+-- Held: the decision's own checks. Deeds: a decision past them, case by case.
 pub mod Cells
 pub mod Moves
 pub mod Accepted
@@ -26,3 +28,8 @@ pub mod OpeningSound
 pub mod Figures
 pub mod Parts
 pub mod Files
+pub mod Records
+pub mod RoundTrip
+pub mod Accepted
+pub mod Held
+pub mod Deeds

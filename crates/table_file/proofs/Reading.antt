@@ -18,9 +18,7 @@ use Rattle.model.specs.TableFile.{cellIn, figureIn, countIn, backIn, trailerHol
 use Rattle.model.specs.Opening.{openTable}
 use Rattle.model.specs.Checks.{ceiling, scale}
 use Rattle.model.proofs.Parts.{rest}
-use Rattle.model.proofs.Files.{Lawful, judge-more, judge-stop, trailer-gives, found}
-use Rattle.model.proofs.Accepted.{then-done, sizes-judges, scale-judges, bench-judges}
-use Rattle.model.proofs.Moves.{free-lt}
+use Rattle.model.proofs.Files.{openable, Lawful, judge-more, judge-stop, trailer-gives, found}
 use Rattle.table_file.specs.Promises.{Opened, passed, startOf, Reads}
 
 -- a check that has passed is done, and one that has not stands
@@ -47,12 +45,7 @@ done-by s e h = sym e ∙ passes-done s h
 
 -- what an opened table gives
 pub opened : (f : Floor) (q goal n : ℕ) → openTable f q (goal ∷ []) n ≡ Vd.Done → Opened f q goal × (n ≡ size f)
-unfolding openTable
-opened f q goal n e =
-    let a = then-done _ _ e in
-    let b = then-done _ _ (a .1) in
-    let s = sizes-judges f n .gives (a .0) in
-    (record { sized = s .0; scale = scale-judges q .gives (b .0) .1; bench = free-lt f (s .0) goal (bench-judges f goal .gives (b .1)) }, s .1)
+opened f q goal n e = let o = openable f q goal n e in (record { sized = o .sized; scale = o .scale; bench = o .bench }, o .cells)
 
 -- where the records begin, and that the part found begins there
 module _ (file : List ℕ) where

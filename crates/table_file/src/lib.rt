@@ -285,10 +285,10 @@ pub fn fill_opening(
     requires { ⌜ Opened (flat width height (now floor)) q goal ⌝ ∗ ⌜ length (now table) ≡ width * height ⌝ }
     ensures { λ _. ⌜ now (table .exit) ≡ openingTable (flat width height (now (floor .entry))) q (goal ∷ []) ⌝ }
 {
-    let mut x = 0;
-    while x < table.len() {
-        table[x] = opening_of(width, height, goal, q, floor, x) as u32;
-        x += 1;
+    let mut cell = 0;
+    while cell < table.len() {
+        table[cell] = opening_of(width, height, goal, q, floor, cell) as u32;
+        cell += 1;
     }
 }
 

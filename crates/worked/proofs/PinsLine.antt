@@ -6,7 +6,8 @@ use mathlib.Core.Option.{Option, none, some}
 use mathlib.Core.List.{List, [], _∷_, _++_, map}
 use lib.ListN.{replicate}
 use Rattle.answers.specs.declared.Place.the-variants as P
-use Rattle.model.specs.Line.{Settings, asked, readLine, decimal, refusalLine, aisle}
+use Rattle.answers.specs.declared.Settings.{Settings}
+use Rattle.model.specs.Line.{asked, readLine, decimal, refusalLine, aisle}
 use Rattle.model.specs.Compute.{compute}
 use Rattle.worked.proofs.Hall.{hallText}
 use Rattle.worked.proofs.Text.{bytes}

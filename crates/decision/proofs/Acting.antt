@@ -1,0 +1,276 @@
+-- A decision past its checks, put together from what its parts promise: one law for each way through it.
+-- Assumes nothing.
+use Prim.Native.Nat.{ℕ, zero, suc, _+_, _-_, _*_, _≤_, _<_}
+use mathlib.Core.Path.{_≡_, refl, sym, ap, ap₂, _∙_, subst}
+use mathlib.Core.Bool.{Bool, true, false, _&&_}
+use mathlib.Core.List.{List, [], _++_}
+use native.Mathlib.Nat.{mul-le-mul, add-zero}
+use native.Mathlib.Omega.{arith}
+use borrow.Author.Tests.{eq-eqb, ne-eqb, eqb-true, le-leb, lt-leb}
+use lib.Dec.{ltb, eqb}
+use lib.ListN.{length, getD, take, drop, take-append-drop, replicate, length-replicate}
+use Rattle.answers.specs.declared.Job.{Job}
+use Rattle.answers.specs.declared.State.{State}
+use Rattle.answers.specs.declared.Refusal.{Refusal}
+use Rattle.answers.specs.declared.Answer.the-variants as A
+use Rattle.answers.specs.declared.Verdict.the-variants as Vd
+use Rattle.answers.specs.declared.Decided.{Decided}
+use Rattle.answers.specs.Says.{saysAnswer}
+use Rattle.model.specs.Floor.{size, free}
+use Rattle.model.specs.Checks.{ceiling, floorOf}
+use Rattle.model.specs.Lookahead.{seen, ring, w, emptyRing, target}
+use Rattle.model.specs.Decision.{Deed, Outcome, atGoal, judge, refused, unchanged, rise, stored, forward, backOut, stay, goBack, learn, act, outcomeOf, decide, laid}
+use Rattle.model.proofs.Accepted.{sized-cells, never}
+use Rattle.model.proofs.Held.{free-below, free-place, at-goal}
+use Rattle.model.proofs.Deeds.{act-arrived, act-blind, act-learns, learn-over, learn-forward, learn-back, back-stays, back-lost, back-goes, full, near-below, decide-refused, decide-acts}
+use Rattle.lookahead.specs.declared.Ahead.{Ahead}
+use Rattle.lookahead.specs.declared.Around.{Around}
+use Rattle.lookahead.specs.declared.Around.the-variants as R
+use Rattle.lookahead.specs.Contract.{Marks, Fresh, Used, Asked, Near, Window, Looked, Aimed, Figures, movesTo}
+use Rattle.decision.specs.declared.Acted.{Acted}
+use Rattle.decision.specs.Ready.{Places, Ready, Acts, Decides}
+use Rattle.decision.specs.Inner.{Open, Extended, Lays, wayBack, refusing, learns, Leaves}
+
+-- ---- what a ready call gives its parts
+
+module _ {j : Job} {bytes : List ℕ} {s : State} {table path : List ℕ} {moves from : ℕ} (r : Ready j bytes s table path moves from) where
+  pub asked : (s .current ≡ j .goal → ⊥) → Asked j bytes (s .current)
+  asked away = record {
+    sized = r .sized;
+    start = r .here;
+    bench = r .bench;
+    apart = away;
+    shallow = r .settings .deep;
+    deep = r .settings .shallow;
+  }
+
+  asked-at : (k : ℕ) → k < s .length → Asked j bytes (getD path k 0)
+  asked-at k h = record {
+    sized = r .sized;
+    start = r .fair k h .free;
+    bench = r .bench;
+    apart = r .fair k h .away;
+    shallow = r .settings .deep;
+    deep = r .settings .shallow;
+  }
+
+  pub asked-last : {l : ℕ} → l ≡ getD path (s .length - 1) 0 → 1 ≤ s .length → Asked j bytes l
+  asked-last e h = subst (Asked j bytes) (sym e) (asked-at (s .length - 1) (omega arith))
+
+  pub weighed : Figures j bytes table
+  weighed = record { weight = omega (arith, r .settings .weight, r .settings .fine); size = r .figures; small = r .low }
+
+  pub opened : (place : List ℕ) → Places place path (s .length) → Open path place (s .length) (s .current)
+  opened place p = record {
+    room = omega (arith, r .short, r .wide);
+    short = omega (arith, r .short, sized-cells (r .sized));
+    cell = free-place (r .sized) (r .here);
+    places = p;
+    new = λ k h. r .fair k h .other;
+  }
+
+  -- the current cell has a figure, and the quota is small
+  pub current-in : s .current < length table
+  current-in = omega (arith, free-below (floorOf j bytes) (s .current) (r .here), r .figures)
+
+  pub table-short : length table ≤ 4096
+  table-short = omega (arith, r .figures, sized-cells (r .sized))
+
+  pub quota-low : j .q * j .quota ≤ 16000000
+  quota-low = mul-le-mul (r .settings .fine) (r .settings .within)
+
+pub near-place : {j : Job} {bytes : List ℕ} {s x : ℕ} → Asked j bytes s → Near j bytes s x → x < 4096
+near-place {j} {bytes} {s} {x} a h = omega (arith, near-below j bytes s (a .shallow) (a .start) (a .apart) x h, sized-cells (a .sized))
+
+pub aimed-near : {j : Job} {bytes : List ℕ} {s : ℕ} {table : List ℕ} {a : Ahead} → Aimed j bytes s table a → Near j bytes s (a .target)
+aimed-near a = omega (arith, a .on-last)
+
+-- where a ring is empty no cell is on the last one
+pub lost : {j : Job} {bytes : List ℕ} {l : ℕ} (x : ℕ) → Asked j bytes l → emptyRing j bytes (seen j bytes l) (seen j bytes l .last) ≡ true
+    → eqb (ring j bytes (seen j bytes l) x) (seen j bytes l .last) ≡ false
+lost {j} {bytes} {l} x a e = by (eqb (ring j bytes (seen j bytes l) x) (seen j bytes l .last)) refl
+  where
+    by : (b : Bool) → eqb (ring j bytes (seen j bytes l) x) (seen j bytes l .last) ≡ b → b ≡ false
+    by true q = absurd (never e (full j bytes l (a .shallow) (a .start) (a .apart) x (eqb-true _ _ q)))
+    by false q = refl
+
+pub last-near : (j : Job) (bytes : List ℕ) (s x : ℕ) → eqb (ring j bytes (seen j bytes s) x) (seen j bytes s .last) ≡ true → Near j bytes s x
+last-near j bytes s x e = omega (arith, eqb-true (ring j bytes (seen j bytes s) x) (seen j bytes s .last) e)
+
+-- ---- scratch before and after a lookahead
+
+module _ (j : Job) (bytes : List ℕ) (s base : ℕ) (mark cost list : List ℕ) where
+  pub looked-window : {r : Around} {last n : ℕ} → Looked j bytes s base mark cost list r → r ≡ R.Window last n → Window j bytes s base mark cost list n last
+  looked-window h e = subst (Looked j bytes s base mark cost list) e h
+
+  pub looked-empty : {r : Around} → Looked j bytes s base mark cost list r → r ≡ R.Empty
+      → Used base mark cost list × (emptyRing j bytes (seen j bytes s) (seen j bytes s .last) ≡ true)
+  looked-empty h e = subst (Looked j bytes s base mark cost list) e h
+
+pub used-at : {b base : ℕ} {mark cost list : List ℕ} → b ≡ base → Used base mark cost list → Used b mark cost list
+used-at {mark = mark} {cost = cost} {list = list} e u = subst (λ b. Used b mark cost list) (sym e) u
+
+pub window-used : {j : Job} {bytes : List ℕ} {s base last n : ℕ} {mark cost list : List ℕ} (b : ℕ) → b ≡ base → Window j bytes s base mark cost list n last → Used b mark cost list
+window-used b e h = used-at e (record { marks = h .view .spent; costs = h .view .size; cells = h .room })
+
+pub renewed : {base next : ℕ} {mark mark′ cost list : List ℕ} → Used base mark cost list → Marks next mark′ → Fresh next mark′ cost list
+renewed u m = record { marks = m; costs = u .costs; cells = u .cells }
+
+zero-at : (n x : ℕ) → _≡_ {A = ℕ} (getD (replicate n 0) x 0) 0
+zero-at zero x = refl
+zero-at (suc n) zero = refl
+zero-at (suc n) (suc x) = zero-at n x
+
+pub fresh-zeros : Fresh 1 (replicate 4096 0) (replicate 4096 0) (replicate 4096 0)
+fresh-zeros = record {
+  marks = record { size = length-replicate {A = ℕ} 4096 0; room = omega arith; below = λ x. omega (arith, zero-at 4096 x) };
+  costs = length-replicate {A = ℕ} 4096 0;
+  cells = length-replicate {A = ℕ} 4096 0;
+}
+
+pub leaves-refused : {r : Acted} {s : State} {number base : ℕ} {mark cost list place path : List ℕ} → r ≡ refusing s number base → Used base mark cost list
+    → Places place path (s .length) → Leaves r mark cost list place path
+leaves-refused {mark = mark} {cost = cost} {list = list} {place = place} {path = path} q u p = subst (λ (x : Acted). Leaves x mark cost list place path) (sym q) (record { used = u; places = p })
+
+-- ---- nothing is laid
+
+pub laid-none : (lent : List ℕ) (from : ℕ) → laid lent from [] ≡ lent
+laid-none lent from = ap (λ n. take from lent ++ drop n lent) (add-zero from) ∙ take-append-drop from lent
+
+-- ---- the ways through
+
+module _ (lent : List ℕ) (from : ℕ) where
+  pub acts-as : {d d′ : Deed} {r : Acted} {table path moves : List ℕ} → d ≡ d′ → Acts d′ lent from r table path moves → Acts d lent from r table path moves
+  acts-as {r = r} {table = table} {path = path} {moves = moves} e h = subst (λ (x : Deed). Acts x lent from r table path moves) (sym e) h
+
+  pub acts-refused : {r : Acted} {s : State} {number base : ℕ} (table path : List ℕ) → r ≡ refusing s number base → Acts (refused s table path number) lent from r table path lent
+  acts-refused table path q = record {
+    answer = ap (λ (x : Acted). x .answer) q;
+    state = ap (λ (x : Acted). x .state) q;
+    rise = ap (λ (x : Acted). x .rise) q;
+    cost = ap (λ (x : Acted). x .cost) q;
+    table = refl;
+    path = refl;
+    moves = sym (laid-none lent from);
+  }
+
+  pub acts-arrived : (s : State) (table path : List ℕ) (base : ℕ)
+      → Acts (unchanged s table path A.Arrived) lent from (record { answer = A.Arrived; state = s; rise = 0; cost = 0; base = base }) table path lent
+  acts-arrived s table path base = record { answer = refl; state = refl; rise = refl; cost = refl; table = refl; path = refl; moves = sym (laid-none lent from) }
+
+  pub acts-renewed : {d : Deed} {r : Acted} {table path moves : List ℕ} (b : ℕ) → Acts d lent from r table path moves
+      → Acts d lent from (record { answer = r .answer; state = r .state; rise = r .rise; cost = r .cost; base = b }) table path moves
+  acts-renewed b h =
+      record { answer = h .answer; state = h .state; rise = h .rise; cost = h .cost; table = h .table; path = h .path; moves = h .moves }
+
+  module _ (j : Job) (bytes : List ℕ) (s : State) (table path : List ℕ) (new a : ℕ) (risen : a ≡ rise table (s .current) new) (table′ : List ℕ)
+      (made : table′ ≡ stored table (s .current) new) (base : ℕ) where
+    acts-stay : Acts (stay s table path new) lent from (record { answer = A.Stayed a; state = s; rise = a; cost = 0; base = base }) table′ path lent
+    unfolding stay
+    acts-stay = record { answer = ap A.Stayed risen; state = refl; rise = risen; cost = refl; table = made; path = refl; moves = sym (laid-none lent from) }
+
+    pub acts-stays : s .length ≡ 0 → Acts (goBack j bytes s table path new) lent from (record { answer = A.Stayed a; state = s; rise = a; cost = 0; base = base }) table′ path lent
+    acts-stays e = acts-as (back-stays j bytes s table path new (eq-eqb (s .length) 0 e)) acts-stay
+
+    acts-back : (l count leg : ℕ) (moves : List ℕ) → Lays lent from (wayBack j bytes l (s .current)) moves count → leg ≡ w j bytes (seen j bytes l) (s .current)
+        → Acts (backOut j bytes s (seen j bytes l) table path new l) lent from
+        (record { answer = A.BackedOut l a count; state = record { current = l; learned = s .learned; length = s .length - 1 }; rise = a; cost = leg; base = base }) table′ path moves
+    unfolding backOut
+    acts-back l count leg moves y e = record {
+      answer = ap₂ (A.BackedOut l) risen (y .count);
+      state = refl;
+      rise = risen;
+      cost = e;
+      table = made;
+      path = refl;
+      moves = y .moves;
+    }
+
+    pub acts-forward : (t count leg len : ℕ) (moves path′ place′ : List ℕ) → Lays lent from (movesTo j bytes (s .current) t) moves count
+        → Extended path (s .length) (s .current) t path′ place′ len → leg ≡ w j bytes (seen j bytes (s .current)) t
+        → Acts (forward j bytes s (seen j bytes (s .current)) table path new t) lent from
+        (record { answer = A.Forward t a count; state = record { current = t; learned = s .learned + a; length = len }; rise = a; cost = leg; base = base }) table′ path′ moves
+    unfolding forward
+    acts-forward t count leg len moves path′ place′ y x e = record {
+      answer = ap₂ (A.Forward t) risen (y .count);
+      state = ap₂ (λ u n. record { current = t; learned = s .learned + u; length = n }) risen (x .length);
+      rise = risen;
+      cost = e;
+      table = made;
+      path = x .written;
+      moves = y .moves;
+    }
+
+    -- backing out, by the path's last cell l
+    module _ (l : ℕ) (last : l ≡ getD path (s .length - 1) 0) (some : 1 ≤ s .length) where
+      abbrev on-last : ℕ → Bool
+      on-last y = eqb (ring j bytes (seen j bytes y) (s .current)) (seen j bytes y .last)
+
+      pub acts-lost : {r : Acted} {b : ℕ} → on-last l ≡ false → r ≡ refusing s 8 b → Acts (goBack j bytes s table path new) lent from r table path lent
+      acts-lost h q =
+          acts-as (back-lost j bytes s table path new (ne-eqb (s .length) 0 (λ e. omega arith)) (subst (λ y. on-last y ≡ false) last h)) (acts-refused table path q)
+
+      pub acts-returns : (count leg : ℕ) (moves : List ℕ) → on-last l ≡ true → Lays lent from (wayBack j bytes l (s .current)) moves count
+          → leg ≡ w j bytes (seen j bytes l) (s .current)
+          → Acts (goBack j bytes s table path new) lent from
+          (record { answer = A.BackedOut l a count; state = record { current = l; learned = s .learned; length = s .length - 1 }; rise = a; cost = leg; base = base }) table′ path moves
+      acts-returns count leg moves h y e =
+          acts-as
+          (back-goes j bytes s table path new (ne-eqb (s .length) 0 (λ e. omega arith)) (subst (λ y. on-last y ≡ true) last h)
+          ∙ sym (ap (λ y. backOut j bytes s (seen j bytes y) table path new y) last)) (acts-back l count leg moves y e)
+
+-- ---- from the tests to the deed
+
+module _ (j : Job) (bytes : List ℕ) (s : State) (table path : List ℕ) where
+  pub act-here : free (floorOf j bytes) (s .current) ≡ true → s .current ≡ j .goal → act j bytes s table path ≡ unchanged s table path A.Arrived
+  act-here h e = act-arrived j bytes s table path (at-goal j bytes (s .current) h ∙ eq-eqb (s .current) (j .goal) e)
+
+  module _ (a : Asked j bytes (s .current)) where
+    away : atGoal j bytes (s .current) ≡ false
+    away = at-goal j bytes (s .current) (a .start) ∙ ne-eqb (s .current) (j .goal) (a .apart)
+
+    pub act-empty : emptyRing j bytes (seen j bytes (s .current)) (seen j bytes (s .current) .last) ≡ true → act j bytes s table path ≡ refused s table path 9
+    act-empty e = act-blind j bytes s table path away e
+
+    pub act-full : {base n last : ℕ} {mark cost list : List ℕ} → Window j bytes (s .current) base mark cost list n last → act j bytes s table path ≡ learns j bytes s table path
+    unfolding learns
+    act-full h = act-learns j bytes s table path away (subst (λ k. emptyRing j bytes (seen j bytes (s .current)) k ≡ false) (h .last-is) (h .full))
+
+  module _ (a : Ahead) (aimed : Aimed j bytes (s .current) table a) (old : ℕ) (at : old ≡ getD table (s .current) 0) where
+    learns-as : learns j bytes s table path ≡ learn j bytes s (seen j bytes (s .current)) table path (a .figure) (a .target)
+    unfolding learns
+    learns-as = ap₂ (learn j bytes s (seen j bytes (s .current)) table path) (sym (aimed .figure)) (sym (aimed .target))
+
+    over : {b : Bool} → (ltb old (a .figure) && ltb ceiling (a .figure)) ≡ b → (ltb (getD table (s .current) 0) (a .figure) && ltb ceiling (a .figure)) ≡ b
+    over e = ap (λ x. ltb x (a .figure) && ltb ceiling (a .figure)) (sym at) ∙ e
+
+    pub learns-over : (ltb old (a .figure) && ltb ceiling (a .figure)) ≡ true → learns j bytes s table path ≡ refused s table path 10
+    learns-over e = learns-as ∙ learn-over j bytes s table path (a .figure) _ _ (over e)
+
+    module _ (low : (ltb old (a .figure) && ltb ceiling (a .figure)) ≡ false) (u : ℕ) (risen : u ≡ rise table (s .current) (a .figure)) where
+      pub learns-forward : s .learned + u ≤ j .q * j .quota → learns j bytes s table path ≡ forward j bytes s (seen j bytes (s .current)) table path (a .figure) (a .target)
+      learns-forward h =
+          let within : s .learned + rise table (s .current) (a .figure) ≤ j .q * j .quota = omega arith in
+          learns-as ∙ learn-forward j bytes s table path (a .figure) _ _ (over low) (le-leb _ _ within)
+
+      pub learns-back : j .q * j .quota < s .learned + u → learns j bytes s table path ≡ goBack j bytes s table path (a .figure)
+      learns-back h =
+          let past : j .q * j .quota < s .learned + rise table (s .current) (a .figure) = omega arith in
+          learns-as ∙ learn-back j bytes s table path (a .figure) _ _ (over low) (lt-leb _ _ past)
+
+-- ---- the public call
+
+module _ (j : Job) (bytes : List ℕ) (s : State) (table path moves : List ℕ) (from : ℕ) where
+  pub decides-acts : {r : Acted} {table′ path′ moves′ : List ℕ} → Acts (act j bytes s table path) moves from r table′ path′ moves′
+      → Decides (outcomeOf Vd.Done (act j bytes s table path) s table path moves from) (record { answer = r .answer; state = r .state }) table′ path′ moves′
+  decides-acts h = record { answer = ap saysAnswer (h .answer); state = h .state; table = h .table; path = h .path; moves = h .moves }
+
+  pub decides-refused : (q : Refusal) → judge j bytes s table path (length moves) from ≡ Vd.Refused q
+      → Decides (decide j bytes s table path moves from) (record { answer = A.Refused q; state = s }) table path moves
+  decides-refused q e =
+      subst (λ (o : Outcome). Decides o (record { answer = A.Refused q; state = s }) table path moves) (sym (decide-refused j bytes s table path moves from q e))
+      (record { answer = refl; state = refl; table = refl; path = refl; moves = refl })
+
+  pub decides-past : {r : Decided} {table′ path′ moves′ : List ℕ} → judge j bytes s table path (length moves) from ≡ Vd.Done
+      → Decides (outcomeOf Vd.Done (act j bytes s table path) s table path moves from) r table′ path′ moves′ → Decides (decide j bytes s table path moves from) r table′ path′ moves′
+  decides-past {r} {table′} {path′} {moves′} e h = subst (λ (o : Outcome). Decides o r table′ path′ moves′) (sym (decide-acts j bytes s table path moves from e)) h

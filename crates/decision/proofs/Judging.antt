@@ -1,0 +1,127 @@
+-- The checks one after another: where one is refused it stands, and where all are done the call is ready to be decided.
+-- Assumes nothing.
+use Prim.Native.Nat.{ℕ, _+_, _≤_}
+use mathlib.Core.Path.{_≡_, refl, sym, ap, _∙_}
+use mathlib.Core.Bool.{Bool, true, false}
+use mathlib.Core.List.{List}
+use native.Mathlib.Decide.{decLe}
+use native.Mathlib.Omega.{arith}
+use lib.ListN.{length, getD, List·getD-eq-default}
+use Rattle.answers.specs.declared.Job.{Job}
+use Rattle.answers.specs.declared.State.{State}
+use Rattle.answers.specs.declared.Place.the-variants as P
+use Rattle.answers.specs.declared.Verdict.{Verdict}
+use Rattle.answers.specs.declared.Verdict.the-variants as Vd
+use Rattle.model.specs.Basics.{then, refuseAt}
+use Rattle.model.specs.Floor.{Sized, size}
+use Rattle.model.specs.Checks.{ceiling, floorOf, goals, sizes, pathRoom, settings, places, figures}
+use Rattle.model.specs.Decision.{movesRoom, stateHolds, judge}
+use Rattle.model.proofs.Accepted.{then-done, sizes-judges, path-judges, settings-judges, places-judges, figures-accepted}
+use Rattle.model.proofs.Held.{Held, held-judges, moves-judges, sound-room}
+use Rattle.decision.specs.Ready.{Places, Ready, Judged}
+use Rattle.decision.specs.Inner.{isRefused, listsFit, Checked}
+
+-- ---- one check after another
+
+pub stop : {v a : Verdict} (w : Verdict) → v ≡ a → isRefused v ≡ true → v ≡ then a w
+stop {v} w e r = by v r ∙ ap (λ u. then u w) e
+  where
+    by : (v : Verdict) → isRefused v ≡ true → v ≡ then v w
+    by Vd.Done h = cc
+    by (Vd.Refused q) h = refl
+
+pub done-of : (v : Verdict) → isRefused v ≡ false → v ≡ Vd.Done
+done-of Vd.Done h = refl
+done-of (Vd.Refused r) h = cc
+
+pub pass : {v a w x : Verdict} → v ≡ a → isRefused v ≡ false → x ≡ w → x ≡ then a w
+pass {v} {w = w} e r h = h ∙ ap (λ u. then u w) (sym (done-of v r) ∙ e)
+
+then-assoc : (a b c : Verdict) → then (then a b) c ≡ then a (then b c)
+then-assoc Vd.Done b c = refl
+then-assoc (Vd.Refused r) b c = refl
+
+not-both : {A : Type 0} {v : Verdict} {r : ℕ} → v ≡ refuseAt r P.Nowhere → v ≡ Vd.Done → A
+not-both e d = let z : _≡_ {A = ℕ} 0 1 = cc in absurd (omega arith)
+
+-- ---- the checks 1 and 2
+
+pub record Fits (j : Job) (bytes : List ℕ) (figures places room from : ℕ) : Type 0 where
+  pub sized : Sized (floorOf j bytes)
+  pub figures-are : figures ≡ size (floorOf j bytes)
+  pub path : size (floorOf j bytes) ≤ places
+  pub moves : from + 288 ≤ room
+
+pub fits : (j : Job) (bytes : List ℕ) (figures places room from : ℕ) → listsFit j bytes figures places room from ≡ Vd.Done → Fits j bytes figures places room from
+unfolding listsFit
+fits j bytes figures places room from e =
+    let a = then-done _ _ e in
+    let b = then-done _ _ (a .1) in
+    let z = sizes-judges (floorOf j bytes) figures .gives (a .0) in
+    record { sized = z .0; figures-are = z .1; path = path-judges (floorOf j bytes) places .gives (b .0); moves = moves-judges room from .gives (b .1) }
+
+-- ---- the state's check
+
+module _ {j : Job} {bytes : List ℕ} {s : State} {path : List ℕ} where
+  pub checked-refused : (place : List ℕ) (v : Verdict) → size (floorOf j bytes) ≤ length path → v ≡ refuseAt 8 P.Nowhere → (Held j bytes s path → ⊥) → Checked j bytes s path place v
+  checked-refused place v wide e not = record { verdict = e ∙ sym (held-judges j bytes s path wide .refused not); places = λ d. not-both e d }
+
+  pub checked-done : (place : List ℕ) → size (floorOf j bytes) ≤ length path → Held j bytes s path → Places place path (s .length) → Checked j bytes s path place Vd.Done
+  checked-done place wide h p = record { verdict = sym (held-judges j bytes s path wide .done h); places = λ d. p }
+
+-- ---- the whole judgement
+
+module _ (j : Job) (bytes : List ℕ) (s : State) (table path : List ℕ) (room from : ℕ) where
+  -- the checks in their order
+  abbrev pub checks : Verdict
+  checks =
+      then (listsFit j bytes (length table) (length path) room from)
+      (then (settings j) (then (places (floorOf j bytes) (s .current) (goals j)) (then (figures (floorOf j bytes) table) (stateHolds j bytes s path))))
+
+  judge-is : checks ≡ judge j bytes s table path room from
+  unfolding judge listsFit
+  judge-is =
+      let a = sizes (floorOf j bytes) (length table) in
+      let b = pathRoom (floorOf j bytes) (length path) in
+      let m = movesRoom room from in
+      let r = then (settings j) (then (places (floorOf j bytes) (s .current) (goals j)) (then (figures (floorOf j bytes) table) (stateHolds j bytes s path))) in
+      then-assoc a (then b m) r ∙ ap (then a) (then-assoc b m r)
+
+  pub judged-refused : (place : List ℕ) (v : Verdict) → v ≡ checks → isRefused v ≡ true → Judged j bytes s table path room from place v
+  judged-refused place v e r = record {
+    verdict = e ∙ judge-is;
+    places = λ d. let z : _≡_ {A = Bool} true false = sym r ∙ ap isRefused d in let y : _≡_ {A = ℕ} 0 1 = cc in absurd (omega arith);
+  }
+
+  pub judged-checked : (place : List ℕ) (v : Verdict) → (v ≡ stateHolds j bytes s path → v ≡ checks) → Checked j bytes s path place v → Judged j bytes s table path room from place v
+  judged-checked place v e h = record { verdict = e (h .verdict) ∙ judge-is; places = h .places }
+
+  low : length table ≡ size (floorOf j bytes) → figures (floorOf j bytes) table ≡ Vd.Done → (x : ℕ) → getD table x 0 ≤ ceiling
+  low l e x = by (decLe (length table) x)
+    where
+      by : Dec (length table ≤ x) → getD table x 0 ≤ ceiling
+      by (yes h) = omega (arith, List·getD-eq-default table 0 {n = x} h)
+      by (no h) = figures-accepted (floorOf j bytes) table e x (omega arith)
+
+  pub ready : judge j bytes s table path room from ≡ Vd.Done → Ready j bytes s table path room from
+  ready e =
+      let a = then-done _ _ (judge-is ∙ e) in
+      let b = then-done _ _ (a .1) in
+      let c = then-done _ _ (b .1) in
+      let d = then-done _ _ (c .1) in
+      let f = fits j bytes (length table) (length path) room from (a .0) in
+      let p = places-judges (floorOf j bytes) (s .current) (j .goal) .gives (c .0) in
+      let h = held-judges j bytes s path (f .path) .gives (d .1) in
+      record {
+        sized = f .sized;
+        settings = settings-judges j .gives (b .0);
+        figures = f .figures-are;
+        low = low (f .figures-are) (d .0);
+        wide = f .path;
+        room = f .moves;
+        here = p .0;
+        bench = p .1;
+        within = h .within;
+        short = sound-room j bytes (s .current) path (s .length) (omega (arith, h .short, f .path)) (h .sound) (p .0);
+        fair = h .sound .fair;
+      }

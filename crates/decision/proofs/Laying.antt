@@ -1,0 +1,113 @@
+-- What a decision stores: a figure where it is greater, and moves in a part of the lent list. Assumes nothing.
+use Prim.Native.Nat.{ℕ, suc, _+_, _-_, _≤_, _<_}
+use mathlib.Core.Path.{_≡_, sym, ap, ap₂, _∙_}
+use mathlib.Core.List.{List, [], _∷_, _++_, map, reverse, reverse-cons, append-assoc, map-append}
+use native.Mathlib.Numerals.{add-one}
+use native.Mathlib.Omega.{arith}
+use borrow.Author.Tests.{lt-ltb, le-ltb}
+use lib.Dec.{ltb}
+use lib.ListN.{List·getD-append, length, getD, set, take, drop, length-append, length-drop, length-reverse, length-map, take-append-drop, drop-of-length-le}
+use lib.Seq.{drop-cons, drop-drop, set-at, drop-append-le, length-take-le, getD-take, take-at}
+use Rattle.answers.specs.declared.Job.{Job}
+use Rattle.model.specs.Basics.{choose}
+use Rattle.model.specs.Floor.{opposite}
+use Rattle.model.specs.Decision.{stored, laid}
+use Rattle.lookahead.specs.Contract.{movesTo, Traced}
+use Rattle.decision.specs.Inner.{Lays, wayBack}
+
+-- ---- the figure
+
+module _ (table : List ℕ) (cell figure old : ℕ) (at : old ≡ getD table cell 0) where
+  pub store-none : figure ≤ old → table ≡ stored table cell figure
+  store-none h = sym (ap (λ b. choose b (set table cell figure) table) (ap (λ x. ltb x figure) (sym at) ∙ le-ltb old figure h))
+
+  pub store-new : old < figure → set table cell figure ≡ stored table cell figure
+  store-new h = sym (ap (λ b. choose b (set table cell figure) table) (ap (λ x. ltb x figure) (sym at) ∙ lt-ltb old figure h))
+
+-- ---- moves written at the front of the part of the lent list that begins at `from`
+
+laid-in : (moves way part : List ℕ) (from n d : ℕ) → part ≡ way ++ drop n (take d (drop from moves)) → n ≡ length way → from + d ≤ length moves → n ≤ d
+    → take from moves ++ (part ++ drop d (drop from moves)) ≡ laid moves from way
+laid-in moves way part from n d p e h l =
+    ap (λ (r : List ℕ). take from moves ++ r)
+    (ap (λ (r : List ℕ). r ++ drop d rest) p
+    ∙ append-assoc way (drop n (take d rest)) (drop d rest)
+    ∙ ap (λ (r : List ℕ). way ++ r)
+    (sym (drop-append-le n (take d rest) (drop d rest) (omega (arith, length-take-le d rest (omega (arith, length-drop from moves)))))
+    ∙ ap (drop n) (take-append-drop d rest)
+    ∙ drop-drop n from moves
+    ∙ ap (λ k. drop (from + k) moves) e))
+  where
+    rest : List ℕ
+    rest = drop from moves
+
+-- the route as it is traced into the part
+pub lays : {j : Job} {bytes : List ℕ} {s x n : ℕ} {part : List ℕ} (moves : List ℕ) (from d : ℕ) → Traced j bytes s x (take d (drop from moves)) part n
+    → from + d ≤ length moves → 11 ≤ d → Lays moves from (movesTo j bytes s x) (take from moves ++ (part ++ drop d (drop from moves))) n
+lays {j} {bytes} {s} {x} {n} {part} moves from d t h l =
+    record { count = t .count; moves = laid-in moves (movesTo j bytes s x) part from n d (t .written) (t .count) h (omega (arith, t .few)) }
+
+-- ---- the way back
+
+module _ {j : Job} {bytes : List ℕ} {l x n : ℕ} {out there : List ℕ} (t : Traced j bytes l x out there n) where
+  pub traced-moves : (i : ℕ) → i < n → getD there i 0 < 8
+  traced-moves i h =
+      let e : getD there i 0 ≡ getD (movesTo j bytes l x) i 0 =
+      ap (λ (r : List ℕ). getD r i 0) (t .written) ∙ List·getD-append (movesTo j bytes l x) (drop n out) 0 i (omega (arith, t .count)) in
+      omega (arith, t .moves i)
+
+  -- the route as it is turned round into the part
+  pub lays-back : (moves part : List ℕ) (from d : ℕ) → part ≡ map opposite (reverse (take n there)) ++ drop n (take d (drop from moves))
+      → from + d ≤ length moves → 11 ≤ d → Lays moves from (wayBack j bytes l x) (take from moves ++ (part ++ drop d (drop from moves))) n
+  lays-back moves part from d p h m =
+      let way : take n there ≡ movesTo j bytes l x = ap (take n) (t .written) ∙ take-at (movesTo j bytes l x) (drop n out) n (sym (t .count)) in
+      let count : n ≡ length (wayBack j bytes l x) =
+      t .count ∙ sym (length-map (reverse (movesTo j bytes l x)) opposite ∙ length-reverse (movesTo j bytes l x)) in
+      record {
+        count = count;
+        moves = laid-in moves (wayBack j bytes l x) part from n d (p ∙ ap (λ (w : List ℕ). map opposite (reverse w) ++ drop n (take d (drop from moves))) way) count h (omega (arith, t .few));
+      }
+
+-- ---- a way turned round, move by move from its end
+
+-- the last k of the first n moves, the last one first and each turned round
+abbrev pub turned : List ℕ → (n k : ℕ) → List ℕ
+turned there n k = map opposite (reverse (drop (n - k) (take n there)))
+
+module _ (there part : List ℕ) (n : ℕ) (long : n ≤ length there) (room : n ≤ length part) where
+  size : length (take n there) ≡ n
+  size = length-take-le n there long
+
+  turned-length : (k : ℕ) → k ≤ n → length (turned there n k) ≡ k
+  turned-length k h =
+      length-map (reverse (drop (n - k) (take n there))) opposite ∙ length-reverse (drop (n - k) (take n there)) ∙ length-drop (n - k) (take n there) ∙ omega (arith, size)
+
+  turned-more : (k : ℕ) → k < n → turned there n (k + 1) ≡ turned there n k ++ opposite (getD there (n - 1 - k) 0) ∷ []
+  turned-more k h =
+      let x = getD there (n - 1 - k) 0 in
+      let m : n - (k + 1) ≡ n - 1 - k = omega arith in
+      let next : suc (n - 1 - k) ≡ n - k = omega arith in
+      let cons : drop (n - (k + 1)) (take n there) ≡ x ∷ drop (n - k) (take n there) =
+      ap (λ i. drop i (take n there)) m
+      ∙ drop-cons (take n there) (n - 1 - k) 0 (omega (arith, size))
+      ∙ ap₂ (λ y i. y ∷ drop i (take n there)) (getD-take n there (n - 1 - k) 0 (omega arith)) next in
+      ap (λ l. map opposite (reverse l)) cons
+      ∙ ap (map opposite) (reverse-cons x (drop (n - k) (take n there)))
+      ∙ map-append opposite (reverse (drop (n - k) (take n there))) (x ∷ [])
+
+  pub turn-none : part ≡ turned there n 0 ++ drop 0 part
+  turn-none = sym (ap (λ l. map opposite (reverse l) ++ part) (drop-of-length-le (take n there) {i = n - 0} (omega (arith, size))))
+
+  pub turn-length : (k : ℕ) → k ≤ n → length (turned there n k ++ drop k part) ≡ length part
+  turn-length k h = length-append (turned there n k) (drop k part) ∙ omega (arith, turned-length k h, length-drop k part)
+
+  pub turn-more : (k : ℕ) → k < n → set (turned there n k ++ drop k part) k (opposite (getD there (n - 1 - k) 0)) ≡ turned there n (k + 1) ++ drop (k + 1) part
+  turn-more k h =
+      let a = opposite (getD there (n - 1 - k) 0) in
+      ap (λ l. set (turned there n k ++ l) k a) (drop-cons part k 0 (omega arith))
+      ∙ set-at (turned there n k) (getD part k 0) (drop (suc k) part) a k (turned-length k (omega arith))
+      ∙ sym (append-assoc (turned there n k) (a ∷ []) (drop (suc k) part))
+      ∙ ap₂ (λ l i. l ++ drop i part) (sym (turned-more k h)) (sym (add-one k))
+
+  pub turn-all : turned there n n ++ drop n part ≡ map opposite (reverse (take n there)) ++ drop n part
+  turn-all = let z : n - n ≡ 0 = omega arith in ap (λ i. map opposite (reverse (drop i (take n there))) ++ drop n part) z

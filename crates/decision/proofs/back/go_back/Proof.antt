@@ -1,0 +1,117 @@
+-- `decision::back::go_back` meets its contract: no path, an empty ring on the way, which means that the cart is lost, or a window.
+-- Assumes nothing.
+use mathlib.Core.Path.{refl, ap, _∙_}
+use native.Mathlib.Omega.{arith}
+use borrow.Author.Needs.{needs}
+use Rattle.decision.specs.declared.Acted.{Acted}
+use Rattle.decision.proofs.Acting.{current-in, table-short, asked-last, renewed, looked-window, looked-empty, window-used, used-at, lost, acts-stays, acts-lost}
+use Rattle.decision.proofs.back.go_back.Statement.{statement}
+use Rattle.decision.proofs.back.go_back.Tie as tie
+
+store-requires : tie.Need-store-requires
+store-requires c κs = (current-in (c .before .before .before .before .before .before .before .before .before .pre .0), c .before .before .before .before .before .before .before .before .before .pre .1 .1 .0)
+
+same-length : tie.Need-same-length
+same-length c = search needs
+
+returns : tie.Need-returns
+returns c =
+    (acts-stays _ _ _ _ _ _ _ _ _ (c .before .before .before .before .before .before .before .before .before .before .before .before .pre .1 .1 .1) _ (c .before .before .store .ensures) _ (c .before .before .before .before .if1 .taken), (c .before .before .before .before .before .before .before .before .before .before .before .before .pre .1 .0, omega arith))
+
+sub-wide16 : tie.Need-sub-wide16
+sub-wide16 c = search needs
+
+mul-wide16 : tie.Need-mul-wide16
+mul-wide16 c = search needs
+
+shared-slice-read-wide16 : tie.Need-shared-slice-read-wide16
+shared-slice-read-wide16 c = search needs
+
+wide16-requires : tie.Need-wide16-requires
+wide16-requires c κs = search needs
+
+renew-requires : tie.Need-renew-requires
+renew-requires c κs = search needs
+
+look-requires : tie.Need-look-requires
+look-requires c κs = (asked-last (c .before .before .before .before .before .before .before .before .before .before .before .before .before .before .before .before .before .pre .0) (c .before .before .before .before .before .before .before .wide16 .ensures .0) (omega arith), renewed (c .before .before .before .before .before .before .before .before .before .before .before .before .before .before .before .before .before .pre .1 .0) (c .before .before .before .before .before .renew .ensures))
+
+enum-known-last : tie.Need-enum-known-last
+enum-known-last c = search needs
+
+back-to-requires : tie.Need-back-to-requires
+back-to-requires c κs =
+    let r = c .before .before .before .before .before .before .before .before .before .before .before .before .before .before .before .before .before .before .before .before .before .before .before .before .before .before .before .before .before .before .before .pre .0 in
+    let v = looked-window _ _ _ _ _ _ _ (c .before .before .before .before .before .before .before .before .before .before .before .before .before .look .ensures) (c .before .before .before .before .before .last .given .1) in
+    (asked-last (c .before .before .before .before .before .before .before .before .before .before .before .before .before .before .before .before .before .before .before .before .before .before .before .before .before .before .before .before .before .before .before .pre .0) (c .before .before .before .before .before .before .before .before .before .before .before .before .before .before .before .before .before .before .before .before .before .wide16 .ensures .0) (omega arith), (v .view, (v .last-is, (omega (arith, v .depth, r .settings .shallow), omega arith, current-in r, table-short r, r .room, c .before .before .before .before .before .before .before .before .before .before .before .before .before .before .before .before .before .before .before .before .before .before .before .before .before .before .before .before .before .before .before .pre .1 .1 .0, c .before .before .before .before .before .before .before .before .before .before .before .before .before .before .before .before .before .before .before .before .before .before .before .before .before .before .before .before .before .before .before .pre .1 .1 .1))))
+
+enum-told : tie.Need-enum-told
+enum-told c = search needs
+
+refuse-requires : tie.Need-refuse-requires
+refuse-requires c κs = search needs
+
+same-length-2 : tie.Need-same-length-2
+same-length-2 c = search needs
+
+same-length-3 : tie.Need-same-length-3
+same-length-3 c = search needs
+
+same-length-4 : tie.Need-same-length-4
+same-length-4 c = c .before .before .before .before .before .before .before .before .before .before .before .before .before .before .before .before .before .mark2 .given ∙ c .before .before .before .before .before .before .before .before .before .before .before .before .before .before .before .before .before .before .before .before .before .before .before .mark .given
+
+same-length-5 : tie.Need-same-length-5
+same-length-5 c = search needs
+
+same-length-6 : tie.Need-same-length-6
+same-length-6 c = search needs
+
+returns-2 : tie.Need-returns-2
+returns-2 c =
+    let v = looked-window _ _ _ _ _ _ _ (c .before .before .before .before .before .before .before .before .before .before .before .before .before .before .before .before .before .before .look .ensures) (c .before .before .before .before .before .before .before .before .before .before .last .given .1) in
+    (c .before .before .before .before .back-to .ensures .0 _ (c .before .before .before .before .before .before .before .before .before .before .before .before .before .before .before .before .before .before .before .before .before .before .before .before .before .before .wide16 .ensures .0), (window-used _ (c .before .before .before .before .back-to .ensures .1 .0) v, c .before .before .before .before .back-to .ensures .1 .1))
+
+same-length-7 : tie.Need-same-length-7
+same-length-7 c = search needs
+
+same-length-8 : tie.Need-same-length-8
+same-length-8 c = search needs
+
+same-length-9 : tie.Need-same-length-9
+same-length-9 c = search needs
+
+returns-3 : tie.Need-returns-3
+returns-3 c =
+    let v = looked-empty _ _ _ _ _ _ _ (c .before .before .before .before .before .before .before .before .before .look .ensures) (c .before .enum-told .given .1) in
+    let q = c .refuse .ensures in (
+      acts-lost _ _ _ _ _ _ _ _ _ (c .before .before .before .before .before .before .before .before .before .before .before .before .before .before .before .before .before .before .before .before .before .before .before .before .before .before .before .pre .1 .1 .1) _ refl 0 _ (c .before .before .before .before .before .before .before .before .before .before .before .before .before .before .before .before .before .wide16 .ensures .0) (omega arith) (lost _ (asked-last (c .before .before .before .before .before .before .before .before .before .before .before .before .before .before .before .before .before .before .before .before .before .before .before .before .before .before .before .pre .0) (c .before .before .before .before .before .before .before .before .before .before .before .before .before .before .before .before .before .wide16 .ensures .0) (omega arith)) (v .1)) q,
+      (used-at (ap (λ (r : Acted). r .base) q) (v .0), omega (arith, ap (λ (r : Acted). r .state .length) q)),
+    )
+
+pub go-back-spec : {M : Type 1} → statement M
+go-back-spec =
+    tie.close
+    (tie.spec
+    store-requires
+    same-length
+    returns
+    sub-wide16
+    mul-wide16
+    shared-slice-read-wide16
+    wide16-requires
+    renew-requires
+    look-requires
+    enum-known-last
+    back-to-requires
+    enum-told
+    refuse-requires
+    same-length-2
+    same-length-3
+    same-length-4
+    same-length-5
+    same-length-6
+    returns-2
+    same-length-7
+    same-length-8
+    same-length-9
+    returns-3)

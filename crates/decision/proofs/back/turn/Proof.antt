@@ -1,0 +1,75 @@
+-- `decision::back::turn` meets its contract. The invariant: the last k moves stand turned round at the front, and the rest of the part is as lent.
+-- Assumes nothing.
+use Prim.Native.Nat.{_-_, _≤_}
+use mathlib.Core.List.{_++_}
+use mathlib.Core.Path.{_≡_, ap, ap₂, _∙_}
+use native.Mathlib.Omega.{arith}
+use borrow.Author.Needs.{needs}
+use lib.ListN.{length, set, drop}
+use Rattle.decision.proofs.Laying.{turned, turn-none, turn-length, turn-more, turn-all}
+use Rattle.decision.proofs.back.turn.Statement.{statement}
+use Rattle.decision.proofs.back.turn.Tie as tie
+
+abbrev Inv-loop : tie.InvT-loop
+Inv-loop there n part₀ k₀ part k = (k ≤ n) × (part ≡ turned there n k ++ drop k part₀)
+
+abbrev μ-loop : tie.MeasureT-loop
+μ-loop there n part₀ k₀ part k = n - k
+
+loop-holds : tie.Need-loop-holds Inv-loop μ-loop
+loop-holds c = (omega arith, turn-none (c .before .before .args .there .now) (c .before .before .args .part .now) (c .before .before .args .n) (omega arith) (omega arith))
+
+sub-opposed : tie.Need-sub-opposed Inv-loop μ-loop
+sub-opposed c = search needs
+
+sub-opposed-2 : tie.Need-sub-opposed-2 Inv-loop μ-loop
+sub-opposed-2 c = search needs
+
+shared-slice-read-opposed : tie.Need-shared-slice-read-opposed Inv-loop μ-loop
+shared-slice-read-opposed c = search needs
+
+opposed-requires : tie.Need-opposed-requires Inv-loop μ-loop
+opposed-requires c κs = c .before .before .before .before .before .pre .1 (c .before .before .before .before .before .args .n - 1 - c .before .before .loop .k) (omega arith)
+
+slice-write-part : tie.Need-slice-write-part Inv-loop μ-loop
+slice-write-part c = omega (arith, ap length (c .before .before .before .loop .inv .1), turn-length (c .before .before .before .before .before .before .args .there .now) (c .before .before .before .before .before .before .args .part .now) (c .before .before .before .before .before .before .args .n) (omega arith) (omega arith) (c .before .before .before .loop .k) (omega arith))
+
+add-k : tie.Need-add-k Inv-loop μ-loop
+add-k c = search needs
+
+loop-less : tie.Need-loop-less Inv-loop μ-loop
+loop-less c = omega arith
+
+loop-again : tie.Need-loop-again Inv-loop μ-loop
+loop-again c = (
+  omega arith,
+  ap₂ (λ p a. set p (c .before .before .before .loop .k) a) (c .before .before .before .loop .inv .1) (c .opposed .ensures)
+      ∙ turn-more (c .before .before .before .before .before .before .args .there .now) (c .before .before .before .before .before .before .args .part .now) (c .before .before .before .before .before .before .args .n) (omega arith) (omega arith) (c .before .before .before .loop .k) (omega arith),
+)
+
+same-length : tie.Need-same-length Inv-loop μ-loop
+same-length c = ap length (c .before .loop .inv .1) ∙ turn-length (c .before .before .before .before .args .there .now) (c .before .before .before .before .args .part .now) (c .before .before .before .before .args .n) (omega arith) (omega arith) (c .before .loop .k) (omega arith)
+
+returns : tie.Need-returns Inv-loop μ-loop
+returns c =
+    let e : c .before .loop .k ≡ c .before .before .before .before .args .n = omega arith in
+    c .before .loop .inv .1 ∙ ap (λ k. turned (c .before .before .before .before .args .there .now) (c .before .before .before .before .args .n) k ++ drop k (c .before .before .before .before .args .part .now)) e
+    ∙ turn-all (c .before .before .before .before .args .there .now) (c .before .before .before .before .args .part .now) (c .before .before .before .before .args .n) (omega arith) (omega arith)
+
+pub turn-spec : {M : Type 1} → statement M
+turn-spec =
+    tie.close
+    (tie.spec
+    Inv-loop
+    μ-loop
+    loop-holds
+    sub-opposed
+    sub-opposed-2
+    shared-slice-read-opposed
+    opposed-requires
+    slice-write-part
+    add-k
+    loop-less
+    loop-again
+    same-length
+    returns)

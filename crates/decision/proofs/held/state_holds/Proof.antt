@@ -1,0 +1,63 @@
+-- `decision::held::state_holds` meets its contract: each test is a part of the fact that the check judges.
+-- Assumes nothing.
+use native.Mathlib.Nat.{lt-of-le-of-lt, mul-le-mul}
+use native.Mathlib.Omega.{arith}
+use borrow.Author.Needs.{needs}
+use borrow.Author.Tests.{not-true, not-false}
+use lib.Dec.{lit<}
+use Rattle.model.proofs.Accepted.{sized-cells}
+use Rattle.decision.proofs.Judging.{checked-refused, checked-done}
+use Rattle.decision.proofs.held.state_holds.Statement.{statement}
+use Rattle.decision.proofs.held.state_holds.Tie as tie
+
+mul-if1 : tie.Need-mul-if1
+mul-if1 c = record { fits = lt-of-le-of-lt (mul-le-mul (c .before .before .before .before .pre .1 .0 .fine) (c .before .before .before .before .pre .1 .0 .within)) (lit< tt) }
+
+refuse-requires : tie.Need-refuse-requires
+refuse-requires c κs = search needs
+
+returns : tie.Need-returns
+returns c = checked-refused _ _ (c .before .before .before .before .before .before .before .pre .1 .1 .0) (c .refuse .ensures) (λ h. omega (arith, h .within))
+
+refuse-requires-2 : tie.Need-refuse-requires-2
+refuse-requires-2 c κs = search needs
+
+returns-2 : tie.Need-returns-2
+returns-2 c = checked-refused _ _ (c .before .before .before .before .before .before .before .before .pre .1 .1 .0) (c .refuse2 .ensures) (λ h. omega (arith, h .short, c .before .before .before .before .before .before .before .before .pre .0 .cells))
+
+path-holds-requires : tie.Need-path-holds-requires
+path-holds-requires c κs = (c .before .before .before .before .before .before .before .before .pre .0, ((omega (arith, c .before .before .before .before .before .before .before .before .pre .0 .cells), omega (arith, c .before .before .before .before .before .before .before .before .pre .0 .cells, sized-cells (c .before .before .before .before .before .before .before .before .pre .0))), c .before .before .before .before .before .before .before .before .pre .1 .1 .1))
+
+refuse-requires-3 : tie.Need-refuse-requires-3
+refuse-requires-3 c κs = search needs
+
+same-length : tie.Need-same-length
+same-length c = search needs
+
+returns-3 : tie.Need-returns-3
+returns-3 c = checked-refused _ _ (c .before .before .before .before .before .before .before .before .before .before .before .before .before .pre .1 .1 .0) (c .refuse3 .ensures) (λ h. c .before .before .before .before .path-holds .ensures .fault (not-true _ (c .before .if3 .taken)) (h .sound))
+
+same-length-2 : tie.Need-same-length-2
+same-length-2 c = search needs
+
+returns-4 : tie.Need-returns-4
+returns-4 c =
+    let r = not-false _ (c .if3 .left) in
+    checked-done _ (c .before .before .before .before .before .before .before .before .before .before .before .before .pre .1 .1 .0)
+    (record { within = omega arith; short = omega (arith, c .before .before .before .before .before .before .before .before .before .before .before .before .pre .0 .cells); sound = c .before .before .before .path-holds .ensures .sound r }) (c .before .before .before .path-holds .ensures .places r)
+
+pub state-holds-spec : {M : Type 1} → statement M
+state-holds-spec =
+    tie.close
+    (tie.spec
+    mul-if1
+    refuse-requires
+    returns
+    refuse-requires-2
+    returns-2
+    path-holds-requires
+    refuse-requires-3
+    same-length
+    returns-3
+    same-length-2
+    returns-4)

@@ -1,0 +1,27 @@
+-- `decision::moves_room` meets its contract: the two tests are the fact that the check judges, without a sum that wraps.
+-- Assumes nothing.
+use mathlib.Core.Path.{sym, _∙_}
+use native.Mathlib.Omega.{arith}
+use borrow.Author.Needs.{needs}
+use Rattle.model.proofs.Held.{moves-judges}
+use Rattle.decision.proofs.moves_room.Statement.{statement}
+use Rattle.decision.proofs.moves_room.Tie as tie
+
+refuse-requires : tie.Need-refuse-requires
+refuse-requires c κs = search needs
+
+returns : tie.Need-returns
+returns c = c .refuse .ensures ∙ sym (moves-judges _ _ .refused (λ h. omega arith))
+
+refuse-requires-2 : tie.Need-refuse-requires-2
+refuse-requires-2 c κs = search needs
+
+returns-2 : tie.Need-returns-2
+returns-2 c = c .refuse2 .ensures ∙ sym (moves-judges _ _ .refused (λ h. omega arith))
+
+returns-3 : tie.Need-returns-3
+returns-3 c = sym (moves-judges _ _ .done (omega arith))
+
+pub moves-room-spec : {M : Type 1} → statement M
+moves-room-spec =
+    tie.close (tie.spec refuse-requires returns refuse-requires-2 returns-2 returns-3)

@@ -1,0 +1,52 @@
+-- `decision::steps::forward` meets its contract: the moves, the path and the figure are those of the model, by what each writer promises.
+-- Assumes nothing.
+use mathlib.Core.Path.{refl}
+use native.Mathlib.Omega.{arith}
+use borrow.Author.Needs.{needs}
+use Rattle.decision.proofs.Acting.{aimed-near, near-place, opened, current-in, quota-low, acts-forward}
+use Rattle.decision.proofs.steps.forward.Statement.{statement}
+use Rattle.decision.proofs.steps.forward.Tie as tie
+
+lay-requires : tie.Need-lay-requires
+lay-requires c κs = (c .before .before .before .before .before .before .before .before .pre .1 .0, (c .before .before .before .before .before .before .before .before .pre .1 .1 .0, (aimed-near (c .before .before .before .before .before .before .before .before .pre .1 .1 .1 .0), c .before .before .before .before .before .before .before .before .pre .0 .room)))
+
+extend-requires : tie.Need-extend-requires
+extend-requires c κs = (opened (c .before .before .before .before .before .before .before .before .before .before .before .before .before .pre .0) _ (c .before .before .before .before .before .before .before .before .before .before .before .before .before .pre .1 .1 .1 .1 .1), near-place (c .before .before .before .before .before .before .before .before .before .before .before .before .before .pre .1 .0) (aimed-near (c .before .before .before .before .before .before .before .before .before .before .before .before .before .pre .1 .1 .1 .0)))
+
+store-requires : tie.Need-store-requires
+store-requires c κs = (current-in (c .before .before .before .before .before .before .before .before .before .before .before .before .before .before .before .before .before .before .before .pre .0), c .before .before .before .before .before .before .before .before .before .before .before .before .before .before .before .before .before .before .before .pre .1 .1 .1 .0 .high)
+
+add-t29 : tie.Need-add-t29
+add-t29 c = record { fits = omega (arith, c .before .before .before .before .before .before .before .before .before .before .before .before .before .before .before .before .before .before .before .before .before .before .before .pre .0 .within, quota-low (c .before .before .before .before .before .before .before .before .before .before .before .before .before .before .before .before .before .before .before .before .before .before .before .pre .0), c .before .before .before .before .before .before .before .before .before .before .before .before .before .before .before .before .before .before .before .before .before .before .before .pre .1 .1 .1 .0 .high, c .before .before .before .before .before .before .before .before .before .before .before .before .before .before .before .before .before .before .before .before .before .before .before .pre .1 .1 .1 .1 .0) }
+
+same-length : tie.Need-same-length
+same-length c = search needs
+
+same-length-2 : tie.Need-same-length-2
+same-length-2 c = search needs
+
+same-length-3 : tie.Need-same-length-3
+same-length-3 c = search needs
+
+same-length-4 : tie.Need-same-length-4
+same-length-4 c = search needs
+
+returns : tie.Need-returns
+returns c = (
+  acts-forward _ _ _ _ _ _ _ _ _ (c .before .before .before .before .before .before .before .before .before .before .before .before .before .before .before .before .before .before .before .before .before .before .before .pre .1 .1 .1 .1 .0) _ (c .before .before .before .store .ensures) _ _ _ _ _ _ _ _ (c .before .before .before .before .before .before .before .before .before .before .before .before .before .before .lay .ensures) (c .before .before .before .before .before .before .before .before .before .extend .ensures) (c .before .before .before .before .before .before .before .before .before .before .before .before .before .before .before .before .before .before .before .before .before .before .before .pre .1 .1 .1 .0 .leg),
+  (refl, c .before .before .before .before .before .before .before .before .before .extend .ensures .places),
+)
+
+pub forward-spec : {M : Type 1} → statement M
+forward-spec =
+    tie.close
+    (tie.spec
+    lay-requires
+    extend-requires
+    store-requires
+    add-t29
+    same-length
+    same-length-2
+    same-length-3
+    same-length-4
+    returns)

@@ -1,0 +1,372 @@
+// One decision: `judge` makes the checks ahead of the lookahead, `act` is the decision past them, and `decide` is the public call of both.
+mod back;
+mod held;
+mod steps;
+
+ghost use mathlib.Core.Path.{_≡_};
+ghost use mathlib.Core.Bool.{_&&_};
+ghost use Prim.Native.Nat.{_<_, _-_};
+ghost use lib.Dec.{ltb};
+ghost use lib.ListN.{length};
+ghost use Rattle.model.specs.Checks.{ceiling};
+ghost use Rattle.model.specs.Decision as model;
+ghost use Rattle.lookahead.specs.Contract.{Fresh, Asked, Window};
+ghost use Rattle.decision.specs.Ready.{Ready, Places, Judged, Acts, Serves, Decides};
+ghost use Rattle.decision.specs.Inner.{isRefused, listsFit, refusing, learns, Leaves};
+use answers::Answer;
+use answers::Decided;
+use answers::Job;
+use answers::Place;
+use answers::Refusal;
+use answers::State;
+use answers::Verdict;
+use lookahead::Around;
+
+// What a decision past the checks comes to: its answer, the state after it, its rise, what its moves cost, and the next lookahead's base.
+pub struct Acted {
+    pub answer: Answer,
+    pub state: State,
+    pub rise: usize,
+    pub cost: usize,
+    pub base: u32,
+}
+
+fn refused(v: Verdict) -> bool
+    ensures { λ r. ⌜ r ≡ isRefused v ⌝ }
+{
+    match v {
+        Verdict::Done => false,
+        Verdict::Refused(_) => true,
+    }
+}
+
+// 2: fewer than 288 places left for moves.
+fn moves_room(room: usize, from: usize) -> Verdict
+    ensures { λ r. ⌜ r ≡ model.movesRoom room from ⌝ }
+{
+    if room < 288 {
+        return checks::refuse(2);
+    }
+    if room - 288 < from {
+        return checks::refuse(2);
+    }
+    Verdict::Done
+}
+
+// The checks 1 and 2, on the lists' lengths.
+fn lists_fit(
+    job: Job,
+    floor: &[u8],
+    figures: usize,
+    places: usize,
+    room: usize,
+    from: usize,
+) -> Verdict
+    ensures { λ r. ⌜ r ≡ listsFit job (now (floor .entry)) figures places room from ⌝ }
+{
+    let a = checks::sizes(job.width, job.height, floor, figures);
+    if refused(a) {
+        return a;
+    }
+    let b = checks::path_room(figures, places);
+    if refused(b) {
+        return b;
+    }
+    moves_room(room, from)
+}
+
+// The checks ahead of the lookahead, lower number first; where they all pass, the path's places are noted.
+pub fn judge(
+    job: Job,
+    floor: &[u8],
+    state: State,
+    table: &[u32],
+    path: &[u16],
+    room: usize,
+    from: usize,
+    place: &mut [u16],
+) -> Verdict
+    requires { ⌜ length (now place) ≡ 4096 ⌝ }
+    ensures { λ r. ⌜ Judged job (now (floor .entry)) state (now (table .entry)) (now (path .entry)) room from (now (place .exit)) r ⌝ }
+{
+    let a = lists_fit(job, floor, table.len(), path.len(), room, from);
+    if refused(a) {
+        return a;
+    }
+    let b = checks::settings(job);
+    if refused(b) {
+        return b;
+    }
+    let current = state.current;
+    let c = checks::places(job.width, job.height, floor, current, job.goal);
+    if refused(c) {
+        return c;
+    }
+    let d = checks::figures(table);
+    if refused(d) {
+        return d;
+    }
+    held::state_holds(job, floor, state, path, place)
+}
+
+// A decision past the checks that is refused after all: nothing changes.
+fn refuse(state: State, number: usize, base: u32) -> Acted
+    ensures { λ r. ⌜ r ≡ refusing state number base ⌝ }
+{
+    Acted {
+        answer: Answer::Refused(Refusal {
+            number: number,
+            place: Place::Nowhere,
+        }),
+        state: state,
+        rise: 0,
+        cost: 0,
+        base: base,
+    }
+}
+
+// 10: whether a new figure is greater than the one stored, and passes the ceiling.
+fn too_high(old: usize, figure: usize) -> bool
+    ensures { λ r. ⌜ r ≡ (ltb old figure && ltb ceiling figure) ⌝ }
+{
+    if figure <= old {
+        return false;
+    }
+    917280 < figure
+}
+
+fn rise_of(old: usize, figure: usize) -> usize
+    ensures { λ r. ⌜ r ≡ figure - old ⌝ }
+{
+    if figure <= old {
+        return 0;
+    }
+    figure - old
+}
+
+// In a window that is worked out: the new figure and the target, and by the quota forward or back.
+fn learn(
+    job: Job,
+    floor: &[u8],
+    state: State,
+    n: usize,
+    last: usize,
+    table: &mut [u32],
+    path: &mut [u16],
+    moves: &mut [u8],
+    from: usize,
+    base: u32,
+    mark: &mut [u32],
+    cost: &mut [u16],
+    list: &mut [u16],
+    place: &mut [u16],
+) -> Acted
+    requires { ⌜ Ready job (now floor) state (now table) (now path) (length (now moves)) from ⌝ ∗ ⌜ Asked job (now floor) (state .current) ⌝
+        ∗ ⌜ Window job (now floor) (state .current) base (now mark) (now cost) (now list) n last ⌝ ∗ ⌜ Places (now place) (now path) (state .length) ⌝ }
+    ensures { λ r. ⌜ Acts (learns job (now (floor .entry)) state (now (table .entry)) (now (path .entry)))
+        (now (moves .entry)) from r (now (table .exit)) (now (path .exit)) (now (moves .exit)) ⌝ }
+    ensures { λ r. ⌜ Leaves r (now (mark .exit)) (now (cost .exit)) (now (list .exit)) (now (place .exit)) (now (path .exit)) ⌝ }
+{
+    let s = state.current;
+    let aim = lookahead::aim(job, floor, s, table, base, mark, cost, list, n, last);
+    let old = floor::wide32(table[s]);
+    if too_high(old, aim.figure) {
+        return refuse(state, 10, base);
+    }
+    let rise = rise_of(old, aim.figure);
+    if state.learned + rise <= job.q * job.quota {
+        return steps::forward(
+            job,
+            floor,
+            state,
+            aim,
+            rise,
+            table,
+            path,
+            moves,
+            from,
+            base,
+            mark,
+            cost,
+            place,
+        );
+    }
+    back::go_back(
+        job,
+        floor,
+        state,
+        aim.figure,
+        rise,
+        table,
+        path,
+        moves,
+        from,
+        base,
+        mark,
+        cost,
+        list,
+    )
+}
+
+// Away from the goal: the lookahead, and number 9.
+fn go(
+    job: Job,
+    floor: &[u8],
+    state: State,
+    table: &mut [u32],
+    path: &mut [u16],
+    moves: &mut [u8],
+    from: usize,
+    base: u32,
+    mark: &mut [u32],
+    cost: &mut [u16],
+    list: &mut [u16],
+    place: &mut [u16],
+) -> Acted
+    requires { ⌜ Ready job (now floor) state (now table) (now path) (length (now moves)) from ⌝ ∗ ⌜ Asked job (now floor) (state .current) ⌝
+        ∗ ⌜ Fresh base (now mark) (now cost) (now list) ⌝ ∗ ⌜ Places (now place) (now path) (state .length) ⌝ }
+    ensures { λ r. ⌜ Acts (model.act job (now (floor .entry)) state (now (table .entry)) (now (path .entry)))
+        (now (moves .entry)) from r (now (table .exit)) (now (path .exit)) (now (moves .exit)) ⌝ }
+    ensures { λ r. ⌜ Leaves r (now (mark .exit)) (now (cost .exit)) (now (list .exit)) (now (place .exit)) (now (path .exit)) ⌝ }
+{
+    let s = state.current;
+    match lookahead::look(job, floor, s, base, mark, cost, list) {
+        Around::Window { last, n } => learn(
+            job,
+            floor,
+            state,
+            n,
+            last,
+            table,
+            path,
+            moves,
+            from,
+            base,
+            mark,
+            cost,
+            list,
+            place,
+        ),
+        Around::Empty => refuse(state, 9, base),
+    }
+}
+
+// A decision past the checks. Scratch is lent: `mark`, `cost` and `list` are the lookahead's, and `place` has the path's places.
+pub fn act(
+    job: Job,
+    floor: &[u8],
+    state: State,
+    table: &mut [u32],
+    path: &mut [u16],
+    moves: &mut [u8],
+    from: usize,
+    base: u32,
+    mark: &mut [u32],
+    cost: &mut [u16],
+    list: &mut [u16],
+    place: &mut [u16],
+) -> Acted
+    requires { ⌜ Ready job (now floor) state (now table) (now path) (length (now moves)) from ⌝
+        ∗ ⌜ Fresh base (now mark) (now cost) (now list) ⌝ ∗ ⌜ Places (now place) (now path) (state .length) ⌝ }
+    ensures { λ r. ⌜ Acts (model.act job (now (floor .entry)) state (now (table .entry)) (now (path .entry)))
+        (now (moves .entry)) from r (now (table .exit)) (now (path .exit)) (now (moves .exit)) ⌝ }
+    ensures { λ r. ⌜ Serves r (now (mark .exit)) (now (cost .exit)) (now (list .exit)) (now (place .exit)) (now (path .exit)) ⌝ }
+{
+    if state.current == job.goal {
+        return Acted {
+            answer: Answer::Arrived,
+            state: state,
+            rise: 0,
+            cost: 0,
+            base: base,
+        };
+    }
+    let r = go(
+        job,
+        floor,
+        state,
+        table,
+        path,
+        moves,
+        from,
+        base,
+        mark,
+        cost,
+        list,
+        place,
+    );
+    let next = lookahead::renew(r.base, mark);
+    let answer = r.answer;
+    let after = r.state;
+    Acted {
+        answer: answer,
+        state: after,
+        rise: r.rise,
+        cost: r.cost,
+        base: next,
+    }
+}
+
+// A decision that was let through, with the lookahead's scratch in its frame.
+fn decide_past(
+    job: Job,
+    floor: &[u8],
+    state: State,
+    table: &mut [u32],
+    path: &mut [u16],
+    moves: &mut [u8],
+    from: usize,
+    place: &mut [u16],
+) -> Decided
+    requires { ⌜ Ready job (now floor) state (now table) (now path) (length (now moves)) from ⌝ ∗ ⌜ Places (now place) (now path) (state .length) ⌝ }
+    ensures { λ r. ⌜ Decides (model.outcomeOf Verdict.Done (model.act job (now (floor .entry)) state (now (table .entry)) (now (path .entry))) state
+        (now (table .entry)) (now (path .entry)) (now (moves .entry)) from) r (now (table .exit)) (now (path .exit)) (now (moves .exit)) ⌝ }
+{
+    let mut mark = [0u32; 4096];
+    let mut cost = [0u16; 4096];
+    let mut list = [0u16; 4096];
+    let r = act(
+        job,
+        floor,
+        state,
+        table,
+        path,
+        moves,
+        from,
+        1,
+        &mut mark,
+        &mut cost,
+        &mut list,
+        place,
+    );
+    let answer = r.answer;
+    let after = r.state;
+    Decided {
+        answer: answer,
+        state: after,
+    }
+}
+
+// One decision: the checks, then the decision past them. A refused call changes nothing.
+pub fn decide(
+    job: Job,
+    floor: &[u8],
+    state: State,
+    table: &mut [u32],
+    path: &mut [u16],
+    moves: &mut [u8],
+    from: usize,
+) -> Decided
+    ensures { λ r. ⌜ Decides (model.decide job (now (floor .entry)) state (now (table .entry)) (now (path .entry)) (now (moves .entry)) from)
+        r (now (table .exit)) (now (path .exit)) (now (moves .exit)) ⌝ }
+{
+    let mut place = [0u16; 4096];
+    let room = moves.len();
+    match judge(job, floor, state, table, path, room, from, &mut place) {
+        Verdict::Refused(r) => Decided {
+            answer: Answer::Refused(r),
+            state: state,
+        },
+        Verdict::Done => decide_past(job, floor, state, table, path, moves, from, &mut place),
+    }
+}

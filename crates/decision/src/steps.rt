@@ -1,0 +1,105 @@
+// What a decision stores: the figure, the path's next cell, and the moves. And going forward.
+ghost use mathlib.Core.Path.{_≡_};
+ghost use Prim.Native.Nat.{_+_, _-_, _<_, _≤_};
+ghost use lib.ListN.{length, getD};
+ghost use Rattle.model.specs.Lookahead.{seen};
+ghost use Rattle.model.specs.Decision as model;
+ghost use Rattle.lookahead.specs.Contract.{Asked, Near, Seen, Aimed, movesTo};
+ghost use Rattle.decision.specs.Ready.{Ready, Places, Acts};
+ghost use Rattle.decision.specs.Inner.{Open, Extended, Lays};
+use super::Acted;
+use answers::Answer;
+use answers::Job;
+use answers::State;
+use lookahead::Ahead;
+
+// The new figure is stored where it is greater than the cell's.
+pub(crate) fn store(table: &mut [u32], cell: usize, figure: usize)
+    requires { ⌜ (cell < length (now table)) × (figure ≤ 919072) ⌝ }
+    ensures { λ _. ⌜ now (table .exit) ≡ model.stored (now (table .entry)) cell figure ⌝ }
+{
+    if figure <= floor::wide32(table[cell]) {
+        return;
+    }
+    table[cell] = figure as u32;
+}
+
+// The current cell is written after the path's last, and its place noted. Where the target is on the path, the path is cut there. The new length.
+fn extend(path: &mut [u16], place: &mut [u16], n: usize, current: usize, target: usize) -> usize
+    requires { ⌜ Open (now path) (now place) n current ⌝ ∗ ⌜ target < 4096 ⌝ }
+    ensures { λ r. ⌜ Extended (now (path .entry)) n current target (now (path .exit)) (now (place .exit)) r ⌝ }
+{
+    path[n] = current as u16;
+    place[current] = n as u16;
+    if super::held::noted(path, place, n + 1, target) {
+        return floor::wide16(place[target]);
+    }
+    n + 1
+}
+
+// The moves of the route from s to the cell x of the window go into the lent list from the place named; their number.
+fn lay(
+    job: Job,
+    floor: &[u8],
+    s: usize,
+    base: u32,
+    mark: &[u32],
+    cost: &[u16],
+    x: usize,
+    moves: &mut [u8],
+    from: usize,
+) -> usize
+    requires { ⌜ Asked job (now floor) s ⌝ ∗ ⌜ Seen job (now floor) s base (now mark) (now cost) ⌝ ∗ ⌜ Near job (now floor) s x ⌝
+        ∗ ⌜ from + 288 ≤ length (now moves) ⌝ }
+    ensures { λ r. ⌜ Lays (now (moves .entry)) from (movesTo job (now (floor .entry)) s x) (now (moves .exit)) r ⌝ }
+{
+    let end = from + 288;
+    lookahead::trace(job, floor, s, base, mark, cost, x, &mut moves[from..end])
+}
+
+// Forward to the target.
+pub(crate) fn forward(
+    job: Job,
+    floor: &[u8],
+    state: State,
+    aim: Ahead,
+    rise: usize,
+    table: &mut [u32],
+    path: &mut [u16],
+    moves: &mut [u8],
+    from: usize,
+    base: u32,
+    mark: &[u32],
+    cost: &[u16],
+    place: &mut [u16],
+) -> Acted
+    requires { ⌜ Ready job (now floor) state (now table) (now path) (length (now moves)) from ⌝ ∗ ⌜ Asked job (now floor) (state .current) ⌝
+        ∗ ⌜ Seen job (now floor) (state .current) base (now mark) (now cost) ⌝
+        ∗ ⌜ Aimed job (now floor) (state .current) (now table) aim ⌝
+        ∗ ⌜ (rise ≡ aim .figure - getD (now table) (state .current) 0) × Places (now place) (now path) (state .length) ⌝ }
+    ensures { λ r. ⌜ Acts (model.forward job (now (floor .entry)) state (seen job (now (floor .entry)) (state .current)) (now (table .entry)) (now (path .entry)) (aim .figure) (aim .target))
+        (now (moves .entry)) from r (now (table .exit)) (now (path .exit)) (now (moves .exit)) ⌝ }
+    ensures { λ r. ⌜ (r .base ≡ base) × Places (now (place .exit)) (now (path .exit)) (r .state .length) ⌝ }
+{
+    let s = state.current;
+    let n = state.length;
+    let target = aim.target;
+    let count = lay(job, floor, s, base, mark, cost, target, moves, from);
+    let length = extend(path, place, n, s, target);
+    store(table, s, aim.figure);
+    Acted {
+        answer: Answer::Forward {
+            target: target,
+            rise: rise,
+            moves: count,
+        },
+        state: State {
+            current: target,
+            learned: state.learned + rise,
+            length: length,
+        },
+        rise: rise,
+        cost: aim.leg,
+        base: base,
+    }
+}
