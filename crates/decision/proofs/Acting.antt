@@ -20,8 +20,8 @@ use Rattle.model.specs.Floor.{size, free}
 use Rattle.model.specs.Checks.{ceiling, floorOf}
 use Rattle.model.specs.Lookahead.{seen, ring, w, emptyRing, target}
 use Rattle.model.specs.Decision.{Deed, Outcome, atGoal, judge, refused, unchanged, rise, stored, forward, backOut, stay, goBack, learn, act, outcomeOf, decide, laid}
-use Rattle.model.proofs.Accepted.{sized-cells, never}
-use Rattle.model.proofs.Held.{free-below, free-place, at-goal}
+use Rattle.model.proofs.Accepted.{never}
+use Rattle.model.proofs.Held.{sized-cells, free-below, free-place, at-goal}
 use Rattle.model.proofs.Deeds.{act-arrived, act-blind, act-learns, learn-over, learn-forward, learn-back, back-stays, back-lost, back-goes, full, near-below, decide-refused, decide-acts}
 use Rattle.lookahead.specs.declared.Ahead.{Ahead}
 use Rattle.lookahead.specs.declared.Around.{Around}

@@ -62,15 +62,6 @@ eq-tells a b = record { holds = eqb-true a b; shown = eq-eqb a b }
 pub is-tells : (b : Bool) → Tells b (b ≡ true)
 is-tells b = record { holds = λ e. e; shown = λ e. e }
 
-and-tells : {a b : Bool} {F H : Type 0} → Tells a F → Tells b H → Tells (a && b) (F × H)
-both-first : (a b : Bool) → (a && b) ≡ true → a ≡ true
-both-first true b e = refl
-both-first false b e = e
-both-second : (a b : Bool) → (a && b) ≡ true → b ≡ true
-both-second true b e = e
-both-second false b e = let z : _≡_ {A = ℕ} 0 1 = cc in absurd (omega arith)
-both-shown : (a b : Bool) → a ≡ true → b ≡ true → (a && b) ≡ true
-both-shown a b e f = rw (e, f)
 pub and-tells : {a b : Bool} {F H : Type 0} → Tells a F → Tells b H → Tells (a && b) (F × H)
 and-tells {a} {b} s t = record {
   holds = λ e. (s .holds (both a b e .0), t .holds (both a b e .1));

@@ -19,7 +19,8 @@ use Rattle.model.specs.Floor.{Floor, Sized, size, free}
 use Rattle.model.specs.Grounds.{free-inside}
 use Rattle.model.specs.Checks.{floorOf}
 use Rattle.model.specs.Decision.{atGoal, onPath, movesRoom, stateHolds}
-use Rattle.model.proofs.Accepted.{Tells, Judges, le-tells, is-tells, and-tells, told, unless-judges, sized-cells}
+use Rattle.model.proofs.Cells.{cells-le}
+use Rattle.model.proofs.Accepted.{Tells, Judges, le-tells, is-tells, and-tells, told, unless-judges}
 
 -- A path's cell is free, no goal and not the current cell.
 pub record Fair (j : Job) (bytes : List ℕ) (current x : ℕ) : Type 0 where
@@ -40,7 +41,10 @@ pub record Held (j : Job) (bytes : List ℕ) (s : State) (path : List ℕ) : Typ
 pub free-below : (f : Floor) (x : ℕ) → free f x ≡ true → x < size f
 free-below f x e = free-inside f x (subst T (sym e) tt)
 
--- a free cell's number is below 4,096
+-- a floor has at most 4,096 cells, so a free cell's number is below that
+pub sized-cells : {f : Floor} → Sized f → size f ≤ 4096
+sized-cells {f} z = cells-le (f .width) (f .height) (z .narrow) (z .low)
+
 pub free-place : {f : Floor} {x : ℕ} → Sized f → free f x ≡ true → x < 4096
 free-place {f} {x} z e = omega (arith, free-below f x e, sized-cells z)
 

@@ -30,6 +30,5 @@ pub mod Parts
 pub mod Files
 pub mod Records
 pub mod RoundTrip
-pub mod Accepted
 pub mod Held
 pub mod Deeds
