@@ -15,6 +15,8 @@ pub use decision::decide;
 pub use floor_text::read_floor;
 pub use opening::fill_opening;
 pub use opening::open;
+pub use run::run;
+pub use run::trial;
 pub use table_file::check_trailer;
 pub use table_file::find_records;
 pub use table_file::read_table;
