@@ -20,7 +20,7 @@ extend-requires c κs =
 store-requires : tie.Need-store-requires
 store-requires c κs =
     let start = c .before .before .before .before .before .before .before .before .before .before .before .before .before .before .before .before .before .before .before in
-    (current-in (start .pre .0), start .pre .1 .1 .1 .0 .high)
+    (current-in (start .pre .0), omega (arith, start .pre .1 .1 .1 .0 .high))
 
 add-t29 : tie.Need-add-t29
 add-t29 c =
