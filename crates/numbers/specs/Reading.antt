@@ -79,6 +79,13 @@ fillFrom most input (suc n) i c list =
 unfoldable pub readList : (most : ℕ) (input : List ℕ) → Cursor → List ℕ → Filled
 readList most input c list = choose (leb (c .value) (length list)) (fillFrom most input (c .value) 0 c list) (filled failed list)
 
+-- a list: its length, and its entries; and n numbers, whose count the input does not say
+abbrev pub listAt : (most : ℕ) (input : List ℕ) → Cursor → List ℕ → Filled
+listAt most input c list = readList most input (numberIn greatest input c) list
+
+abbrev pub severalAt : (input : List ℕ) → Cursor → ℕ → List ℕ → Filled
+severalAt input c n list = readList greatest input (record { ok = c .ok; at = c .at; value = n }) list
+
 pub record Read (f : Filled) (r : Cursor) (list : List ℕ) : Type 0 where
   pub cursor : r ≡ f .cursor
   pub entries : list ≡ f .list

@@ -5,7 +5,7 @@ ghost use mathlib.Core.Path.{_≡_};
 ghost use mathlib.Core.Bool.{true, false};
 ghost use Prim.Native.Nat.{_<_, _≤_};
 ghost use lib.ListN.{length, take, drop};
-ghost use Rattle.numbers.specs.Reading.{isBlank, digitsFrom, numberAt, failed, numberIn, endedAt, Read, readList};
+ghost use Rattle.numbers.specs.Reading.{isBlank, greatest, digitsFrom, numberAt, failed, numberIn, endedAt, Read, readList, listAt, severalAt};
 
 // What stands at a place of the input: a number and the place after it, nothing but blanks, or what is no number.
 pub enum Item {
@@ -44,7 +44,7 @@ fn fail() -> Cursor
 }
 
 // A list of n entries comes next.
-pub fn expect(c: Cursor, n: usize) -> Cursor
+fn expect(c: Cursor, n: usize) -> Cursor
     ensures { λ r. ⌜ r ≡ record { ok = c .ok; at = c .at; value = n } ⌝ }
 {
     Cursor {
@@ -142,6 +142,13 @@ pub fn number(input: &[u8], c: Cursor, most: usize) -> Cursor
     }
 }
 
+// The next number, whatever it is: it may be the length of a list.
+pub fn length(input: &[u8], c: Cursor) -> Cursor
+    ensures { λ r. ⌜ r ≡ numberIn greatest (now (input .entry)) c ⌝ }
+{
+    number(input, c, 4294967295)
+}
+
 // Whether all was well and nothing but blanks is left.
 pub fn ended(input: &[u8], c: Cursor) -> bool
     ensures { λ r. ⌜ r ≡ endedAt (now (input .entry)) c ⌝ }
@@ -157,8 +164,8 @@ pub fn ended(input: &[u8], c: Cursor) -> bool
     }
 }
 
-// The entries of a list, as many as the cursor's value says: here bytes, below wider numbers.
-pub fn fill8(input: &[u8], c: Cursor, list: &mut [u8]) -> Cursor
+// The entries of a list, as many as the cursor's value says: here of bytes, below of wider numbers.
+fn fill8(input: &[u8], c: Cursor, list: &mut [u8]) -> Cursor
     ensures { λ r. ⌜ Read (readList 255 (now (input .entry)) c (now (list .entry))) r (now (list .exit)) ⌝ }
     ensures { λ r. ⌜ (r .value ≤ length (now (list .exit))) × (r .value ≡ length (take (r .value) (now (list .exit)))) ⌝ }
 {
@@ -179,7 +186,7 @@ pub fn fill8(input: &[u8], c: Cursor, list: &mut [u8]) -> Cursor
     expect(d, count)
 }
 
-pub fn fill16(input: &[u8], c: Cursor, list: &mut [u16]) -> Cursor
+fn fill16(input: &[u8], c: Cursor, list: &mut [u16]) -> Cursor
     ensures { λ r. ⌜ Read (readList 65535 (now (input .entry)) c (now (list .entry))) r (now (list .exit)) ⌝ }
     ensures { λ r. ⌜ (r .value ≤ length (now (list .exit))) × (r .value ≡ length (take (r .value) (now (list .exit)))) ⌝ }
 {
@@ -200,7 +207,7 @@ pub fn fill16(input: &[u8], c: Cursor, list: &mut [u16]) -> Cursor
     expect(d, count)
 }
 
-pub fn fill32(input: &[u8], c: Cursor, list: &mut [u32]) -> Cursor
+fn fill32(input: &[u8], c: Cursor, list: &mut [u32]) -> Cursor
     ensures { λ r. ⌜ Read (readList 4294967295 (now (input .entry)) c (now (list .entry))) r (now (list .exit)) ⌝ }
     ensures { λ r. ⌜ (r .value ≤ length (now (list .exit))) × (r .value ≡ length (take (r .value) (now (list .exit)))) ⌝ }
 {
@@ -221,7 +228,7 @@ pub fn fill32(input: &[u8], c: Cursor, list: &mut [u32]) -> Cursor
     expect(d, count)
 }
 
-pub fn fill64(input: &[u8], c: Cursor, list: &mut [u64]) -> Cursor
+fn fill64(input: &[u8], c: Cursor, list: &mut [u64]) -> Cursor
     ensures { λ r. ⌜ Read (readList 4294967295 (now (input .entry)) c (now (list .entry))) r (now (list .exit)) ⌝ }
     ensures { λ r. ⌜ (r .value ≤ length (now (list .exit))) × (r .value ≡ length (take (r .value) (now (list .exit)))) ⌝ }
 {
@@ -240,4 +247,38 @@ pub fn fill64(input: &[u8], c: Cursor, list: &mut [u64]) -> Cursor
         i += 1;
     }
     expect(d, count)
+}
+
+// A list: its length, and its entries.
+pub fn list8(input: &[u8], c: Cursor, list: &mut [u8]) -> Cursor
+    ensures { λ r. ⌜ Read (listAt 255 (now (input .entry)) c (now (list .entry))) r (now (list .exit)) ⌝ }
+    ensures { λ r. ⌜ (r .value ≤ length (now (list .exit))) × (r .value ≡ length (take (r .value) (now (list .exit)))) ⌝ }
+{
+    let n = length(input, c);
+    fill8(input, n, list)
+}
+
+pub fn list16(input: &[u8], c: Cursor, list: &mut [u16]) -> Cursor
+    ensures { λ r. ⌜ Read (listAt 65535 (now (input .entry)) c (now (list .entry))) r (now (list .exit)) ⌝ }
+    ensures { λ r. ⌜ (r .value ≤ length (now (list .exit))) × (r .value ≡ length (take (r .value) (now (list .exit)))) ⌝ }
+{
+    let n = length(input, c);
+    fill16(input, n, list)
+}
+
+pub fn list32(input: &[u8], c: Cursor, list: &mut [u32]) -> Cursor
+    ensures { λ r. ⌜ Read (listAt 4294967295 (now (input .entry)) c (now (list .entry))) r (now (list .exit)) ⌝ }
+    ensures { λ r. ⌜ (r .value ≤ length (now (list .exit))) × (r .value ≡ length (take (r .value) (now (list .exit)))) ⌝ }
+{
+    let n = length(input, c);
+    fill32(input, n, list)
+}
+
+// n numbers.
+pub fn several(input: &[u8], c: Cursor, n: usize, list: &mut [u64]) -> Cursor
+    ensures { λ r. ⌜ Read (severalAt (now (input .entry)) c n (now (list .entry))) r (now (list .exit)) ⌝ }
+    ensures { λ r. ⌜ (r .value ≤ length (now (list .exit))) × (r .value ≡ length (take (r .value) (now (list .exit)))) ⌝ }
+{
+    let e = expect(c, n);
+    fill64(input, e, list)
 }
