@@ -1,0 +1,72 @@
+-- `numbers::next` meets its contract. The loop's invariant: what stands here is what stands at the first place.
+-- Assumes nothing.
+use Prim.Native.Nat.{_-_}
+use mathlib.Core.Path.{_≡_, refl, sym, _∙_}
+use native.Mathlib.Omega.{arith}
+use lib.ListN.{length, drop}
+use borrow.Author.Needs.{needs}
+use borrow.Author.Tests.{not-true, not-false}
+use Rattle.numbers.specs.Reading.{numberFrom, numberAt}
+use Rattle.numbers.proofs.Laws.{blanks-end, blanks-over, blanks-more}
+use Rattle.numbers.proofs.next.Statement.{statement}
+use Rattle.numbers.proofs.next.Tie as tie
+
+abbrev Inv-loop : tie.InvT-loop
+Inv-loop input at i₀ i = numberFrom i (drop i input) ≡ numberAt input at
+
+abbrev μ-loop : tie.MeasureT-loop
+μ-loop input at i₀ i = length input - i
+
+loop-holds : tie.Need-loop-holds Inv-loop μ-loop
+loop-holds c = refl
+
+shared-slice-read-is-blank : tie.Need-shared-slice-read-is-blank Inv-loop μ-loop
+shared-slice-read-is-blank c = omega arith
+
+is-blank-requires : tie.Need-is-blank-requires Inv-loop μ-loop
+is-blank-requires c κs = search needs
+
+digits-requires : tie.Need-digits-requires Inv-loop μ-loop
+digits-requires c κs = search needs
+
+returns : tie.Need-returns Inv-loop μ-loop
+returns c =
+    let a = c .before .before .before .before .before .before .before .args in
+    let l = c .before .before .before .before .before .loop in
+    let b = c .before .before .is-blank in
+    c .digits .ensures ∙ blanks-over (a .input .now) (a .at) (l .i) (l .inv) (omega arith) (sym (b .ensures) ∙ not-true (b .result) (c .before .if1 .taken))
+
+add-i : tie.Need-add-i Inv-loop μ-loop
+add-i c = omega arith
+
+loop-less : tie.Need-loop-less Inv-loop μ-loop
+loop-less c = omega arith
+
+loop-again : tie.Need-loop-again Inv-loop μ-loop
+loop-again c =
+    let a = c .before .before .before .before .before .before .args in
+    let l = c .before .before .before .before .loop in
+    let b = c .before .is-blank in
+    blanks-more (a .input .now) (a .at) (l .i) (l .inv) (omega arith) (sym (b .ensures) ∙ not-false (b .result) (c .if1 .left))
+
+returns-2 : tie.Need-returns-2 Inv-loop μ-loop
+returns-2 c =
+    let a = c .before .before .before .args in
+    let l = c .before .loop in
+    blanks-end (a .input .now) (a .at) (l .i) (l .inv) (omega arith)
+
+pub next-spec : {M : Type 1} → statement M
+next-spec =
+    tie.close
+    (tie.spec
+    Inv-loop
+    μ-loop
+    loop-holds
+    shared-slice-read-is-blank
+    is-blank-requires
+    digits-requires
+    returns
+    add-i
+    loop-less
+    loop-again
+    returns-2)
