@@ -1,0 +1,178 @@
+-- What holds while a trial's decisions are made: the code stands where a ride of the model stands, and what is left of that ride is what the whole ride comes to.
+-- The ride keeps its moves, which the code does not. Each decision lowers the ride's potential, so the loop ends; and the counts fit in 64 bits.
+use Prim.Native.Nat.{ℕ, _+_, _≤_, _<_}
+use mathlib.Core.Path.{_≡_, refl, sym, ap, subst, _∙_}
+use mathlib.Core.Bool.{Bool, true, false}
+use mathlib.Core.List.{List}
+use native.Mathlib.Omega.{arith}
+use lib.Dec.{T}
+use lib.ListN.{length, replicate, length-replicate}
+use Rattle.learning.proofs.Bounds.{potential}
+use Rattle.answers.specs.declared.Job.{Job}
+use Rattle.answers.specs.declared.State.{State}
+use Rattle.answers.specs.declared.Report.{Report}
+use Rattle.answers.specs.declared.Refusal.{Refusal}
+use Rattle.answers.specs.declared.Verdict.{Verdict}
+use Rattle.answers.specs.declared.Verdict.the-variants as Vd
+use Rattle.answers.specs.declared.Tried.the-variants as Td
+use Rattle.answers.specs.Says.{saysTried}
+use Rattle.model.specs.Checks.{floorOf}
+use Rattle.model.specs.Grounds.{free-inside}
+use Rattle.model.specs.Opening.{openTrial}
+use Rattle.model.specs.Decision.{atGoal, judge, act}
+use Rattle.model.specs.Ride as model
+use Rattle.model.specs.Ride.{Ride, begun, next, learningJob, ride, trialOf, trial}
+use Rattle.model.proofs.Demand.{trial-is-made}
+use Rattle.model.proofs.Openings as openings
+use Rattle.model.proofs.Meaning.{goal-means, goal-is}
+use Rattle.model.proofs.Steps.{asState}
+use Rattle.model.proofs.Rides.{Riding, yet, rest, riding-begun, riding-next, falls, keeps, judges, room, rest-begun, rest-next, ride-there, ride-riding, counts-fit}
+use Rattle.decision.specs.declared.Acted.{Acted}
+use Rattle.decision.specs.Ready.{Ready, Acts}
+use Rattle.decision.proofs.Judging.{ready}
+use Rattle.decision.proofs.Acting.{fresh-zeros}
+use Rattle.run.specs.declared.Driven.{Driven}
+use Rattle.run.specs.Trials.{Chained, keptAlong, Scratch, Drove, Rode, IsTrial}
+use Rattle.run.proofs.Legs.{chained}
+
+-- The loop's invariant, of the state, the counts and the lists.
+pub record Driving (j : Job) (bytes : List ℕ) (start : ℕ) (lent-table lent-path : List ℕ) (s : State) (decisions learned travel : ℕ) (table path : List ℕ) : Type 0 where
+  -- a ride that is made so far
+  pub at : Ride
+  pub riding : Riding j bytes start lent-table lent-path at
+  -- which comes to the whole ride
+  pub comes : rest j bytes at ≡ ride j bytes start lent-table lent-path
+  -- and the code stands where it stands
+  pub state-is : at .state ≡ s
+  pub decisions-is : at .decisions ≡ decisions
+  pub learned-is : at .learned ≡ learned
+  pub travel-is : at .travel ≡ travel
+  pub table-is : at .table ≡ table
+  pub path-is : at .path ≡ path
+
+-- what falls with each decision
+abbrev pub yetTo : Job → List ℕ → State → (table path : List ℕ) → ℕ
+yetTo j bytes s table path = potential (learningJob j bytes) (asState s table path)
+
+module _ (j : Job) (bytes : List ℕ) (start : ℕ) (table₀ path₀ : List ℕ) (opened : openTrial j bytes start table₀ path₀ ≡ Vd.Done) where
+  abbrev R : openings.Ready j bytes start table₀ path₀
+  R = openings.ready j bytes start table₀ path₀ opened
+
+  pub begins : Driving j bytes start table₀ path₀ (record { current = start; learned = 0; length = 0 }) 0 0 0 table₀ path₀
+  begins = record {
+    at = begun start table₀ path₀;
+    riding = riding-begun j bytes start table₀ path₀ R;
+    comes = sym (rest-begun j bytes start table₀ path₀ R);
+    state-is = refl;
+    decisions-is = refl;
+    learned-is = refl;
+    travel-is = refl;
+    table-is = refl;
+    path-is = refl;
+  }
+
+  module _ {s : State} {decisions learned travel : ℕ} {table path : List ℕ} (g : Driving j bytes start table₀ path₀ s decisions learned travel table path) where
+    -- the counts fit
+    pub fits : (decisions < 344642261575249) × (learned ≤ 3757178880) × (travel < 38599933296427888)
+    fits = omega (arith, counts-fit j bytes start table₀ path₀ R (g .riding), g .decisions-is, g .learned-is, g .travel-is)
+
+    pub long : length path ≡ length path₀
+    long = ap length (sym (g .path-is)) ∙ g .riding .places
+
+    pub sized : length table ≡ length table₀
+    sized = ap length (sym (g .table-is)) ∙ keeps j bytes start table₀ path₀ R (g .riding) .sound .size ∙ sym (R .opened .long)
+
+    -- at the goal the ride is over
+    pub over : s .current ≡ j .goal → g .at ≡ ride j bytes start table₀ path₀
+    over e =
+        let there : atGoal j bytes (g .at .state .current) ≡ true =
+        ap (λ x. atGoal j bytes x) (ap (λ u. u .current) (g .state-is) ∙ e) ∙ goal-is j bytes (free-inside (floorOf j bytes) (j .goal) (subst T (sym (R .opened .held .bench)) tt)) in
+        sym (ride-there j bytes _ (g .at) there) ∙ g .comes
+
+    module _ (aside : s .current ≡ j .goal → ⊥) where
+      off : atGoal j bytes (g .at .state .current) ≡ false
+      off = by (atGoal j bytes (g .at .state .current)) refl
+        where
+          by : (b : Bool) → atGoal j bytes (g .at .state .current) ≡ b → b ≡ false
+          by true e = absurd (aside (sym (ap (λ u. u .current) (g .state-is)) ∙ goal-means j bytes (g .at .state .current) e))
+          by false e = refl
+
+      same : act j bytes (g .at .state) (g .at .table) (g .at .path) ≡ act j bytes s table path
+      same i = act j bytes (g .state-is i) (g .table-is i) (g .path-is i)
+
+      -- a decision can be made
+      pub may-act : (moves : ℕ) → 288 ≤ moves → Ready j bytes s table path moves 0
+      may-act moves h =
+          ready j bytes s table path moves 0
+          ((λ i. judge j bytes (sym (g .state-is) i) (sym (g .table-is) i) (sym (g .path-is) i) moves 0) ∙ judges j bytes start table₀ path₀ R (g .riding) moves 0 (omega arith))
+
+      -- and one more is made
+      pub drives : {moves moves′ table′ path′ : List ℕ} {from : ℕ} {r : Acted} → Acts (act j bytes s table path) moves from r table′ path′ moves′
+          → Driving j bytes start table₀ path₀ (r .state) (decisions + 1) (learned + r .rise) (travel + r .cost) table′ path′
+      unfolding next
+      drives a = record {
+        at = next j bytes (g .at);
+        riding = riding-next j bytes start table₀ path₀ R (g .riding) off;
+        comes = sym (rest-next j bytes start table₀ path₀ R (g .riding) off) ∙ g .comes;
+        state-is = ap (λ d. d .state) same ∙ sym (a .state);
+        decisions-is = omega (arith, g .decisions-is);
+        learned-is = (λ i. g .learned-is i + same i .rise) ∙ ap (λ (n : ℕ). learned + n) (sym (a .rise));
+        travel-is = (λ i. g .travel-is i + same i .cost) ∙ ap (λ (n : ℕ). travel + n) (sym (a .cost));
+        table-is = ap (λ d. d .table) same ∙ sym (a .table);
+        path-is = ap (λ d. d .path) same ∙ sym (a .path);
+      }
+
+      pub lowers : {moves moves′ table′ path′ : List ℕ} {from : ℕ} {r : Acted} → Acts (act j bytes s table path) moves from r table′ path′ moves′
+          → yetTo j bytes (r .state) table′ path′ < yetTo j bytes s table path
+      unfolding next
+      lowers a =
+          let after = ap (λ d. asState (d .state) (d .table) (d .path)) same ∙ (λ i. asState (sym (a .state) i) (sym (a .table) i) (sym (a .path) i)) in
+          let here : asState (g .at .state) (g .at .table) (g .at .path) ≡ asState s table path = λ i. asState (g .state-is i) (g .table-is i) (g .path-is i) in
+          subst (λ x. potential (learningJob j bytes) x < yetTo j bytes s table path) after
+          (subst (λ x. yet j bytes (next j bytes (g .at)) < potential (learningJob j bytes) x) here (falls j bytes start table₀ path₀ R (g .riding) off))
+
+  -- ---- after the decisions
+
+  module _ {r : Driven} {table path mark cost list : List ℕ} (d : Drove (ride j bytes start table₀ path₀) r table path mark cost list) where
+    -- the path is a chain of legs
+    pub chains : Chained j bytes path (r .state .length) (r .state .current)
+    chains =
+        let o = ride j bytes start table₀ path₀ in
+        let g = ride-riding j bytes start table₀ path₀ R in
+        let c = chained j bytes (R .opened .held) (o .state) (o .table) (o .path) (keeps j bytes start table₀ path₀ R g) (room j bytes start table₀ path₀ R g) in
+        subst (λ p. Chained j bytes p (r .state .length) (r .state .current)) (sym (d .path-is)) (subst (λ u. Chained j bytes (o .path) (u .length) (u .current)) (sym (d .state-is)) c)
+
+    -- and the record is the ride's
+    pub rode : (kept : ℕ) → kept ≡ keptAlong j bytes path (r .state .length) (r .state .current)
+        → Rode j bytes (ride j bytes start table₀ path₀) (record { decisions = r .decisions; learned = r .learned; kept = kept; travel = r .travel }) table path
+    unfolding model.kept
+    rode kept e =
+        let same : kept ≡ model.kept j bytes (ride j bytes start table₀ path₀) = e ∙ (λ i. keptAlong j bytes (d .path-is i) (d .state-is i .length) (d .state-is i .current)) in
+        record {
+          record-is = λ i. record { decisions = d .decisions-is i; learned = d .learned-is i; kept = same i; travel = d .travel-is i };
+          table-is = d .table-is;
+          path-is = d .path-is;
+        }
+
+-- the scratch lists that a trial starts with
+pub scratched : Scratch (replicate 288 0) (replicate 4096 0) (replicate 4096 0) (replicate 4096 0) (replicate 4096 0)
+scratched = record { room = length-replicate {A = ℕ} 288 0; fresh = fresh-zeros; places = length-replicate {A = ℕ} 4096 0 }
+
+-- ---- a trial's answer, by what the opening answers
+
+module _ (j : Job) (bytes : List ℕ) (start : ℕ) (table path : List ℕ) where
+  pub trial-refused : (v : Verdict) (f : Refusal) → v ≡ openTrial j bytes start table path → v ≡ Vd.Refused f → IsTrial (trial j bytes start table path) (Td.Refused f) table path
+  unfolding trial
+  trial-refused v f judged e =
+      let o = ap (λ u. trialOf u j bytes (ride j bytes start table path) table path) (sym judged ∙ e) in
+      record { answer-is = ap (λ u. saysTried (u .answer)) (sym o); table-is = ap (λ u. u .table) (sym o); path-is = ap (λ u. u .path) (sym o) }
+
+  pub trial-made : (v : Verdict) (r : Report) (t p : List ℕ) → v ≡ openTrial j bytes start table path → v ≡ Vd.Done → Rode j bytes (ride j bytes start table path) r t p
+      → IsTrial (trial j bytes start table path) (Td.Made r) t p
+  trial-made v r t p judged e d =
+      let o = trial-is-made j bytes start table path (sym judged ∙ e) in
+      record {
+        answer-is = ap (λ x. saysTried (Td.Made x)) (d .record-is) ∙ ap (λ u. saysTried (u .answer)) (sym o);
+        table-is = d .table-is ∙ ap (λ u. u .table) (sym o);
+        path-is = d .path-is ∙ ap (λ u. u .path) (sym o);
+      }

@@ -1,0 +1,4 @@
+pub mod Lending
+pub mod Course
+pub mod Legs
+pub mod Driving
