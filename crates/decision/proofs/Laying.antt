@@ -41,6 +41,10 @@ laid-in moves way part from n d p e h l =
     rest : List ℕ
     rest = drop from moves
 
+-- the part that a decision lends on
+pub part-long : (moves : List ℕ) (from : ℕ) → from + 288 ≤ length moves → 288 ≤ length (take (from + 288 - from) (drop from moves))
+part-long moves from h = omega (arith, length-take-le (from + 288 - from) (drop from moves) (omega (arith, length-drop from moves)))
+
 -- the route as it is traced into the part
 pub lays : {j : Job} {bytes : List ℕ} {s x n : ℕ} {part : List ℕ} (moves : List ℕ) (from d : ℕ) → Traced j bytes s x (take d (drop from moves)) part n
     → from + d ≤ length moves → 11 ≤ d → Lays moves from (movesTo j bytes s x) (take from moves ++ (part ++ drop d (drop from moves))) n

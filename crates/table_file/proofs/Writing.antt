@@ -132,6 +132,9 @@ module _ (f : Floor) (q : ℕ) (gs table : List ℕ) (count room : ℕ) (c : cou
   unfolding fileRoom
   roomy h = simp (le-leb (length (fileOf f q gs table)) room (omega (arith, length-file f q gs table)))
 
+pub ample : (f : Floor) (q : ℕ) (gs table : List ℕ) (n room : ℕ) → n ≡ size f → 16 + 6 * n ≤ room → fileRoom (length (fileOf f q gs table)) room ≡ Vd.Done
+ample f q gs table n room e h = roomy f q gs table (length (changed f q gs table (size f) 0)) room refl (omega (arith, changed-few f q gs table (size f) 0))
+
 -- the trailer's two parts after the records are the whole file
 pub whole : (f : Floor) (q goal n : ℕ) (table b₀ b₁ b₂ b₃ : List ℕ)
     → n ≡ length (changed f q (goal ∷ []) table (size f) 0) → b₁ ≡ recordsOf table (changed f q (goal ∷ []) table (size f) 0) ++ drop (6 * n) b₀

@@ -237,7 +237,7 @@ fn passes(v: Verdict) -> bool
 }
 
 // 1, 3 and 4 as the table calls judge them.
-pub fn judge_open(
+fn judge_open(
     width: usize,
     height: usize,
     goal: usize,
@@ -274,14 +274,7 @@ fn opening_of(
 }
 
 // Every cell's opening figure.
-pub fn fill_opening(
-    width: usize,
-    height: usize,
-    goal: usize,
-    q: usize,
-    floor: &[u8],
-    table: &mut [u32],
-)
+fn fill_opening(width: usize, height: usize, goal: usize, q: usize, floor: &[u8], table: &mut [u32])
     requires { ⌜ Opened (flat width height (now floor)) q goal ⌝ ∗ ⌜ length (now table) ≡ width * height ⌝ }
     ensures { λ _. ⌜ now (table .exit) ≡ openingTable (flat width height (now (floor .entry))) q (goal ∷ []) ⌝ }
 {
@@ -513,6 +506,10 @@ fn judge_write(
     let u = judge_unlike(width, height, goal, q, floor, table);
     if !passes(u) {
         return u;
+    }
+    // Room for a record of every cell needs no count.
+    if 16 + 6 * table.len() <= room {
+        return Verdict::Done;
     }
     let count = count_changed(width, height, goal, q, floor, table);
     if room < 16 + 6 * count {

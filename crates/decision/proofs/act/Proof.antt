@@ -8,10 +8,14 @@ use Rattle.decision.proofs.act.Tie as tie
 
 returns : tie.Need-returns
 returns c =
-    (acts-as _ _ (act-here _ _ _ _ _ (c .before .before .before .before .before .before .before .before .before .before .before .pre .0 .here) (c .if1 .taken)) (acts-arrived _ _ _ _ _ _), record { fresh = c .before .before .before .before .before .before .before .before .before .before .before .pre .1 .0; places = c .before .before .before .before .before .before .before .before .before .before .before .pre .1 .1 })
+    let start = c .before .before .before .before .before .before .before .before .before .before .before in
+    (acts-as _ _ (act-here _ _ _ _ _ (start .pre .0 .here) (c .if1 .taken)) (acts-arrived _ _ _ _ _ _), record { fresh = start .pre .1 .0; places = start .pre .1 .1 })
 
 go-requires : tie.Need-go-requires
-go-requires c κs = (c .before .before .before .before .before .before .before .before .before .before .before .before .before .before .before .before .before .before .pre .0, (asked (c .before .before .before .before .before .before .before .before .before .before .before .before .before .before .before .before .before .before .pre .0) (c .before .before .before .before .before .before .before .if1 .left), (c .before .before .before .before .before .before .before .before .before .before .before .before .before .before .before .before .before .before .pre .1 .0, c .before .before .before .before .before .before .before .before .before .before .before .before .before .before .before .before .before .before .pre .1 .1)))
+go-requires c κs =
+    let at-if1 = c .before .before .before .before .before .before .before in
+    let start = at-if1 .before .before .before .before .before .before .before .before .before .before .before in
+    (start .pre .0, (asked (start .pre .0) (at-if1 .if1 .left), (start .pre .1 .0, start .pre .1 .1)))
 
 renew-requires : tie.Need-renew-requires
 renew-requires c κs = search needs
@@ -39,8 +43,10 @@ same-length-7 c = search needs
 
 returns-2 : tie.Need-returns-2
 returns-2 c =
-    let l = c .before .before .before .before .before .before .before .before .before .before .before .before .before .before .before .before .before .before .before .go .ensures .1 in
-    (acts-renewed _ _ _ (c .before .before .before .before .before .before .before .before .before .before .before .before .before .before .before .before .before .before .before .go .ensures .0), record { fresh = renewed (l .used) (c .before .before .before .renew .ensures); places = l .places })
+    let at-renew = c .before .before .before in
+    let at-go = at-renew .before .before .before .before .before .before .before .before .before .before .before .before .before .before .before .before in
+    let l = at-go .go .ensures .1 in
+    (acts-renewed _ _ _ (at-go .go .ensures .0), record { fresh = renewed (l .used) (at-renew .renew .ensures); places = l .places })
 
 pub act-spec : {M : Type 1} → statement M
 act-spec =

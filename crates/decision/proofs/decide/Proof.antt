@@ -24,8 +24,10 @@ slice-aggregate-decide-past c = search needs
 
 decide-past-requires : tie.Need-decide-past-requires
 decide-past-requires c κs =
-    let v = c .before .before .before .before .before .before .before .judge .ensures in
-    (ready _ _ _ _ _ _ _ (sym (v .verdict) ∙ c .before .before .before .before .enum-told .given .1), v .places (c .before .before .before .before .enum-told .given .1))
+    let at-enum-told = c .before .before .before .before in
+    let at-judge = at-enum-told .before .before .before in
+    let v = at-judge .judge .ensures in
+    (ready _ _ _ _ _ _ _ (sym (v .verdict) ∙ at-enum-told .enum-told .given .1), v .places (at-enum-told .enum-told .given .1))
 
 same-length : tie.Need-same-length
 same-length c = search needs
@@ -46,7 +48,11 @@ same-length-5 : tie.Need-same-length-5
 same-length-5 c = search needs
 
 returns-2 : tie.Need-returns-2
-returns-2 c = decides-past _ _ _ _ _ _ _ (sym (c .before .before .before .before .before .before .before .before .before .before .before .before .before .before .before .judge .ensures .verdict) ∙ c .before .before .before .before .before .before .before .before .before .before .before .before .enum-told .given .1) (c .before .before .before .before .before .before .before .decide-past .ensures)
+returns-2 c =
+    let at-decide-past = c .before .before .before .before .before .before .before in
+    let at-enum-told = at-decide-past .before .before .before .before .before in
+    let at-judge = at-enum-told .before .before .before in
+    decides-past _ _ _ _ _ _ _ (sym (at-judge .judge .ensures .verdict) ∙ at-enum-told .enum-told .given .1) (at-decide-past .decide-past .ensures)
 
 pub decide-spec : {M : Type 1} → statement M
 decide-spec =

@@ -15,7 +15,9 @@ slice-aggregate-act-3 : tie.Need-slice-aggregate-act-3
 slice-aggregate-act-3 c = search needs
 
 act-requires : tie.Need-act-requires
-act-requires c κs = (c .before .before .before .before .before .before .before .before .before .before .before .before .pre .0, (fresh-zeros, c .before .before .before .before .before .before .before .before .before .before .before .before .pre .1))
+act-requires c κs =
+    let start = c .before .before .before .before .before .before .before .before .before .before .before .before in
+    (start .pre .0, (fresh-zeros, start .pre .1))
 
 same-length : tie.Need-same-length
 same-length c = search needs
@@ -30,7 +32,9 @@ same-length-4 : tie.Need-same-length-4
 same-length-4 c = search needs
 
 returns : tie.Need-returns
-returns c = decides-acts _ _ _ _ _ _ _ (c .before .before .before .before .before .before .before .before .before .before .before .before .act .ensures .0)
+returns c =
+    let at-act = c .before .before .before .before .before .before .before .before .before .before .before .before in
+    decides-acts _ _ _ _ _ _ _ (at-act .act .ensures .0)
 
 pub decide-past-spec : {M : Type 1} → statement M
 decide-past-spec =

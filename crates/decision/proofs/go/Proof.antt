@@ -13,7 +13,11 @@ enum-known-last : tie.Need-enum-known-last
 enum-known-last c = search needs
 
 learn-requires : tie.Need-learn-requires
-learn-requires c κs = (c .before .before .before .before .before .before .before .before .before .before .before .before .before .before .before .before .before .before .before .before .before .before .before .before .before .before .before .before .pre .0, (c .before .before .before .before .before .before .before .before .before .before .before .before .before .before .before .before .before .before .before .before .before .before .before .before .before .before .before .before .pre .1 .0, (looked-window _ _ _ _ _ _ _ (c .before .before .before .before .before .before .before .before .before .before .before .before .before .before .before .before .look .ensures) (c .before .before .before .before .before .before .before .before .last .given .1), c .before .before .before .before .before .before .before .before .before .before .before .before .before .before .before .before .before .before .before .before .before .before .before .before .before .before .before .before .pre .1 .1 .1)))
+learn-requires c κs =
+    let at-last = c .before .before .before .before .before .before .before .before in
+    let at-look = at-last .before .before .before .before .before .before .before .before in
+    let start = at-look .before .before .before .before .before .before .before .before .before .before .before .before in
+    (start .pre .0, (start .pre .1 .0, (looked-window _ _ _ _ _ _ _ (at-look .look .ensures) (at-last .last .given .1), start .pre .1 .1 .1)))
 
 enum-told : tie.Need-enum-told
 enum-told c = search needs
@@ -31,10 +35,16 @@ same-length-3 : tie.Need-same-length-3
 same-length-3 c = search needs
 
 same-length-4 : tie.Need-same-length-4
-same-length-4 c = c .before .before .before .before .before .before .before .mark2 .given ∙ c .before .before .before .before .before .before .before .before .before .before .before .before .before .before .before .before .before .before .before .before .before .before .before .before .before .before .before .before .before .before .mark .given
+same-length-4 c =
+    let at-mark2 = c .before .before .before .before .before .before .before in
+    let at-mark = at-mark2 .before .before .before .before .before .before .before .before .before .before .before .before .before .before .before .before .before .before .before .before .before .before .before in
+    at-mark2 .mark2 .given ∙ at-mark .mark .given
 
 same-length-5 : tie.Need-same-length-5
-same-length-5 c = c .before .before .before .before .before .cost2 .given ∙ c .before .before .before .before .before .before .before .before .before .before .before .before .before .before .before .before .before .before .before .before .before .before .before .before .before .before .before .before .cost .given
+same-length-5 c =
+    let at-cost2 = c .before .before .before .before .before in
+    let at-cost = at-cost2 .before .before .before .before .before .before .before .before .before .before .before .before .before .before .before .before .before .before .before .before .before .before .before in
+    at-cost2 .cost2 .given ∙ at-cost .cost .given
 
 same-length-6 : tie.Need-same-length-6
 same-length-6 c = search needs
@@ -44,8 +54,12 @@ same-length-7 c = search needs
 
 returns : tie.Need-returns
 returns c =
-    let v = looked-window _ _ _ _ _ _ _ (c .before .before .before .before .before .before .before .before .before .before .before .before .before .before .before .before .before .before .before .before .before .before .before .before .before .before .before .before .before .before .before .look .ensures) (c .before .before .before .before .before .before .before .before .before .before .before .before .before .before .before .before .before .before .before .before .before .before .before .last .given .1) in
-    (acts-as _ _ (act-full _ _ _ _ _ (c .before .before .before .before .before .before .before .before .before .before .before .before .before .before .before .before .before .before .before .before .before .before .before .before .before .before .before .before .before .before .before .before .before .before .before .before .before .before .before .before .before .before .before .pre .1 .0) v) (c .before .before .before .before .before .before .before .before .before .before .before .before .before .before .learn .ensures .0), c .before .before .before .before .before .before .before .before .before .before .before .before .before .before .learn .ensures .1)
+    let at-learn = c .before .before .before .before .before .before .before .before .before .before .before .before .before .before in
+    let at-last = at-learn .before .before .before .before .before .before .before .before .before in
+    let at-look = at-last .before .before .before .before .before .before .before .before in
+    let start = at-look .before .before .before .before .before .before .before .before .before .before .before .before in
+    let v = looked-window _ _ _ _ _ _ _ (at-look .look .ensures) (at-last .last .given .1) in
+    (acts-as _ _ (act-full _ _ _ _ _ (start .pre .1 .0) v) (at-learn .learn .ensures .0), at-learn .learn .ensures .1)
 
 same-length-8 : tie.Need-same-length-8
 same-length-8 c = search needs
@@ -58,9 +72,12 @@ same-length-10 c = search needs
 
 returns-2 : tie.Need-returns-2
 returns-2 c =
-    let v = looked-empty _ _ _ _ _ _ _ (c .before .before .before .before .before .before .before .before .before .look .ensures) (c .before .enum-told .given .1) in
+    let at-enum-told = c .before in
+    let at-look = at-enum-told .before .before .before .before .before .before .before .before in
+    let start = at-look .before .before .before .before .before .before .before .before .before .before .before .before in
+    let v = looked-empty _ _ _ _ _ _ _ (at-look .look .ensures) (at-enum-told .enum-told .given .1) in
     let q = c .refuse .ensures in
-    (acts-as _ _ (act-empty _ _ _ _ _ (c .before .before .before .before .before .before .before .before .before .before .before .before .before .before .before .before .before .before .before .before .before .pre .1 .0) (v .1)) (acts-refused _ _ _ _ q), leaves-refused q (v .0) (c .before .before .before .before .before .before .before .before .before .before .before .before .before .before .before .before .before .before .before .before .before .pre .1 .1 .1))
+    (acts-as _ _ (act-empty _ _ _ _ _ (start .pre .1 .0) (v .1)) (acts-refused _ _ _ _ q), leaves-refused q (v .0) (start .pre .1 .1 .1))
 
 pub go-spec : {M : Type 1} → statement M
 go-spec =

@@ -26,22 +26,39 @@ refused-requires-2 c κs = search needs
 
 returns-2 : tie.Need-returns-2
 returns-2 c =
-    let a = sym (c .before .before .before .before .refused .ensures) ∙ c .before .before .before .if1 .left in
-    let b = sym (c .before .refused2 .ensures) ∙ c .if2 .taken in
-    judged-refused _ _ _ _ _ _ _ _ _ (pass (c .before .before .before .before .before .lists-fit .ensures) a (stop _ (c .before .before .settings .ensures) b)) b
+    let at-refused2 = c .before in
+    let at-settings = at-refused2 .before in
+    let at-if1 = at-settings .before in
+    let at-refused = at-if1 .before in
+    let at-lists-fit = at-refused .before in
+    let a = sym (at-refused .refused .ensures) ∙ at-if1 .if1 .left in
+    let b = sym (at-refused2 .refused2 .ensures) ∙ c .if2 .taken in
+    judged-refused _ _ _ _ _ _ _ _ _ (pass (at-lists-fit .lists-fit .ensures) a (stop _ (at-settings .settings .ensures) b)) b
 
 places-requires : tie.Need-places-requires
-places-requires c κs = fits _ _ _ _ _ _ (sym (c .before .before .before .before .before .lists-fit .ensures) ∙ done-of _ (sym (c .before .before .before .before .refused .ensures) ∙ c .before .before .before .if1 .left)) .sized
+places-requires c κs =
+    let at-if1 = c .before .before .before in
+    let at-refused = at-if1 .before in
+    let at-lists-fit = at-refused .before in
+    fits _ _ _ _ _ _ (sym (at-lists-fit .lists-fit .ensures) ∙ done-of _ (sym (at-refused .refused .ensures) ∙ at-if1 .if1 .left)) .sized
 
 refused-requires-3 : tie.Need-refused-requires-3
 refused-requires-3 c κs = search needs
 
 returns-3 : tie.Need-returns-3
 returns-3 c =
-    let a = sym (c .before .before .before .before .before .before .before .refused .ensures) ∙ c .before .before .before .before .before .before .if1 .left in
-    let b = sym (c .before .before .before .before .refused2 .ensures) ∙ c .before .before .before .if2 .left in
-    let d = sym (c .before .refused3 .ensures) ∙ c .if3 .taken in
-    judged-refused _ _ _ _ _ _ _ _ _ (pass (c .before .before .before .before .before .before .before .before .lists-fit .ensures) a (pass (c .before .before .before .before .before .settings .ensures) b (stop _ (c .before .before .places .ensures) d))) d
+    let at-refused3 = c .before in
+    let at-places = at-refused3 .before in
+    let at-if2 = at-places .before in
+    let at-refused2 = at-if2 .before in
+    let at-settings = at-refused2 .before in
+    let at-if1 = at-settings .before in
+    let at-refused = at-if1 .before in
+    let at-lists-fit = at-refused .before in
+    let a = sym (at-refused .refused .ensures) ∙ at-if1 .if1 .left in
+    let b = sym (at-refused2 .refused2 .ensures) ∙ at-if2 .if2 .left in
+    let d = sym (at-refused3 .refused3 .ensures) ∙ c .if3 .taken in
+    judged-refused _ _ _ _ _ _ _ _ _ (pass (at-lists-fit .lists-fit .ensures) a (pass (at-settings .settings .ensures) b (stop _ (at-places .places .ensures) d))) d
 
 figures-requires : tie.Need-figures-requires
 figures-requires c κs = search needs
@@ -51,32 +68,63 @@ refused-requires-4 c κs = search needs
 
 returns-4 : tie.Need-returns-4
 returns-4 c =
-    let a = sym (c .before .before .before .before .before .before .before .before .before .before .refused .ensures) ∙ c .before .before .before .before .before .before .before .before .before .if1 .left in
-    let b = sym (c .before .before .before .before .before .before .before .refused2 .ensures) ∙ c .before .before .before .before .before .before .if2 .left in
-    let d = sym (c .before .before .before .before .refused3 .ensures) ∙ c .before .before .before .if3 .left in
-    let e = sym (c .before .refused4 .ensures) ∙ c .if4 .taken in
-    let f = fits _ _ _ _ _ _ (sym (c .before .before .before .before .before .before .before .before .before .before .before .lists-fit .ensures) ∙ done-of _ a) in
+    let at-refused4 = c .before in
+    let at-figures = at-refused4 .before in
+    let at-if3 = at-figures .before in
+    let at-refused3 = at-if3 .before in
+    let at-places = at-refused3 .before in
+    let at-if2 = at-places .before in
+    let at-refused2 = at-if2 .before in
+    let at-settings = at-refused2 .before in
+    let at-if1 = at-settings .before in
+    let at-refused = at-if1 .before in
+    let at-lists-fit = at-refused .before in
+    let a = sym (at-refused .refused .ensures) ∙ at-if1 .if1 .left in
+    let b = sym (at-refused2 .refused2 .ensures) ∙ at-if2 .if2 .left in
+    let d = sym (at-refused3 .refused3 .ensures) ∙ at-if3 .if3 .left in
+    let e = sym (at-refused4 .refused4 .ensures) ∙ c .if4 .taken in
+    let f = fits _ _ _ _ _ _ (sym (at-lists-fit .lists-fit .ensures) ∙ done-of _ a) in
     judged-refused _ _ _ _ _ _ _ _ _
-    (pass (c .before .before .before .before .before .before .before .before .before .before .before .lists-fit .ensures) a (pass (c .before .before .before .before .before .before .before .before .settings .ensures) b (pass (c .before .before .before .before .before .places .ensures) d (stop _ (c .before .before .figures .ensures _ (sym (f .figures-are))) e)))) e
+    (pass (at-lists-fit .lists-fit .ensures) a (pass (at-settings .settings .ensures) b (pass (at-places .places .ensures) d (stop _ (at-figures .figures .ensures _ (sym (f .figures-are))) e)))) e
 
 state-holds-requires : tie.Need-state-holds-requires
 state-holds-requires c κs =
-    let f = fits _ _ _ _ _ _ (sym (c .before .before .before .before .before .before .before .before .before .before .before .before .lists-fit .ensures) ∙ done-of _ (sym (c .before .before .before .before .before .before .before .before .before .before .before .refused .ensures) ∙ c .before .before .before .before .before .before .before .before .before .before .if1 .left)) in
-    (f .sized, (settings-judges _ .gives (sym (c .before .before .before .before .before .before .before .before .before .settings .ensures) ∙ done-of _ (sym (c .before .before .before .before .before .before .before .before .refused2 .ensures) ∙ c .before .before .before .before .before .before .before .if2 .left)), (f .path, c .before .before .before .before .before .before .before .before .before .before .before .before .before .before .before .before .before .pre)))
+    let at-if2 = c .before .before .before .before .before .before .before in
+    let at-refused2 = at-if2 .before in
+    let at-settings = at-refused2 .before in
+    let at-if1 = at-settings .before in
+    let at-refused = at-if1 .before in
+    let at-lists-fit = at-refused .before in
+    let start = at-lists-fit .before .before .before .before .before in
+    let f = fits _ _ _ _ _ _ (sym (at-lists-fit .lists-fit .ensures) ∙ done-of _ (sym (at-refused .refused .ensures) ∙ at-if1 .if1 .left)) in
+    (f .sized, (settings-judges _ .gives (sym (at-settings .settings .ensures) ∙ done-of _ (sym (at-refused2 .refused2 .ensures) ∙ at-if2 .if2 .left)), (f .path, start .pre)))
 
 same-length : tie.Need-same-length
 same-length c = search needs
 
 returns-5 : tie.Need-returns-5
 returns-5 c =
-    let a = sym (c .before .before .before .before .before .before .before .before .before .before .before .before .before .before .refused .ensures) ∙ c .before .before .before .before .before .before .before .before .before .before .before .before .before .if1 .left in
-    let b = sym (c .before .before .before .before .before .before .before .before .before .before .before .refused2 .ensures) ∙ c .before .before .before .before .before .before .before .before .before .before .if2 .left in
-    let d = sym (c .before .before .before .before .before .before .before .before .refused3 .ensures) ∙ c .before .before .before .before .before .before .before .if3 .left in
-    let e = sym (c .before .before .before .before .before .refused4 .ensures) ∙ c .before .before .before .before .if4 .left in
-    let f = fits _ _ _ _ _ _ (sym (c .before .before .before .before .before .before .before .before .before .before .before .before .before .before .before .lists-fit .ensures) ∙ done-of _ a) in
+    let at-state-holds = c .before .before in
+    let at-if4 = at-state-holds .before .before in
+    let at-refused4 = at-if4 .before in
+    let at-figures = at-refused4 .before in
+    let at-if3 = at-figures .before in
+    let at-refused3 = at-if3 .before in
+    let at-places = at-refused3 .before in
+    let at-if2 = at-places .before in
+    let at-refused2 = at-if2 .before in
+    let at-settings = at-refused2 .before in
+    let at-if1 = at-settings .before in
+    let at-refused = at-if1 .before in
+    let at-lists-fit = at-refused .before in
+    let a = sym (at-refused .refused .ensures) ∙ at-if1 .if1 .left in
+    let b = sym (at-refused2 .refused2 .ensures) ∙ at-if2 .if2 .left in
+    let d = sym (at-refused3 .refused3 .ensures) ∙ at-if3 .if3 .left in
+    let e = sym (at-refused4 .refused4 .ensures) ∙ at-if4 .if4 .left in
+    let f = fits _ _ _ _ _ _ (sym (at-lists-fit .lists-fit .ensures) ∙ done-of _ a) in
     judged-checked _ _ _ _ _ _ _ _ _
-    (λ v. pass (c .before .before .before .before .before .before .before .before .before .before .before .before .before .before .before .lists-fit .ensures) a (pass (c .before .before .before .before .before .before .before .before .before .before .before .before .settings .ensures) b (pass (c .before .before .before .before .before .before .before .before .before .places .ensures) d (pass (c .before .before .before .before .before .before .figures .ensures _ (sym (f .figures-are))) e v))))
-    (c .before .before .state-holds .ensures)
+    (λ v. pass (at-lists-fit .lists-fit .ensures) a (pass (at-settings .settings .ensures) b (pass (at-places .places .ensures) d (pass (at-figures .figures .ensures _ (sym (f .figures-are))) e v))))
+    (at-state-holds .state-holds .ensures)
 
 pub judge-spec : {M : Type 1} → statement M
 judge-spec =

@@ -27,9 +27,14 @@ refused-requires-2 c κs = search needs
 returns-2 : tie.Need-returns-2
 unfolding listsFit
 returns-2 c =
-    let a = sym (c .before .before .before .before .refused .ensures) ∙ c .before .before .before .if1 .left in
-    pass (c .before .before .before .before .before .sizes .ensures) a
-    (stop _ (c .before .before .path-room .ensures _ (sym (sizes-judges _ _ .gives (sym (c .before .before .before .before .before .sizes .ensures) ∙ done-of _ a) .1))) (sym (c .before .refused2 .ensures) ∙ c .if2 .taken))
+    let at-refused2 = c .before in
+    let at-path-room = at-refused2 .before in
+    let at-if1 = at-path-room .before in
+    let at-refused = at-if1 .before in
+    let at-sizes = at-refused .before in
+    let a = sym (at-refused .refused .ensures) ∙ at-if1 .if1 .left in
+    pass (at-sizes .sizes .ensures) a
+    (stop _ (at-path-room .path-room .ensures _ (sym (sizes-judges _ _ .gives (sym (at-sizes .sizes .ensures) ∙ done-of _ a) .1))) (sym (at-refused2 .refused2 .ensures) ∙ c .if2 .taken))
 
 moves-room-requires : tie.Need-moves-room-requires
 moves-room-requires c κs = search needs
@@ -37,10 +42,16 @@ moves-room-requires c κs = search needs
 returns-3 : tie.Need-returns-3
 unfolding listsFit
 returns-3 c =
-    let a = sym (c .before .before .before .before .before .refused .ensures) ∙ c .before .before .before .before .if1 .left in
-    let b = sym (c .before .before .refused2 .ensures) ∙ c .before .if2 .left in
-    pass (c .before .before .before .before .before .before .sizes .ensures) a
-    (pass (c .before .before .before .path-room .ensures _ (sym (sizes-judges _ _ .gives (sym (c .before .before .before .before .before .before .sizes .ensures) ∙ done-of _ a) .1))) b (c .moves-room .ensures))
+    let at-if2 = c .before in
+    let at-refused2 = at-if2 .before in
+    let at-path-room = at-refused2 .before in
+    let at-if1 = at-path-room .before in
+    let at-refused = at-if1 .before in
+    let at-sizes = at-refused .before in
+    let a = sym (at-refused .refused .ensures) ∙ at-if1 .if1 .left in
+    let b = sym (at-refused2 .refused2 .ensures) ∙ at-if2 .if2 .left in
+    pass (at-sizes .sizes .ensures) a
+    (pass (at-path-room .path-room .ensures _ (sym (sizes-judges _ _ .gives (sym (at-sizes .sizes .ensures) ∙ done-of _ a) .1))) b (c .moves-room .ensures))
 
 pub lists-fit-spec : {M : Type 1} → statement M
 lists-fit-spec =

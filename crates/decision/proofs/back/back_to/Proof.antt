@@ -17,22 +17,37 @@ refuse-requires c κs = search needs
 
 returns : tie.Need-returns
 returns c =
+    let at-if1 = c .before in
+    let at-on-last = at-if1 .before in
+    let start = at-on-last .before .before .before .before .before .before in
     let q = c .refuse .ensures in (
-      λ path e. acts-lost _ _ _ _ _ _ path _ _ (c .before .before .before .before .before .before .before .before .pre .1 .1 .1 .6) _ refl 0 _ e (c .before .before .before .before .before .before .before .before .pre .1 .1 .1 .1) (sym (c .before .before .on-last .ensures) ∙ not-true _ (c .before .if1 .taken)) q,
+      λ path e. acts-lost _ _ _ _ _ _ path _ _ (start .pre .1 .1 .1 .6) _ refl 0 _ e (start .pre .1 .1 .1 .1) (sym (at-on-last .on-last .ensures) ∙ not-true _ (at-if1 .if1 .taken)) q,
       (ap (λ (r : Acted). r .base) q, omega (arith, ap (λ (r : Acted). r .state .length) q)),
     )
 
 lay-back-requires : tie.Need-lay-back-requires
-lay-back-requires c κs = (c .before .before .before .before .before .before .before .before .pre .0, (c .before .before .before .before .before .before .before .before .pre .1 .0, (last-near (c .before .before .before .before .before .before .before .before .args .job) (c .before .before .before .before .before .before .before .before .args .floor .now) (c .before .before .before .before .before .before .before .before .args .l) (c .before .before .before .before .before .before .before .before .args .state .current) (sym (c .before .before .on-last .ensures) ∙ not-false _ (c .before .if1 .left)), c .before .before .before .before .before .before .before .before .pre .1 .1 .1 .4)))
+lay-back-requires c κs =
+    let at-if1 = c .before in
+    let at-on-last = at-if1 .before in
+    let start = at-on-last .before .before .before .before .before .before in
+    (start .pre .0, (start .pre .1 .0, (last-near (start .args .job) (start .args .floor .now) (start .args .l) (start .args .state .current) (sym (at-on-last .on-last .ensures) ∙ not-false _ (at-if1 .if1 .left)), start .pre .1 .1 .1 .4)))
 
 leg-requires : tie.Need-leg-requires
-leg-requires c κs = (c .before .before .before .before .before .before .before .before .before .before .before .pre .0, (c .before .before .before .before .before .before .before .before .before .before .before .pre .1 .0, last-near (c .before .before .before .before .before .before .before .before .before .before .before .args .job) (c .before .before .before .before .before .before .before .before .before .before .before .args .floor .now) (c .before .before .before .before .before .before .before .before .before .before .before .args .l) (c .before .before .before .before .before .before .before .before .before .before .before .args .state .current) (sym (c .before .before .before .before .before .on-last .ensures) ∙ not-false _ (c .before .before .before .before .if1 .left))))
+leg-requires c κs =
+    let at-if1 = c .before .before .before .before in
+    let at-on-last = at-if1 .before in
+    let start = at-on-last .before .before .before .before .before .before in
+    (start .pre .0, (start .pre .1 .0, last-near (start .args .job) (start .args .floor .now) (start .args .l) (start .args .state .current) (sym (at-on-last .on-last .ensures) ∙ not-false _ (at-if1 .if1 .left))))
 
 store-requires : tie.Need-store-requires
-store-requires c κs = (c .before .before .before .before .before .before .before .before .before .before .before .before .before .pre .1 .1 .1 .2, c .before .before .before .before .before .before .before .before .before .before .before .before .before .pre .1 .1 .1 .5)
+store-requires c κs =
+    let start = c .before .before .before .before .before .before .before .before .before .before .before .before .before in
+    (start .pre .1 .1 .1 .2, start .pre .1 .1 .1 .5)
 
 sub-t25 : tie.Need-sub-t25
-sub-t25 c = omega (arith, c .before .before .before .before .before .before .before .before .before .before .before .before .before .before .before .before .before .pre .1 .1 .1 .1)
+sub-t25 c =
+    let start = c .before .before .before .before .before .before .before .before .before .before .before .before .before .before .before .before .before in
+    omega (arith, start .pre .1 .1 .1 .1)
 
 same-length : tie.Need-same-length
 same-length c = search needs
@@ -41,11 +56,17 @@ same-length-2 : tie.Need-same-length-2
 same-length-2 c = search needs
 
 returns-2 : tie.Need-returns-2
-returns-2 c = (
-  λ path e. acts-returns _ _ _ _ _ _ path _ _ (c .before .before .before .before .before .before .before .before .before .before .before .before .before .before .before .before .before .pre .1 .1 .1 .6) _ (c .before .before .before .store .ensures) _ _ e (c .before .before .before .before .before .before .before .before .before .before .before .before .before .before .before .before .before .pre .1 .1 .1 .1) _ _ _
-      (sym (c .before .before .before .before .before .before .before .before .before .before .before .on-last .ensures) ∙ not-false _ (c .before .before .before .before .before .before .before .before .before .before .if1 .left)) (c .before .before .before .before .before .before .before .before .lay-back .ensures) (c .before .before .before .before .before .leg .ensures .0),
-  (refl, omega arith),
-)
+returns-2 c =
+    let at-store = c .before .before .before in
+    let at-leg = at-store .before .before in
+    let at-lay-back = at-leg .before .before .before in
+    let at-if1 = at-lay-back .before .before in
+    let at-on-last = at-if1 .before in
+    let start = at-on-last .before .before .before .before .before .before in (
+      λ path e. acts-returns _ _ _ _ _ _ path _ _ (start .pre .1 .1 .1 .6) _ (at-store .store .ensures) _ _ e (start .pre .1 .1 .1 .1) _ _ _
+          (sym (at-on-last .on-last .ensures) ∙ not-false _ (at-if1 .if1 .left)) (at-lay-back .lay-back .ensures) (at-leg .leg .ensures .0),
+      (refl, omega arith),
+    )
 
 pub back-to-spec : {M : Type 1} → statement M
 back-to-spec =

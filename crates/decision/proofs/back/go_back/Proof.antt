@@ -10,14 +10,19 @@ use Rattle.decision.proofs.back.go_back.Statement.{statement}
 use Rattle.decision.proofs.back.go_back.Tie as tie
 
 store-requires : tie.Need-store-requires
-store-requires c κs = (current-in (c .before .before .before .before .before .before .before .before .before .pre .0), c .before .before .before .before .before .before .before .before .before .pre .1 .1 .0)
+store-requires c κs =
+    let start = c .before .before .before .before .before .before .before .before .before in
+    (current-in (start .pre .0), start .pre .1 .1 .0)
 
 same-length : tie.Need-same-length
 same-length c = search needs
 
 returns : tie.Need-returns
 returns c =
-    (acts-stays _ _ _ _ _ _ _ _ _ (c .before .before .before .before .before .before .before .before .before .before .before .before .pre .1 .1 .1) _ (c .before .before .store .ensures) _ (c .before .before .before .before .if1 .taken), (c .before .before .before .before .before .before .before .before .before .before .before .before .pre .1 .0, omega arith))
+    let at-store = c .before .before in
+    let at-if1 = at-store .before .before in
+    let start = at-if1 .before .before .before .before .before .before .before .before in
+    (acts-stays _ _ _ _ _ _ _ _ _ (start .pre .1 .1 .1) _ (at-store .store .ensures) _ (at-if1 .if1 .taken), (start .pre .1 .0, omega arith))
 
 sub-wide16 : tie.Need-sub-wide16
 sub-wide16 c = search needs
@@ -35,16 +40,24 @@ renew-requires : tie.Need-renew-requires
 renew-requires c κs = search needs
 
 look-requires : tie.Need-look-requires
-look-requires c κs = (asked-last (c .before .before .before .before .before .before .before .before .before .before .before .before .before .before .before .before .before .pre .0) (c .before .before .before .before .before .before .before .wide16 .ensures .0) (omega arith), renewed (c .before .before .before .before .before .before .before .before .before .before .before .before .before .before .before .before .before .pre .1 .0) (c .before .before .before .before .before .renew .ensures))
+look-requires c κs =
+    let at-renew = c .before .before .before .before .before in
+    let at-wide16 = at-renew .before .before in
+    let start = at-wide16 .before .before .before .before .before .before .before .before .before .before in
+    (asked-last (start .pre .0) (at-wide16 .wide16 .ensures .0) (omega arith), renewed (start .pre .1 .0) (at-renew .renew .ensures))
 
 enum-known-last : tie.Need-enum-known-last
 enum-known-last c = search needs
 
 back-to-requires : tie.Need-back-to-requires
 back-to-requires c κs =
-    let r = c .before .before .before .before .before .before .before .before .before .before .before .before .before .before .before .before .before .before .before .before .before .before .before .before .before .before .before .before .before .before .before .pre .0 in
-    let v = looked-window _ _ _ _ _ _ _ (c .before .before .before .before .before .before .before .before .before .before .before .before .before .look .ensures) (c .before .before .before .before .before .last .given .1) in
-    (asked-last (c .before .before .before .before .before .before .before .before .before .before .before .before .before .before .before .before .before .before .before .before .before .before .before .before .before .before .before .before .before .before .before .pre .0) (c .before .before .before .before .before .before .before .before .before .before .before .before .before .before .before .before .before .before .before .before .before .wide16 .ensures .0) (omega arith), (v .view, (v .last-is, (omega (arith, v .depth, r .settings .shallow), omega arith, current-in r, table-short r, r .room, c .before .before .before .before .before .before .before .before .before .before .before .before .before .before .before .before .before .before .before .before .before .before .before .before .before .before .before .before .before .before .before .pre .1 .1 .0, c .before .before .before .before .before .before .before .before .before .before .before .before .before .before .before .before .before .before .before .before .before .before .before .before .before .before .before .before .before .before .before .pre .1 .1 .1))))
+    let at-last = c .before .before .before .before .before in
+    let at-look = at-last .before .before .before .before .before .before .before .before in
+    let at-wide16 = at-look .before .before .before .before .before .before .before .before in
+    let start = at-wide16 .before .before .before .before .before .before .before .before .before .before in
+    let r = start .pre .0 in
+    let v = looked-window _ _ _ _ _ _ _ (at-look .look .ensures) (at-last .last .given .1) in
+    (asked-last (start .pre .0) (at-wide16 .wide16 .ensures .0) (omega arith), (v .view, (v .last-is, (omega (arith, v .depth, r .settings .shallow), omega arith, current-in r, table-short r, r .room, start .pre .1 .1 .0, start .pre .1 .1 .1))))
 
 enum-told : tie.Need-enum-told
 enum-told c = search needs
@@ -59,7 +72,10 @@ same-length-3 : tie.Need-same-length-3
 same-length-3 c = search needs
 
 same-length-4 : tie.Need-same-length-4
-same-length-4 c = c .before .before .before .before .before .before .before .before .before .before .before .before .before .before .before .before .before .mark2 .given ∙ c .before .before .before .before .before .before .before .before .before .before .before .before .before .before .before .before .before .before .before .before .before .before .before .mark .given
+same-length-4 c =
+    let at-mark2 = c .before .before .before .before .before .before .before .before .before .before .before .before .before .before .before .before .before in
+    let at-mark = at-mark2 .before .before .before .before .before .before in
+    at-mark2 .mark2 .given ∙ at-mark .mark .given
 
 same-length-5 : tie.Need-same-length-5
 same-length-5 c = search needs
@@ -69,8 +85,12 @@ same-length-6 c = search needs
 
 returns-2 : tie.Need-returns-2
 returns-2 c =
-    let v = looked-window _ _ _ _ _ _ _ (c .before .before .before .before .before .before .before .before .before .before .before .before .before .before .before .before .before .before .look .ensures) (c .before .before .before .before .before .before .before .before .before .before .last .given .1) in
-    (c .before .before .before .before .back-to .ensures .0 _ (c .before .before .before .before .before .before .before .before .before .before .before .before .before .before .before .before .before .before .before .before .before .before .before .before .before .before .wide16 .ensures .0), (used-at (c .before .before .before .before .back-to .ensures .1 .0) (window-used v), c .before .before .before .before .back-to .ensures .1 .1))
+    let at-back-to = c .before .before .before .before in
+    let at-last = at-back-to .before .before .before .before .before .before in
+    let at-look = at-last .before .before .before .before .before .before .before .before in
+    let at-wide16 = at-look .before .before .before .before .before .before .before .before in
+    let v = looked-window _ _ _ _ _ _ _ (at-look .look .ensures) (at-last .last .given .1) in
+    (at-back-to .back-to .ensures .0 _ (at-wide16 .wide16 .ensures .0), (used-at (at-back-to .back-to .ensures .1 .0) (window-used v), at-back-to .back-to .ensures .1 .1))
 
 same-length-7 : tie.Need-same-length-7
 same-length-7 c = search needs
@@ -83,9 +103,13 @@ same-length-9 c = search needs
 
 returns-3 : tie.Need-returns-3
 returns-3 c =
-    let v = looked-empty _ _ _ _ _ _ _ (c .before .before .before .before .before .before .before .before .before .look .ensures) (c .before .enum-told .given .1) in
+    let at-enum-told = c .before in
+    let at-look = at-enum-told .before .before .before .before .before .before .before .before in
+    let at-wide16 = at-look .before .before .before .before .before .before .before .before in
+    let start = at-wide16 .before .before .before .before .before .before .before .before .before .before in
+    let v = looked-empty _ _ _ _ _ _ _ (at-look .look .ensures) (at-enum-told .enum-told .given .1) in
     let q = c .refuse .ensures in (
-      acts-lost _ _ _ _ _ _ _ _ _ (c .before .before .before .before .before .before .before .before .before .before .before .before .before .before .before .before .before .before .before .before .before .before .before .before .before .before .before .pre .1 .1 .1) _ refl 0 _ (c .before .before .before .before .before .before .before .before .before .before .before .before .before .before .before .before .before .wide16 .ensures .0) (omega arith) (lost _ (asked-last (c .before .before .before .before .before .before .before .before .before .before .before .before .before .before .before .before .before .before .before .before .before .before .before .before .before .before .before .pre .0) (c .before .before .before .before .before .before .before .before .before .before .before .before .before .before .before .before .before .wide16 .ensures .0) (omega arith)) (v .1)) q,
+      acts-lost _ _ _ _ _ _ _ _ _ (start .pre .1 .1 .1) _ refl 0 _ (at-wide16 .wide16 .ensures .0) (omega arith) (lost _ (asked-last (start .pre .0) (at-wide16 .wide16 .ensures .0) (omega arith)) (v .1)) q,
       (used-at (ap (λ (r : Acted). r .base) q) (v .0), omega (arith, ap (λ (r : Acted). r .state .length) q)),
     )
 

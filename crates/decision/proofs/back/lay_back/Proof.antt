@@ -3,9 +3,7 @@
 use Prim.Native.Nat.{_+_, _-_}
 use native.Mathlib.Omega.{arith}
 use borrow.Author.Needs.{needs}
-use lib.ListN.{drop, length-drop}
-use lib.Seq.{length-take-le}
-use Rattle.decision.proofs.Laying.{traced-moves, lays-back}
+use Rattle.decision.proofs.Laying.{part-long, traced-moves, lays-back}
 use Rattle.decision.proofs.back.lay_back.Statement.{statement}
 use Rattle.decision.proofs.back.lay_back.Tie as tie
 
@@ -13,7 +11,9 @@ slice-aggregate-trace : tie.Need-slice-aggregate-trace
 slice-aggregate-trace c = search needs
 
 trace-requires : tie.Need-trace-requires
-trace-requires c κs = (c .before .before .before .before .before .pre .0, (c .before .before .before .before .before .pre .1 .0, (c .before .before .before .before .before .pre .1 .1 .0, omega arith)))
+trace-requires c κs =
+    let start = c .before .before .before .before .before in
+    (start .pre .0, (start .pre .1 .0, (start .pre .1 .1 .0, omega arith)))
 
 add-end : tie.Need-add-end
 add-end c = search needs
@@ -31,13 +31,20 @@ part-turn-end : tie.Need-part-turn-end
 part-turn-end c = search needs
 
 turn-requires : tie.Need-turn-requires
-turn-requires c κs = ((omega (arith, c .before .before .before .trace .ensures .few), omega (arith, c .before .before .before .trace .ensures .few, length-take-le (c .before .before .before .before .before .before .before .before .before .args .from + 288 - c .before .before .before .before .before .before .before .before .before .args .from) (drop (c .before .before .before .before .before .before .before .before .before .args .from) (c .before .before .before .before .before .before .before .before .before .args .moves .now)) (omega (arith, length-drop (c .before .before .before .before .before .before .before .before .before .args .from) (c .before .before .before .before .before .before .before .before .before .args .moves .now))))), traced-moves (c .before .before .before .trace .ensures))
+turn-requires c κs =
+    let at-trace = c .before .before .before in
+    let start = at-trace .before .before .before .before .before .before in
+    ((omega (arith, at-trace .trace .ensures .few), omega (arith, at-trace .trace .ensures .few, part-long (start .args .moves .now) (start .args .from) (start .pre .1 .1 .1))), traced-moves (at-trace .trace .ensures))
 
 same-length : tie.Need-same-length
 same-length c = search needs
 
 returns : tie.Need-returns
-returns c = lays-back (c .before .before .before .before .before .before .trace .ensures) (c .before .before .before .before .before .before .before .before .before .before .before .before .args .moves .now) _ (c .before .before .before .before .before .before .before .before .before .before .before .before .args .from) (c .before .before .before .before .before .before .before .before .before .before .before .before .args .from + 288 - c .before .before .before .before .before .before .before .before .before .before .before .before .args .from) (c .before .before .turn .ensures) (omega arith) (omega arith)
+returns c =
+    let at-turn = c .before .before in
+    let at-trace = at-turn .before .before .before .before in
+    let start = at-trace .before .before .before .before .before .before in
+    lays-back (at-trace .trace .ensures) (start .args .moves .now) _ (start .args .from) (start .args .from + 288 - start .args .from) (at-turn .turn .ensures) (omega arith) (omega arith)
 
 pub lay-back-spec : {M : Type 1} → statement M
 lay-back-spec =

@@ -29,10 +29,16 @@ shared-slice-read-opposed : tie.Need-shared-slice-read-opposed Inv-loop μ-loop
 shared-slice-read-opposed c = search needs
 
 opposed-requires : tie.Need-opposed-requires Inv-loop μ-loop
-opposed-requires c κs = c .before .before .before .before .before .pre .1 (c .before .before .before .before .before .args .n - 1 - c .before .before .loop .k) (omega arith)
+opposed-requires c κs =
+    let at-loop = c .before .before in
+    let start = at-loop .before .before .before in
+    start .pre .1 (start .args .n - 1 - at-loop .loop .k) (omega arith)
 
 slice-write-part : tie.Need-slice-write-part Inv-loop μ-loop
-slice-write-part c = omega (arith, ap length (c .before .before .before .loop .inv .1), turn-length (c .before .before .before .before .before .before .args .there .now) (c .before .before .before .before .before .before .args .part .now) (c .before .before .before .before .before .before .args .n) (omega arith) (omega arith) (c .before .before .before .loop .k) (omega arith))
+slice-write-part c =
+    let at-loop = c .before .before .before in
+    let start = at-loop .before .before .before in
+    omega (arith, ap length (at-loop .loop .inv .1), turn-length (start .args .there .now) (start .args .part .now) (start .args .n) (omega arith) (omega arith) (at-loop .loop .k) (omega arith))
 
 add-k : tie.Need-add-k Inv-loop μ-loop
 add-k c = search needs
@@ -41,20 +47,27 @@ loop-less : tie.Need-loop-less Inv-loop μ-loop
 loop-less c = omega arith
 
 loop-again : tie.Need-loop-again Inv-loop μ-loop
-loop-again c = (
-  omega arith,
-  ap₂ (λ p a. set p (c .before .before .before .loop .k) a) (c .before .before .before .loop .inv .1) (c .opposed .ensures)
-      ∙ turn-more (c .before .before .before .before .before .before .args .there .now) (c .before .before .before .before .before .before .args .part .now) (c .before .before .before .before .before .before .args .n) (omega arith) (omega arith) (c .before .before .before .loop .k) (omega arith),
-)
+loop-again c =
+    let at-loop = c .before .before .before in
+    let start = at-loop .before .before .before in (
+      omega arith,
+      ap₂ (λ p a. set p (at-loop .loop .k) a) (at-loop .loop .inv .1) (c .opposed .ensures)
+          ∙ turn-more (start .args .there .now) (start .args .part .now) (start .args .n) (omega arith) (omega arith) (at-loop .loop .k) (omega arith),
+    )
 
 same-length : tie.Need-same-length Inv-loop μ-loop
-same-length c = ap length (c .before .loop .inv .1) ∙ turn-length (c .before .before .before .before .args .there .now) (c .before .before .before .before .args .part .now) (c .before .before .before .before .args .n) (omega arith) (omega arith) (c .before .loop .k) (omega arith)
+same-length c =
+    let at-loop = c .before in
+    let start = at-loop .before .before .before in
+    ap length (at-loop .loop .inv .1) ∙ turn-length (start .args .there .now) (start .args .part .now) (start .args .n) (omega arith) (omega arith) (at-loop .loop .k) (omega arith)
 
 returns : tie.Need-returns Inv-loop μ-loop
 returns c =
-    let e : c .before .loop .k ≡ c .before .before .before .before .args .n = omega arith in
-    c .before .loop .inv .1 ∙ ap (λ k. turned (c .before .before .before .before .args .there .now) (c .before .before .before .before .args .n) k ++ drop k (c .before .before .before .before .args .part .now)) e
-    ∙ turn-all (c .before .before .before .before .args .there .now) (c .before .before .before .before .args .part .now) (c .before .before .before .before .args .n) (omega arith) (omega arith)
+    let at-loop = c .before in
+    let start = at-loop .before .before .before in
+    let e : at-loop .loop .k ≡ start .args .n = omega arith in
+    at-loop .loop .inv .1 ∙ ap (λ k. turned (start .args .there .now) (start .args .n) k ++ drop k (start .args .part .now)) e
+    ∙ turn-all (start .args .there .now) (start .args .part .now) (start .args .n) (omega arith) (omega arith)
 
 pub turn-spec : {M : Type 1} → statement M
 turn-spec =

@@ -30,7 +30,10 @@ same-length : tie.Need-same-length Inv-loop μ-loop
 same-length c = search needs
 
 returns : tie.Need-returns Inv-loop μ-loop
-returns c = walked-fault _ (c .before .before .before .before .before .before .loop .i) (omega arith) (c .before .before .before .stands .ensures) (not-true _ (c .if1 .taken))
+returns c =
+    let at-stands = c .before .before .before in
+    let at-loop = at-stands .before .before .before in
+    walked-fault _ (at-loop .loop .i) (omega arith) (at-stands .stands .ensures) (not-true _ (c .if1 .taken))
 
 add-i : tie.Need-add-i Inv-loop μ-loop
 add-i c = search needs
@@ -40,8 +43,10 @@ loop-less c = omega arith
 
 loop-again : tie.Need-loop-again Inv-loop μ-loop
 loop-again c =
-    let r : c .before .before .before .stands .result ≡ true = not-false _ (c .if1 .left) in
-    (omega arith, below-more _ _ (c .before .before .before .before .before .before .loop .inv .1) (c .before .before .before .stands .ensures .fair r), c .before .before .before .stands .ensures .places r)
+    let at-stands = c .before .before .before in
+    let at-loop = at-stands .before .before .before in
+    let r : at-stands .stands .result ≡ true = not-false _ (c .if1 .left) in
+    (omega arith, below-more _ _ (at-loop .loop .inv .1) (at-stands .stands .ensures .fair r), at-stands .stands .ensures .places r)
 
 same-length-2 : tie.Need-same-length-2 Inv-loop μ-loop
 same-length-2 c = search needs

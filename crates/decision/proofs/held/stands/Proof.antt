@@ -32,13 +32,20 @@ returns-3 : tie.Need-returns-3
 returns-3 c = stands-unfair _ _ (c .before .before .before .before .before .wide16 .ensures .0) (λ f. f .other (c .if3 .taken))
 
 noted-requires : tie.Need-noted-requires
-noted-requires c κs = (omega arith, omega (arith, c .before .before .before .before .before .before .before .before .before .before .before .pre .1 .1 .size, free-place (c .before .before .before .before .before .before .before .before .before .before .before .pre .0) (sym (c .before .before .before .before .before .is-free .ensures) ∙ not-false _ (c .before .before .before .before .if1 .left))))
+noted-requires c κs =
+    let at-if1 = c .before .before .before .before in
+    let at-is-free = at-if1 .before in
+    let start = at-is-free .before .before .before .before .before .before in
+    (omega arith, omega (arith, start .pre .1 .1 .size, free-place (start .pre .0) (sym (at-is-free .is-free .ensures) ∙ not-false _ (at-if1 .if1 .left))))
 
 same-length : tie.Need-same-length
 same-length c = search needs
 
 returns-4 : tie.Need-returns-4
-returns-4 c = stands-again _ _ (c .before .before .before .before .before .before .before .before .wide16 .ensures .0) (sym (c .before .noted .ensures) ∙ c .if4 .taken)
+returns-4 c =
+    let at-noted = c .before in
+    let at-wide16 = at-noted .before .before .before .before .before .before .before in
+    stands-again _ _ (at-wide16 .wide16 .ensures .0) (sym (at-noted .noted .ensures) ∙ c .if4 .taken)
 
 cast-place : tie.Need-cast-place
 cast-place c = search needs
@@ -47,16 +54,27 @@ mul-place : tie.Need-mul-place
 mul-place c = search needs
 
 slice-write-place : tie.Need-slice-write-place
-slice-write-place c = omega (arith, c .before .before .before .before .before .before .before .before .before .before .before .before .before .pre .1 .1 .size, free-place (c .before .before .before .before .before .before .before .before .before .before .before .before .before .pre .0) (sym (c .before .before .before .before .before .before .before .is-free .ensures) ∙ not-false _ (c .before .before .before .before .before .before .if1 .left)))
+slice-write-place c =
+    let at-if1 = c .before .before .before .before .before .before in
+    let at-is-free = at-if1 .before in
+    let start = at-is-free .before .before .before .before .before .before in
+    omega (arith, start .pre .1 .1 .size, free-place (start .pre .0) (sym (at-is-free .is-free .ensures) ∙ not-false _ (at-if1 .if1 .left)))
 
 same-length-2 : tie.Need-same-length-2
 same-length-2 c = search needs
 
 returns-5 : tie.Need-returns-5
 returns-5 c =
-    let free = sym (c .before .before .before .before .before .before .before .is-free .ensures) ∙ not-false _ (c .before .before .before .before .before .before .if1 .left) in
-    stands-new _ _ (c .before .before .before .before .before .before .before .before .wide16 .ensures .0) (c .before .before .before .before .before .before .before .before .before .before .before .before .before .pre .1 .1) (sym (c .before .noted .ensures) ∙ c .if4 .left) (free-place (c .before .before .before .before .before .before .before .before .before .before .before .before .before .pre .0) free)
-    (record { free = free; away = c .before .before .before .before .if2 .left; other = c .before .before .before .if3 .left })
+    let at-noted = c .before in
+    let at-if3 = at-noted .before .before in
+    let at-if2 = at-if3 .before in
+    let at-if1 = at-if2 .before .before in
+    let at-is-free = at-if1 .before in
+    let at-wide16 = at-is-free .before in
+    let start = at-wide16 .before .before .before .before .before in
+    let free = sym (at-is-free .is-free .ensures) ∙ not-false _ (at-if1 .if1 .left) in
+    stands-new _ _ (at-wide16 .wide16 .ensures .0) (start .pre .1 .1) (sym (at-noted .noted .ensures) ∙ c .if4 .left) (free-place (start .pre .0) free)
+    (record { free = free; away = at-if2 .if2 .left; other = at-if3 .if3 .left })
 
 pub stands-spec : {M : Type 1} → statement M
 stands-spec =

@@ -23,10 +23,14 @@ refuse-requires-2 : tie.Need-refuse-requires-2
 refuse-requires-2 c κs = search needs
 
 returns-2 : tie.Need-returns-2
-returns-2 c = checked-refused _ _ (c .before .before .before .before .before .before .before .before .pre .1 .1 .0) (c .refuse2 .ensures) (λ h. omega (arith, h .short, c .before .before .before .before .before .before .before .before .pre .0 .cells))
+returns-2 c =
+    let start = c .before .before .before .before .before .before .before .before in
+    checked-refused _ _ (start .pre .1 .1 .0) (c .refuse2 .ensures) (λ h. omega (arith, h .short, start .pre .0 .cells))
 
 path-holds-requires : tie.Need-path-holds-requires
-path-holds-requires c κs = (c .before .before .before .before .before .before .before .before .pre .0, ((omega (arith, c .before .before .before .before .before .before .before .before .pre .0 .cells), omega (arith, c .before .before .before .before .before .before .before .before .pre .0 .cells, sized-cells (c .before .before .before .before .before .before .before .before .pre .0))), c .before .before .before .before .before .before .before .before .pre .1 .1 .1))
+path-holds-requires c κs =
+    let start = c .before .before .before .before .before .before .before .before in
+    (start .pre .0, ((omega (arith, start .pre .0 .cells), omega (arith, start .pre .0 .cells, sized-cells (start .pre .0))), start .pre .1 .1 .1))
 
 refuse-requires-3 : tie.Need-refuse-requires-3
 refuse-requires-3 c κs = search needs
@@ -35,16 +39,22 @@ same-length : tie.Need-same-length
 same-length c = search needs
 
 returns-3 : tie.Need-returns-3
-returns-3 c = checked-refused _ _ (c .before .before .before .before .before .before .before .before .before .before .before .before .before .pre .1 .1 .0) (c .refuse3 .ensures) (λ h. c .before .before .before .before .path-holds .ensures .fault (not-true _ (c .before .if3 .taken)) (h .sound))
+returns-3 c =
+    let at-if3 = c .before in
+    let at-path-holds = at-if3 .before .before .before in
+    let start = at-path-holds .before .before .before .before .before .before .before .before .before in
+    checked-refused _ _ (start .pre .1 .1 .0) (c .refuse3 .ensures) (λ h. at-path-holds .path-holds .ensures .fault (not-true _ (at-if3 .if3 .taken)) (h .sound))
 
 same-length-2 : tie.Need-same-length-2
 same-length-2 c = search needs
 
 returns-4 : tie.Need-returns-4
 returns-4 c =
+    let at-path-holds = c .before .before .before in
+    let start = at-path-holds .before .before .before .before .before .before .before .before .before in
     let r = not-false _ (c .if3 .left) in
-    checked-done _ (c .before .before .before .before .before .before .before .before .before .before .before .before .pre .1 .1 .0)
-    (record { within = omega arith; short = omega (arith, c .before .before .before .before .before .before .before .before .before .before .before .before .pre .0 .cells); sound = c .before .before .before .path-holds .ensures .sound r }) (c .before .before .before .path-holds .ensures .places r)
+    checked-done _ (start .pre .1 .1 .0)
+    (record { within = omega arith; short = omega (arith, start .pre .0 .cells); sound = at-path-holds .path-holds .ensures .sound r }) (at-path-holds .path-holds .ensures .places r)
 
 pub state-holds-spec : {M : Type 1} → statement M
 state-holds-spec =

@@ -30,7 +30,9 @@ add-noted : tie.Need-add-noted
 add-noted c = search needs
 
 noted-requires : tie.Need-noted-requires
-noted-requires c κs = (omega (arith, c .before .before .before .before .pre .0 .room, length-set (c .before .before .before .before .args .path .now) (c .before .before .before .before .args .n) (c .before .before .before .before .args .current)), omega (arith, c .before .before .before .before .pre .1, c .before .before .before .before .pre .0 .places .size, length-set (c .before .before .before .before .args .place .now) (c .before .before .before .before .args .current) (c .before .before .before .before .args .n)))
+noted-requires c κs =
+    let start = c .before .before .before .before in
+    (omega (arith, start .pre .0 .room, length-set (start .args .path .now) (start .args .n) (start .args .current)), omega (arith, start .pre .1, start .pre .0 .places .size, length-set (start .args .place .now) (start .args .current) (start .args .n)))
 
 mul-wide16 : tie.Need-mul-wide16
 mul-wide16 c = search needs
@@ -48,7 +50,11 @@ same-length-2 : tie.Need-same-length-2
 same-length-2 c = search needs
 
 returns : tie.Need-returns
-returns c = extended-cut _ _ _ _ _ (c .before .before .before .before .before .before .before .before .pre .0) (sym (c .before .before .before .noted .ensures) ∙ c .before .before .if1 .taken) _ (c .wide16 .ensures .0)
+returns c =
+    let at-if1 = c .before .before in
+    let at-noted = at-if1 .before in
+    let start = at-noted .before .before .before .before .before in
+    extended-cut _ _ _ _ _ (start .pre .0) (sym (at-noted .noted .ensures) ∙ at-if1 .if1 .taken) _ (c .wide16 .ensures .0)
 
 add-result : tie.Need-add-result
 add-result c = search needs

@@ -8,16 +8,24 @@ use Rattle.decision.proofs.steps.forward.Statement.{statement}
 use Rattle.decision.proofs.steps.forward.Tie as tie
 
 lay-requires : tie.Need-lay-requires
-lay-requires c κs = (c .before .before .before .before .before .before .before .before .pre .1 .0, (c .before .before .before .before .before .before .before .before .pre .1 .1 .0, (aimed-near (c .before .before .before .before .before .before .before .before .pre .1 .1 .1 .0), c .before .before .before .before .before .before .before .before .pre .0 .room)))
+lay-requires c κs =
+    let start = c .before .before .before .before .before .before .before .before in
+    (start .pre .1 .0, (start .pre .1 .1 .0, (aimed-near (start .pre .1 .1 .1 .0), start .pre .0 .room)))
 
 extend-requires : tie.Need-extend-requires
-extend-requires c κs = (opened (c .before .before .before .before .before .before .before .before .before .before .before .before .before .pre .0) _ (c .before .before .before .before .before .before .before .before .before .before .before .before .before .pre .1 .1 .1 .1 .1), near-place (c .before .before .before .before .before .before .before .before .before .before .before .before .before .pre .1 .0) (aimed-near (c .before .before .before .before .before .before .before .before .before .before .before .before .before .pre .1 .1 .1 .0)))
+extend-requires c κs =
+    let start = c .before .before .before .before .before .before .before .before .before .before .before .before .before in
+    (opened (start .pre .0) _ (start .pre .1 .1 .1 .1 .1), near-place (start .pre .1 .0) (aimed-near (start .pre .1 .1 .1 .0)))
 
 store-requires : tie.Need-store-requires
-store-requires c κs = (current-in (c .before .before .before .before .before .before .before .before .before .before .before .before .before .before .before .before .before .before .before .pre .0), c .before .before .before .before .before .before .before .before .before .before .before .before .before .before .before .before .before .before .before .pre .1 .1 .1 .0 .high)
+store-requires c κs =
+    let start = c .before .before .before .before .before .before .before .before .before .before .before .before .before .before .before .before .before .before .before in
+    (current-in (start .pre .0), start .pre .1 .1 .1 .0 .high)
 
 add-t29 : tie.Need-add-t29
-add-t29 c = record { fits = omega (arith, c .before .before .before .before .before .before .before .before .before .before .before .before .before .before .before .before .before .before .before .before .before .before .before .pre .0 .within, quota-low (c .before .before .before .before .before .before .before .before .before .before .before .before .before .before .before .before .before .before .before .before .before .before .before .pre .0), c .before .before .before .before .before .before .before .before .before .before .before .before .before .before .before .before .before .before .before .before .before .before .before .pre .1 .1 .1 .0 .high, c .before .before .before .before .before .before .before .before .before .before .before .before .before .before .before .before .before .before .before .before .before .before .before .pre .1 .1 .1 .1 .0) }
+add-t29 c =
+    let start = c .before .before .before .before .before .before .before .before .before .before .before .before .before .before .before .before .before .before .before .before .before .before .before in
+    record { fits = omega (arith, start .pre .0 .within, quota-low (start .pre .0), start .pre .1 .1 .1 .0 .high, start .pre .1 .1 .1 .1 .0) }
 
 same-length : tie.Need-same-length
 same-length c = search needs
@@ -32,10 +40,14 @@ same-length-4 : tie.Need-same-length-4
 same-length-4 c = search needs
 
 returns : tie.Need-returns
-returns c = (
-  acts-forward _ _ _ _ _ _ _ _ _ (c .before .before .before .before .before .before .before .before .before .before .before .before .before .before .before .before .before .before .before .before .before .before .before .pre .1 .1 .1 .1 .0) _ (c .before .before .before .store .ensures) _ _ _ _ _ _ _ _ (c .before .before .before .before .before .before .before .before .before .before .before .before .before .before .lay .ensures) (c .before .before .before .before .before .before .before .before .before .extend .ensures) (c .before .before .before .before .before .before .before .before .before .before .before .before .before .before .before .before .before .before .before .before .before .before .before .pre .1 .1 .1 .0 .leg),
-  (refl, c .before .before .before .before .before .before .before .before .before .extend .ensures .places),
-)
+returns c =
+    let at-store = c .before .before .before in
+    let at-extend = at-store .before .before .before .before .before .before in
+    let at-lay = at-extend .before .before .before .before .before in
+    let start = at-lay .before .before .before .before .before .before .before .before .before in (
+      acts-forward _ _ _ _ _ _ _ _ _ (start .pre .1 .1 .1 .1 .0) _ (at-store .store .ensures) _ _ _ _ _ _ _ _ (at-lay .lay .ensures) (at-extend .extend .ensures) (start .pre .1 .1 .1 .0 .leg),
+      (refl, at-extend .extend .ensures .places),
+    )
 
 pub forward-spec : {M : Type 1} → statement M
 forward-spec =

@@ -3,9 +3,7 @@
 use Prim.Native.Nat.{_+_, _-_}
 use native.Mathlib.Omega.{arith}
 use borrow.Author.Needs.{needs}
-use lib.ListN.{drop, length-drop}
-use lib.Seq.{length-take-le}
-use Rattle.decision.proofs.Laying.{lays}
+use Rattle.decision.proofs.Laying.{part-long, lays}
 use Rattle.decision.proofs.steps.lay.Statement.{statement}
 use Rattle.decision.proofs.steps.lay.Tie as tie
 
@@ -22,13 +20,18 @@ part-trace-end : tie.Need-part-trace-end
 part-trace-end c = search needs
 
 trace-requires : tie.Need-trace-requires
-trace-requires c κs = (c .before .before .before .before .before .pre .0, (c .before .before .before .before .before .pre .1 .0, (c .before .before .before .before .before .pre .1 .1 .0, omega (arith, length-take-le (c .before .before .before .before .before .args .from + 288 - c .before .before .before .before .before .args .from) (drop (c .before .before .before .before .before .args .from) (c .before .before .before .before .before .args .moves .now)) (omega (arith, length-drop (c .before .before .before .before .before .args .from) (c .before .before .before .before .before .args .moves .now)))))))
+trace-requires c κs =
+    let start = c .before .before .before .before .before in
+    (start .pre .0, (start .pre .1 .0, (start .pre .1 .1 .0, omega (arith, part-long (start .args .moves .now) (start .args .from) (start .pre .1 .1 .1)))))
 
 same-length : tie.Need-same-length
 same-length c = search needs
 
 returns : tie.Need-returns
-returns c = lays (c .before .before .before .before .before .before .before .before .args .moves .now) (c .before .before .before .before .before .before .before .before .args .from) (c .before .before .before .before .before .before .before .before .args .from + 288 - c .before .before .before .before .before .before .before .before .args .from) (c .before .before .trace .ensures) (omega arith) (omega arith)
+returns c =
+    let at-trace = c .before .before in
+    let start = at-trace .before .before .before .before .before .before in
+    lays (start .args .moves .now) (start .args .from) (start .args .from + 288 - start .args .from) (at-trace .trace .ensures) (omega arith) (omega arith)
 
 pub lay-spec : {M : Type 1} → statement M
 lay-spec =

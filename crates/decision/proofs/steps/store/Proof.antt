@@ -31,7 +31,10 @@ same-length : tie.Need-same-length
 same-length c = search needs
 
 returns-2 : tie.Need-returns-2
-returns-2 c = store-new (c .before .before .before .before .args .table .now) (c .before .before .before .before .args .cell) (c .before .before .before .before .args .figure) (c .before .wide32 .result) (c .before .wide32 .ensures .0) (omega arith)
+returns-2 c =
+    let at-wide32 = c .before in
+    let start = at-wide32 .before .before .before in
+    store-new (start .args .table .now) (start .args .cell) (start .args .figure) (at-wide32 .wide32 .result) (at-wide32 .wide32 .ensures .0) (omega arith)
 
 pub store-spec : {M : Type 1} → statement M
 store-spec =

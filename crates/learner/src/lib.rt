@@ -1,0 +1,23 @@
+// The library's public calls and the types that they take and give, all in one place; nothing else is public.
+pub use answers::Answer;
+pub use answers::Decided;
+pub use answers::FloorRead;
+pub use answers::Job;
+pub use answers::Place;
+pub use answers::Ran;
+pub use answers::Refusal;
+pub use answers::Report;
+pub use answers::State;
+pub use answers::Tried;
+pub use answers::Verdict;
+pub use answers::Written;
+pub use decision::decide;
+pub use floor_text::read_floor;
+pub use opening::fill_opening;
+pub use opening::open;
+pub use run::run;
+pub use run::trial;
+pub use table_file::check_trailer;
+pub use table_file::find_records;
+pub use table_file::read_table;
+pub use table_file::write_table;
