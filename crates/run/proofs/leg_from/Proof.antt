@@ -3,7 +3,7 @@
 use borrow.Author.Needs.{needs}
 use Rattle.learning.specs.Ground.{legOf}
 use Rattle.model.proofs.Accepted.{never}
-use Rattle.decision.proofs.Acting.{looked-window, looked-empty, renewed}
+use Rattle.decision.proofs.Acting.{looked-window, looked-empty}
 use Rattle.run.proofs.leg_from.Statement.{statement}
 use Rattle.run.proofs.leg_from.Tie as tie
 
