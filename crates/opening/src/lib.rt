@@ -272,7 +272,7 @@ fn reports_room(trials: usize, records: usize) -> Verdict
 }
 
 // 3: trials 1 to 1,000.
-fn trials_hold(trials: usize) -> Verdict
+pub fn trials_hold(trials: usize) -> Verdict
     ensures { λ r. ⌜ r ≡ trialsHold trials ⌝ }
 {
     if trials < 1 {

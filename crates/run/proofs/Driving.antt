@@ -71,6 +71,10 @@ module _ (j : Job) (bytes : List ℕ) (start : ℕ) (table₀ path₀ : List ℕ
     path-is = refl;
   }
 
+  pub begins-at : begins .at ≡ begun start table₀ path₀
+  unfolding begins
+  begins-at = refl
+
   module _ {s : State} {decisions learned travel : ℕ} {table path : List ℕ} (g : Driving j bytes start table₀ path₀ s decisions learned travel table path) where
     -- the counts fit
     pub fits : (decisions < 344642261575249) × (learned ≤ 3757178880) × (travel < 38599933296427888)
@@ -121,6 +125,11 @@ module _ (j : Job) (bytes : List ℕ) (start : ℕ) (table₀ path₀ : List ℕ
         table-is = ap (λ d. d .table) same ∙ sym (a .table);
         path-is = ap (λ d. d .path) same ∙ sym (a .path);
       }
+
+      pub drives-at : {moves moves′ table′ path′ : List ℕ} {from : ℕ} {r : Acted} (a : Acts (act j bytes s table path) moves from r table′ path′ moves′)
+          → drives a .at ≡ next j bytes (g .at)
+      unfolding drives
+      drives-at a = refl
 
       pub lowers : {moves moves′ table′ path′ : List ℕ} {from : ℕ} {r : Acted} → Acts (act j bytes s table path) moves from r table′ path′ moves′
           → yetTo j bytes (r .state) table′ path′ < yetTo j bytes s table path

@@ -70,7 +70,7 @@ fn leg_from(
 }
 
 // Kept cost: the legs along a path of so many cells that leads to the current one, from its end to its start.
-fn kept_cost(
+pub fn kept_cost(
     job: Job,
     floor: &[u8],
     path: &[u16],
@@ -100,12 +100,12 @@ fn kept_cost(
 }
 
 // Where a trial stands after its decisions: the state and the counts, and the next lookahead's base.
-struct Driven {
-    state: State,
-    decisions: u64,
-    learned: u64,
-    travel: u64,
-    base: u32,
+pub struct Driven {
+    pub state: State,
+    pub decisions: u64,
+    pub learned: u64,
+    pub travel: u64,
+    pub base: u32,
 }
 
 // The decisions of a trial, until the goal.
@@ -275,7 +275,7 @@ fn allowed(opened: Verdict, trials: usize) -> usize
 }
 
 // The same after a trial: no more where it learned nothing.
-fn limit_after(limit: usize, r: Report) -> usize
+pub fn limit_after(limit: usize, r: Report) -> usize
     ensures { λ n. ⌜ n ≡ limitAfter limit r ⌝ }
 {
     if r.learned == 0 { 0 } else { limit }

@@ -1,0 +1,71 @@
+-- `journey::tell_all` meets its contract: the laws of the loop are `Course.antt`'s; the trials left fall.
+-- Assumes nothing.
+use Prim.Native.Nat.{_-_}
+use mathlib.Core.Path.{_≡_, refl, sym, _∙_}
+use native.Mathlib.Omega.{arith}
+use lib.ListN.{length}
+use Rattle.run.proofs.Course.{fewer}
+use Rattle.journey.proofs.Course.{Coursing, none-yet, may-tell, one-told, all-told}
+use borrow.Author.Needs.{needs}
+use Rattle.journey.proofs.tell_all.Statement.{statement}
+use Rattle.journey.proofs.tell_all.Tie as tie
+
+abbrev Inv-loop : tie.InvT-loop
+Inv-loop job floor start trials table₀ path₀ out₀ limit₀ made₀ at₀ table path out limit made at =
+    Coursing job floor start trials table₀ path₀ out₀ made limit table path out at × (length table ≡ length table₀) × (length path ≡ length path₀) × (length out ≡ length out₀)
+
+abbrev μ-loop : tie.MeasureT-loop
+μ-loop job floor start trials table₀ path₀ out₀ limit₀ made₀ at₀ table path out limit made at = limit - made
+
+loop-holds : tie.Need-loop-holds Inv-loop μ-loop
+loop-holds c = let a = c .before .before .before .before .pre in (none-yet _ _ _ _ _ _ _ (a .0) (a .1 .0) (a .1 .1) (a .1 .2), refl, refl, refl)
+
+tell-requires : tie.Need-tell-requires Inv-loop μ-loop
+tell-requires c κs = may-tell _ _ _ _ _ _ _ _ _ _ _ _ _ (c .before .before .before .before .loop .inv .0) (c .before .before .before .loop-test .taken)
+
+limit-after-requires : tie.Need-limit-after-requires Inv-loop μ-loop
+limit-after-requires c κs = search needs
+
+add-made : tie.Need-add-made Inv-loop μ-loop
+add-made c = omega (arith, c .before .before .before .before .before .before .before .before .before .before .before .before .before .loop .inv .0 .within)
+
+loop-less : tie.Need-loop-less Inv-loop μ-loop
+loop-less c = omega (arith, c .limit-after .ensures, fewer (c .before .before .before .before .before .before .before .before .before .before .before .before .before .before .before .before .before .before .args .job) (c .before .before .before .before .before .before .before .before .before .before .before .before .before .before .before .before .before .before .args .floor .now) (c .before .before .before .before .before .before .before .before .before .before .before .before .before .before .before .before .before .before .args .start) (c .before .before .before .before .before .before .before .before .before .before .before .before .before .loop .made) (c .before .before .before .before .before .before .before .before .before .before .before .before .before .loop .limit) (c .before .before .before .before .before .before .before .before .tell .result .report) (c .before .before .before .before .before .before .before .before .before .before .before .before .loop-test .taken))
+
+loop-again : tie.Need-loop-again Inv-loop μ-loop
+loop-again c =
+    let i = c .before .before .before .before .before .before .before .before .before .before .before .before .before .loop .inv in
+    (rw (c .limit-after .ensures) (one-told _ _ _ _ _ _ _ _ _ _ _ _ _ (i .0) (c .before .before .before .before .before .before .before .before .before .before .before .before .loop-test .taken) _ _ _ _ (c .before .before .before .before .before .before .before .before .tell .ensures)), c .before .before .before .before .before .before .before .table .given ∙ i .1, c .before .before .before .before .before .path .given ∙ i .2, c .before .before .before .out .given ∙ i .3)
+
+last-line-requires : tie.Need-last-line-requires Inv-loop μ-loop
+last-line-requires c κs = omega (arith, c .before .before .loop .inv .0 .told .room .size, c .before .before .loop .inv .0 .told .room .left)
+
+same-length : tie.Need-same-length Inv-loop μ-loop
+same-length c = c .before .before .before .before .before .loop .inv .1
+
+same-length-2 : tie.Need-same-length-2 Inv-loop μ-loop
+same-length-2 c = c .before .before .before .before .before .loop .inv .2
+
+same-length-3 : tie.Need-same-length-3 Inv-loop μ-loop
+same-length-3 c = c .before .out2 .given ∙ c .before .before .before .before .before .loop .inv .3
+
+returns : tie.Need-returns Inv-loop μ-loop
+returns c = all-told _ _ _ _ _ _ _ _ _ _ _ _ _ (c .before .before .before .before .before .loop .inv .0) (omega arith) _ _ (c .before .before .last-line .ensures)
+
+pub tell-all-spec : {M : Type 1} → statement M
+tell-all-spec =
+    tie.close
+    (tie.spec
+    Inv-loop
+    μ-loop
+    loop-holds
+    tell-requires
+    limit-after-requires
+    add-made
+    loop-less
+    loop-again
+    last-line-requires
+    same-length
+    same-length-2
+    same-length-3
+    returns)
