@@ -1,27 +1,25 @@
 -- Where a run stands between two trials, and that from there it comes to what the model's run comes to.
 -- The run as a loop sees it, trial by trial (`goesOn`), is the model's course, which puts a trial before the course that follows it.
 use Prim.Native.Nat.{ℕ, zero, suc, _+_, _-_, _≤_, _<_}
-use mathlib.Core.Path.{_≡_, refl, sym, ap, subst, _∙_}
+use mathlib.Core.Path.{_≡_, refl, sym, ap, _∙_}
 use mathlib.Core.Bool.{Bool, true, false}
 use mathlib.Core.List.{List, [], _∷_, _++_, map, append-assoc}
 use native.Mathlib.Numerals.{add-one}
-use native.Mathlib.Nat.{add-zero, add-suc, suc-add}
+use native.Mathlib.Nat.{add-zero}
 use native.Mathlib.Omega.{arith}
-use borrow.Author.Tests.{eqb-true, eq-eqb, ne-eqb}
+use borrow.Author.Tests.{ne-eqb}
 use lib.Dec.{eqb}
-use lib.ListN.{length, set, take, drop, getD, length-set, take-append-drop, length-map}
+use lib.ListN.{length, set, take, drop, length-set, take-append-drop, length-map}
 use lib.Seq.{take-suc-set, drop-set-lt, set-split}
 use Rattle.learning.specs.Ground.{pick}
 use Rattle.answers.specs.declared.Job.{Job}
 use Rattle.answers.specs.declared.Report.{Report}
-use Rattle.answers.specs.declared.Refusal.{Refusal}
 use Rattle.answers.specs.declared.Verdict.{Verdict}
 use Rattle.answers.specs.declared.Verdict.the-variants as Vd
-use Rattle.answers.specs.declared.Ran.{Ran}
 use Rattle.answers.specs.declared.Ran.the-variants as Rn
 use Rattle.answers.specs.Says.{saysRan}
 use Rattle.model.specs.Opening.{openTrial, openRun}
-use Rattle.model.specs.Ride.{Ride, ride, report, Course, courseFrom, filedIn, RunOutcome, runOf, run}
+use Rattle.model.specs.Ride.{Ride, ride, report, Course, courseFrom, RunOutcome, runOf, run}
 use Rattle.model.proofs.Openings.{accepted-trial, ready-run}
 use Rattle.model.proofs.Demand.{trial-stays-accepted}
 use Rattle.run.specs.Trials.{none, Rode, IsRun, allowedBy, limitAfter, answered}

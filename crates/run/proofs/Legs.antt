@@ -1,8 +1,7 @@
 -- The legs of a path: each of its cells leads on to the next one, and what they cost is summed from the path's end.
 -- A cell of a trial's path can reach the goal, so its lookahead sees no empty ring; and the next cell is on its last ring.
 use Prim.Native.Nat.{ℕ, zero, suc, _+_, _-_, _*_, _≤_, _<_}
-use mathlib.Core.Path.{_≡_, refl, sym, ap, subst, _∙_}
-use mathlib.Core.Bool.{true, false}
+use mathlib.Core.Path.{_≡_, sym, ap, subst, _∙_}
 use mathlib.Core.List.{List, [], _∷_}
 use native.Mathlib.Omega.{arith}
 use lib.Dec.{T}
@@ -18,7 +17,7 @@ use Rattle.learning.proofs.Never.{ring-met}
 use Rattle.learning.proofs.Look.{walk-inside}
 use Rattle.answers.specs.declared.Job.{Job}
 use Rattle.answers.specs.declared.State.{State}
-use Rattle.model.specs.Floor.{size, free}
+use Rattle.model.specs.Floor.{size}
 use Rattle.model.specs.Checks.{floorOf, groundIn}
 use Rattle.model.specs.Lookahead.{seen, ring}
 use Rattle.model.specs.Grounds.{free-inside}

@@ -1,7 +1,7 @@
 -- `run::run` meets its contract: a walk of its MIR, by hand, with a loop. The table and the path are lent on to `judge` and at each turn to `ride`, the reports to `store_report`, each for a lifetime of the call, and come back (`Lending.antt`).
 -- The invariant and all that it gives are laws of `Course.antt`; all that the walk knows of the callees is that each meets its contract. Assumes nothing.
 use mathlib.Core.Path.{_≡_, refl, sym, _∙_, ap, subst}
-use Prim.Native.Nat.{ℕ, _+_, _-_, _≤_, _<_, _^_}
+use Prim.Native.Nat.{ℕ, _+_, _≤_, _<_, _^_}
 use native.Mathlib.Nat.{lt-of-le-of-lt}
 use native.Mathlib.Omega.{arith}
 use mathlib.Core.Bool.{Bool, true, false}

@@ -1,0 +1,64 @@
+-- `run::put_all` meets its contract: one record more at each turn, by `Counting.antt`.
+-- The measure is what is left of n. Assumes nothing.
+use Prim.Native.Nat.{_≤_, _*_, _-_}
+use mathlib.Core.Path.{_≡_, refl, sym, ap, _∙_}
+use mathlib.Core.List.{_++_}
+use native.Mathlib.Omega.{arith}
+use lib.ListN.{length, take, drop, length-set}
+use Rattle.run.specs.Numbers.{numbers}
+use Rattle.run.proofs.Counting.{written-none, write-more, write-all}
+use Rattle.run.proofs.put_all.Statement.{statement}
+use Rattle.run.proofs.put_all.Tie as tie
+
+abbrev Inv-loop : tie.InvT-loop
+Inv-loop counts₀ n reports i₀ counts i = (i ≤ n) × (length counts ≡ length counts₀) × (counts ≡ numbers (take i reports) ++ drop (i * 4) counts₀)
+
+abbrev μ-loop : tie.MeasureT-loop
+μ-loop counts₀ n reports i₀ counts i = n - i
+
+loop-holds : tie.Need-loop-holds Inv-loop μ-loop
+loop-holds c = (omega arith, refl, sym (written-none _ (c .before .args .t3)))
+
+mul-r : tie.Need-mul-r Inv-loop μ-loop
+mul-r c = omega (arith, c .before .before .before .pre .few)
+
+array-copy-out-r : tie.Need-array-copy-out-r Inv-loop μ-loop
+array-copy-out-r c = omega (arith, c .before .before .before .pre .few)
+
+put-counts-requires : tie.Need-put-counts-requires Inv-loop μ-loop
+put-counts-requires c κs = (omega (arith, c .before .before .before .loop .inv .1, c .before .before .before .before .before .pre .enough), omega (arith, c .before .before .before .before .before .pre .few))
+
+add-i : tie.Need-add-i Inv-loop μ-loop
+add-i c = omega (arith, c .before .before .before .before .before .before .before .before .pre .few)
+
+loop-less : tie.Need-loop-less Inv-loop μ-loop
+loop-less c = omega arith
+
+loop-again : tie.Need-loop-again Inv-loop μ-loop
+loop-again c =
+    let g = c .before .before .before .before .before .before .loop .inv in
+    let e = c .before .before .put-counts .ensures in
+    let l : length (c .before .before .before .before .before .before .before .before .args .t3) ≡ 1001 = c .before .before .before .before .before .before .before .before .good .1 .1 .0 .1 .0 .1 in
+    (omega arith, ap length e ∙ simp length-set (g .1), write-more _ (c .before .before .before .before .before .before .before .before .args .t3) _ (g .2) e refl (omega (arith, l, c .before .before .before .before .before .before .before .before .pre .few)) (omega (arith, c .before .before .before .before .before .before .before .before .pre .enough)))
+
+same-length : tie.Need-same-length Inv-loop μ-loop
+same-length c = c .before .loop .inv .1
+
+returns : tie.Need-returns Inv-loop μ-loop
+returns c = write-all _ _ _ (c .before .loop .i) (c .before .before .before .args .n) (omega arith) (c .before .loop .inv .2)
+
+pub put-all-spec : {M : Type 1} → statement M
+put-all-spec =
+    tie.close
+    (tie.spec
+    Inv-loop
+    μ-loop
+    loop-holds
+    mul-r
+    array-copy-out-r
+    put-counts-requires
+    add-i
+    loop-less
+    loop-again
+    same-length
+    returns)
