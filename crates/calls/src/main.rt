@@ -3,6 +3,7 @@ mod decisions;
 mod files;
 mod jobs;
 mod rooms;
+mod runs;
 mod show;
 mod texts;
 mod trials;
@@ -25,6 +26,7 @@ fn answer(input: &[u8], out: &mut Line) -> usize
         1 => jobs::open(input, c, out),
         2 => decisions::decide(input, c, out),
         3 => trials::trial(input, c, out),
+        4 => runs::run(input, c, out),
         5 => texts::read_floor(input, c, out),
         6 => files::write_table(input, c, out),
         7 => files::read_table(input, c, out),
