@@ -314,7 +314,7 @@ fn call_run(mut arguments: Arguments, most: u64) -> Result<Line, NoLine> {
 
 fn call_read_floor_text(mut arguments: Arguments) -> Result<Line, NoLine> {
     let text: Vec<u8> = arguments.list(BYTE_ROOM)?;
-    let mut buffer: Vec<u8> = arguments.list(CELL_ROOM)?;
+    let mut buffer: Vec<u8> = arguments.list(BYTE_ROOM)?;
     arguments.end()?;
 
     let (refusal, (width, height)) = split(floor_text::read(&text, &mut buffer));

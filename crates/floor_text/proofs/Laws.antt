@@ -225,7 +225,7 @@ module _ (ls part₀ part : List ℕ) (i : ℕ) (g : Stored ls part₀ part i) w
   pub stored-all : (length ls ≤ i) × (length part₀ ≡ length ls) → part ≡ map byteOf ls
   stored-all h = g .so-far ∙ rw (take-all i ls (h .0), drop-of-length-le part₀ {i = i} (omega arith)) (append-nil (map byteOf ls))
 
-length-cells : (w n : ℕ) (t : List ℕ) → n * (w + 1) ≤ length t → length (cellsOf w n t) ≡ n * w
+pub length-cells : (w n : ℕ) (t : List ℕ) → n * (w + 1) ≤ length t → length (cellsOf w n t) ≡ n * w
 unfolding cellsOf
 length-cells w zero t h = omega arith
 length-cells w (suc n) t h =

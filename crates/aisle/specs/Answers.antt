@@ -1,0 +1,43 @@
+-- What the program's functions take and promise: parts of the model's `aisle`, from the inside out.
+use Prim.Native.Nat.{ℕ, _*_, _≤_}
+use mathlib.Core.Path.{_≡_}
+use mathlib.Core.List.{List}
+use lib.ListN.{length}
+use Rattle.answers.specs.declared.Job.{Job}
+use Rattle.answers.specs.declared.Settings.{Settings}
+use Rattle.answers.specs.declared.Verdict.{Verdict}
+use Rattle.answers.specs.declared.Verdict.the-variants as Vd
+use Rattle.model.specs.Basics.{then}
+use Rattle.model.specs.Floor.{Sized, size, openingTable}
+use Rattle.model.specs.Checks.{floorOf, goals, settings}
+use Rattle.model.specs.Opening.{trialsHold, openJob}
+use Rattle.model.specs.Ride.{courseFrom}
+use Rattle.model.specs.Line.{jobIn, refusalLine, courseLines}
+
+-- 3: the line's settings; the sizes of a floor are no part of them
+abbrev pub lineHolds : Settings → Verdict
+lineHolds s = then (settings (jobIn s 1 1)) (trialsHold (s .trials))
+
+-- what is told of a job by what its opening says
+abbrev pub toldOf : Verdict → Job → List ℕ → (start trials : ℕ) → (table path : List ℕ) → List ℕ
+toldOf (Vd.Refused r) j bytes start trials table path = refusalLine r
+toldOf Vd.Done j bytes start trials table path = courseLines j bytes (courseFrom j bytes start trials table path)
+
+-- on the opening table
+abbrev pub openedLines : Job → List ℕ → (start trials : ℕ) → (path : List ℕ) → List ℕ
+openedLines j bytes start trials path =
+    let table = openingTable (floorOf j bytes) (j .q) (goals j) in
+    toldOf (openJob j bytes start table) j bytes start trials table path
+
+-- a floor that is read, and settings that hold
+pub record Readied (j : Job) (bytes : List ℕ) (trials : ℕ) : Type 0 where
+  pub sized : Sized (floorOf j bytes)
+  pub holds : settings j ≡ Vd.Done
+  pub some : 1 ≤ trials
+  pub few : trials ≤ 1000
+
+-- lists with a place for each cell, and the list that is told in
+pub record Lent (j : Job) (bytes table path out : List ℕ) : Type 0 where
+  pub figures : length table ≡ size (floorOf j bytes)
+  pub places : length path ≡ size (floorOf j bytes)
+  pub room : length out ≡ 65536
