@@ -1,9 +1,9 @@
 -- What the program tells is what the model's `aisle` prints: by what the line, the floor text and the opening say.
 -- Assumes nothing.
-use Prim.Native.Nat.{ℕ, zero, suc, _+_, _-_, _*_, _≤_, _<_}
+use Prim.Native.Nat.{ℕ, zero, suc, _+_, _-_, _*_, _≤_}
 use mathlib.Core.Path.{_≡_, refl, sym, ap, subst, _∙_}
 use mathlib.Core.Bool.{Bool, true, false, _&&_}
-use mathlib.Core.Option.{Option, none, some}
+use mathlib.Core.Option.{none, some}
 use mathlib.Core.List.{List, [], _∷_, _++_}
 use native.Mathlib.Nat.{mul-le-mul-right}
 use native.Mathlib.Omega.{arith}
@@ -21,11 +21,11 @@ use Rattle.answers.specs.declared.Verdict.the-variants as Vd
 use Rattle.answers.specs.declared.FloorRead.{FloorRead}
 use Rattle.answers.specs.declared.FloorRead.the-variants as Fr
 use Rattle.answers.proofs.One.{floor-one}
-use Rattle.model.specs.Basics.{choose, between, then, refuseAt, unless}
+use Rattle.model.specs.Basics.{choose, between, then}
 use Rattle.model.specs.Floor.{Floor, Sized, size, free, opening, openingTable}
-use Rattle.model.specs.Checks.{floorOf, goals, sizes, pathRoom, settings, scale, benches, places}
+use Rattle.model.specs.Checks.{floorOf, goals, sizes, settings, scale, benches, places}
 use Rattle.model.specs.Opening.{accepts, openJob, openTrial, openTable, filled, trialsHold}
-use Rattle.model.specs.FloorText.{LF, isDigit, typeAndHeight, andWidth, andMap, begins, sizeIn, widthIn, heightIn, afterHeight, afterWidth, rowsIn, rows, header, cellsOf, floorVerdict, floorFrom, readFloor}
+use Rattle.model.specs.FloorText.{LF, isDigit, typeAndHeight, andWidth, andMap, begins, sizeIn, widthIn, heightIn, afterHeight, afterWidth, rowsIn, header, cellsOf, floorVerdict, floorFrom, readFloor}
 use Rattle.model.specs.Line.{field, placeField, refusalLine, jobIn, readLine, afterLine, judgeAisle, printed, aisle}
 use Rattle.model.proofs.Accepted.{then-next, then-refused, then-done, le-tells, is-tells, and-tells, unless-judges, sizes-judges, path-judges, settings-judges, trials-judges, scale-judges, bench-judges, places-judges}
 use Rattle.model.proofs.Parts.{rest}
@@ -39,7 +39,7 @@ use Rattle.line.specs.Printing.{Printed}
 use Rattle.line.proofs.Decimals.{field-few}
 use Rattle.journey.specs.Telling.{Ended}
 use Rattle.journey.proofs.Telling.{ended}
-use Rattle.aisle.specs.Answers.{lineHolds, toldOf, openedLines, Readied, Lent}
+use Rattle.aisle.specs.Answers.{lineHolds, toldOf, openedLines, Readied}
 
 -- ---- a refusal
 
@@ -72,9 +72,6 @@ told-as {out} {out′} {n = n} e h = subst (λ l. Ended out 0 l out′ n) e h
 -- ---- a job on a floor that is read
 
 module _ (j : Job) (bytes : List ℕ) (start trials : ℕ) (path : List ℕ) (R : Readied j bytes trials) where
-  table : List ℕ
-  table = openingTable (floorOf j bytes) (j .q) (goals j)
-
   long : length (openingTable (floorOf j bytes) (j .q) (goals j)) ≡ size (floorOf j bytes)
   unfolding openingTable
   long = list-length (size (floorOf j bytes)) (opening (floorOf j bytes) (j .q) (goals j))

@@ -1,5 +1,5 @@
 -- What the program's functions take and promise: parts of the model's `aisle`, from the inside out.
-use Prim.Native.Nat.{ℕ, _*_, _≤_}
+use Prim.Native.Nat.{ℕ, _≤_}
 use mathlib.Core.Path.{_≡_}
 use mathlib.Core.List.{List}
 use lib.ListN.{length}

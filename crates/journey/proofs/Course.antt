@@ -1,6 +1,6 @@
 -- Trials told one after another: where a run stands between two of them, and that its lines are those of the model's course.
 -- Assumes nothing.
-use Prim.Native.Nat.{ℕ, zero, suc, _+_, _-_, _≤_, _<_}
+use Prim.Native.Nat.{ℕ, suc, _+_, _-_, _≤_, _<_}
 use mathlib.Core.Path.{_≡_, refl, sym, ap, subst, _∙_}
 use mathlib.Core.Bool.{Bool, true, false}
 use mathlib.Core.List.{List, [], _∷_, _++_, append-assoc, append-nil}
@@ -8,12 +8,12 @@ use native.Mathlib.Decide.{decLe}
 use native.Mathlib.Omega.{arith}
 use borrow.Author.Tests.{eq-eqb, ne-eqb}
 use lib.Dec.{eqb}
-use lib.ListN.{length, take, length-append}
+use lib.ListN.{length, length-append}
 use Rattle.learning.specs.Ground.{pick}
 use Rattle.answers.specs.declared.Job.{Job}
 use Rattle.answers.specs.declared.Verdict.the-variants as Vd
 use Rattle.model.specs.Opening.{openTrial}
-use Rattle.model.specs.Ride.{Ride, ride, report, Course, courseFrom}
+use Rattle.model.specs.Ride.{Ride, ride, report, courseFrom}
 use Rattle.model.specs.FloorText.{LF}
 use Rattle.model.specs.Line.{field, settledWord, trialLine, trialLines, courseLines}
 use Rattle.model.proofs.Rides.{course-none, course-settled, course-again}
@@ -74,9 +74,6 @@ module _ (j : Job) (bytes : List ℕ) (start trials : ℕ) (table₀ path₀ out
   Stands made limit table path out at = Coursing j bytes start trials table₀ path₀ out₀ made limit table path out at
 
   module _ (made limit : ℕ) (table path out : List ℕ) (at : ℕ) (s : Stands made limit table path out at) (h : made < limit) where
-    r : Ride
-    r = ride j bytes start table path
-
     pub may-tell : (openTrial j bytes start table path ≡ Vd.Done) × Room out at
     may-tell = (s .going (omega arith) .1, s .told .room)
 
@@ -84,12 +81,6 @@ module _ (j : Job) (bytes : List ℕ) (start trials : ℕ) (table₀ path₀ out
         → Stands (made + 1) (pick (eqb (ride j bytes start table path .learned) 0) 0 limit) (ride j bytes start table path .table) (ride j bytes start table path .path) out′ at′
     one-more out′ at′ t = by (eqb (ride j bytes start table path .learned) 0) refl
       where
-        o : Ride
-        o = ride j bytes start table path
-
-        k : ℕ
-        k = limit - (made + 1)
-
         g : (made ≤ limit) × (openTrial j bytes start table path ≡ Vd.Done)
             × (courseFrom j bytes start trials table₀ path₀ .rides ≡ s .done ++ courseFrom j bytes start (limit - made) table path .rides)
             × (courseFrom j bytes start trials table₀ path₀ .settled ≡ courseFrom j bytes start (limit - made) table path .settled)
@@ -144,9 +135,6 @@ module _ (j : Job) (bytes : List ℕ) (start trials : ℕ) (table₀ path₀ out
     unfolding courseLines
     lines-are = by (decLe limit 0)
       where
-        c : Course
-        c = courseFrom j bytes start trials table₀ path₀
-
         are : (b : Bool) → courseFrom j bytes start trials table₀ path₀ .rides ≡ s .done → courseFrom j bytes start trials table₀ path₀ .settled ≡ b → eqb limit 0 ≡ b
             → trialLines j bytes (s .done) ++ lastLine (eqb limit 0) made ≡ courseLines j bytes (courseFrom j bytes start trials table₀ path₀)
         are b e f z =

@@ -3,17 +3,16 @@
 use Prim.Native.Nat.{ℕ, zero, suc, _+_, _-_, _*_, _≤_, _<_}
 use mathlib.Core.Path.{_≡_, refl, sym, ap, subst, _∙_}
 use mathlib.Core.Bool.{Bool, true, false, _&&_, _||_}
-use mathlib.Core.List.{List, [], _∷_, _++_, map, append-assoc, append-nil}
+use mathlib.Core.List.{List, [], _∷_, _++_, append-assoc, append-nil}
 use native.Mathlib.Decide.{decLe}
 use native.Mathlib.Omega.{arith}
 use borrow.Author.Tests.{lt-ltb}
 use lib.Dec.{leb, ltb, eqb}
 use lib.ListN.{length, take, drop, getD, length-append, length-drop, drop-of-length-le}
-use lib.Seq.{sets, sets-eq, length-sets, take-at, length-take-le, drop-append-le, drop-drop}
+use lib.Seq.{sets-eq, length-sets, take-at, length-take-le, drop-append-le, drop-drop}
 use Rattle.learning.specs.Path.{All, end, also}
 use Rattle.answers.specs.declared.Job.{Job}
 use Rattle.answers.specs.declared.State.{State}
-use Rattle.answers.specs.declared.Answer.{Answer}
 use Rattle.answers.specs.declared.Report.{Report}
 use Rattle.answers.specs.declared.Verdict.the-variants as Vd
 use Rattle.model.specs.Opening.{openTrial}
@@ -21,11 +20,11 @@ use Rattle.learning.specs.Ground.{View}
 use Rattle.model.specs.Checks.{ceiling}
 use Rattle.model.specs.Lookahead.{seen, ring, emptyRing, newFigure, target}
 use Rattle.model.specs.Decision.{Deed, atGoal, rise, forward, stay, backOut, goBack, learn, act}
-use Rattle.model.specs.Ride.{Ride, begun, next, ride, report}
+use Rattle.model.specs.Ride.{Ride, next, ride, report}
 use Rattle.model.specs.Line.{field, movesField, trialLine}
 use Rattle.model.proofs.Meaning.{goal-means}
 use Rattle.model.proofs.Openings as openings
-use Rattle.model.proofs.Steps.{Says, Does}
+use Rattle.model.proofs.Steps.{Does}
 use Rattle.model.proofs.Rides.{does}
 use Rattle.line.specs.Printing.{Printed, moveDigits, countFields}
 use Rattle.line.proofs.Decimals.{field-few}

@@ -8,8 +8,8 @@ use lib.ListN.{length, take, drop}
 use Rattle.answers.specs.declared.Answer.{Answer}
 use Rattle.answers.specs.declared.Answer.the-variants as A
 use Rattle.answers.specs.declared.Job.{Job}
-use Rattle.model.specs.Ride.{Ride, Course}
-use Rattle.model.specs.Line.{trialLine, courseLines}
+use Rattle.model.specs.Ride.{Ride}
+use Rattle.model.specs.Line.{trialLine}
 use Rattle.line.specs.Printing.{moveDigits}
 use Rattle.run.specs.Trials.{Drove, Rode}
 use Rattle.journey.specs.declared.Way.{Way}

@@ -1,10 +1,8 @@
 -- `aisle::on_floor` meets its contract: the table and the path list are as long as the floor.
 -- Assumes nothing.
 use Prim.Native.Nat.{_*_}
-use mathlib.Core.Path.{sym, _∙_}
+use mathlib.Core.Path.{sym}
 use native.Mathlib.Omega.{arith}
-use lib.ListN.{length, replicate, length-replicate}
-use lib.Seq.{length-take-le}
 use Rattle.aisle.proofs.Answers.{cells-few, long-part, part-told}
 use borrow.Author.Needs.{needs}
 use Rattle.aisle.proofs.on_floor.Statement.{statement}

@@ -3,8 +3,7 @@
 use Prim.Native.Nat.{ℕ}
 use mathlib.Core.Path.{sym}
 use native.Mathlib.Omega.{arith}
-use lib.ListN.{length, replicate, length-replicate}
-use lib.Seq.{length-take-le}
+use lib.ListN.{replicate, length-replicate}
 use Rattle.aisle.proofs.Answers.{refused, read-refused, read-done, text-told, readied, floor-told}
 use borrow.Author.Needs.{needs}
 use Rattle.aisle.proofs.with_text.Statement.{statement}

@@ -1,7 +1,7 @@
 -- `journey::tell_all` meets its contract: the laws of the loop are `Course.antt`'s; the trials left fall.
 -- Assumes nothing.
 use Prim.Native.Nat.{_-_}
-use mathlib.Core.Path.{_≡_, refl, sym, _∙_}
+use mathlib.Core.Path.{_≡_, refl, _∙_}
 use native.Mathlib.Omega.{arith}
 use lib.ListN.{length}
 use Rattle.run.proofs.Course.{fewer}
