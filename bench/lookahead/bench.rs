@@ -159,18 +159,20 @@ fn main() {
     let open = vec![0u8; 4096];
     let racks: Vec<u8> = (0..4096).map(|c| (c % 64 % 3 == 1 && c / 64 % 8 != 0) as u8).collect();
     let mixed: Vec<u8> = (0..4096).map(|_| (random() % 3 == 0) as u8).collect();
+    let small = vec![0u8; 64];
     println!("{:8} {:>5} {:>10} {:>10} {:>6}", "floor", "depth", "proved ns", "plain ns", "ratio");
-    for (name, floor) in [("open", &open), ("racks", &racks), ("random", &mixed)] {
-        let goal = (0..4096).rev().find(|&c| floor[c] == 0).unwrap();
-        let table: Vec<u32> = (0..4096).map(|c: usize| {
-            let (dx, dy) = ((c % 64).abs_diff(goal % 64), (c / 64).abs_diff(goal / 64));
+    for (name, side, floor) in [("open 8", 8, &small), ("open", 64, &open), ("racks", 64, &racks), ("random", 64, &mixed)] {
+        let cells = side * side;
+        let goal = (0..cells).rev().find(|&c| floor[c] == 0).unwrap();
+        let table: Vec<u32> = (0..cells).map(|c: usize| {
+            let (dx, dy) = ((c % side).abs_diff(goal % side), (c / side).abs_diff(goal / side));
             (16 * (14 * dx.min(dy) + 10 * dx.abs_diff(dy))) as u32
         }).collect();
         for depth in [1, 4, 8] {
-            let j = Job { width: 64, height: 64, goal, depth, p: 16, floor, table: &table };
+            let j = Job { width: side, height: side, goal, depth, p: 16, floor, table: &table };
             let (mut a, mut b) = (scratch(), scratch());
-            let mut cells = vec![];
-            for s in 0..4096 {
+            let mut starts = vec![];
+            for s in 0..cells {
                 if floor[s] != 0 || s == goal {
                     continue;
                 }
@@ -181,13 +183,13 @@ fn main() {
                 b.base += 16;
                 assert!(x == y && a.out == b.out, "{name} {depth} {s}: {x} {y}");
                 if x != 0 {
-                    cells.push(s);
+                    starts.push(s);
                 }
             }
             let (mut p, mut q) = (f64::MAX, f64::MAX);
             for _ in 0..5 {
-                p = p.min(time(proved, &j, &cells, &mut a));
-                q = q.min(time(plain, &j, &cells, &mut b));
+                p = p.min(time(proved, &j, &starts, &mut a));
+                q = q.min(time(plain, &j, &starts, &mut b));
             }
             println!("{name:8} {depth:5} {p:10.0} {q:10.0} {:6.2}", p / q);
         }

@@ -1,9 +1,11 @@
-// A whole lookahead for a caller in another language, on plain numbers and lists: what bench/lookahead measures.
+// What the benches measure, for a caller in another language, on plain numbers and lists: a lookahead, an opening, a table read and written.
 ghost use Prim.Native.Nat.{_≤_};
 ghost use lib.ListN.{length};
 ghost use Rattle.lookahead.specs.Contract.{Asked, Fresh, Figures};
 ghost use Rattle.probe.specs.Plain.{plain};
 use answers::Job;
+use answers::Verdict;
+use answers::Written;
 use lookahead::Around;
 
 // The new figure times 2^20, the target times 256 and the number of moves; 0 where a ring is empty.
@@ -48,4 +50,65 @@ pub extern "C" fn probe_plan(
 
 fn packed(figure: usize, target: usize, moves: usize) -> usize {
     figure % 1048576 * 1048576 + target % 4096 * 256 + moves % 256
+}
+
+// The number that opening a job answers.
+#[no_mangle]
+pub extern "C" fn probe_open(
+    width: usize,
+    height: usize,
+    start: usize,
+    goal: usize,
+    q: usize,
+    floor: &[u8],
+    table: &[u32],
+) -> usize {
+    let job = Job {
+        width: width,
+        height: height,
+        goal: goal,
+        depth: 1,
+        p: 1,
+        q: q,
+        quota: 0,
+    };
+    number(opening::open(job, floor, start, table))
+}
+
+// The number that reading a table file answers.
+#[no_mangle]
+pub extern "C" fn probe_read(
+    width: usize,
+    height: usize,
+    goal: usize,
+    q: usize,
+    floor: &[u8],
+    file: &[u8],
+    table: &mut [u32],
+) -> usize {
+    number(table_file::read_table(width, height, goal, q, floor, file, table))
+}
+
+// The length of the table file that is written; 0 where it is refused.
+#[no_mangle]
+pub extern "C" fn probe_write(
+    width: usize,
+    height: usize,
+    goal: usize,
+    q: usize,
+    floor: &[u8],
+    table: &[u32],
+    buffer: &mut [u8],
+) -> usize {
+    match table_file::write_table(width, height, goal, q, floor, table, buffer) {
+        Written::Length(n) => n,
+        Written::Refused(_) => 0,
+    }
+}
+
+fn number(v: Verdict) -> usize {
+    match v {
+        Verdict::Done => 0,
+        Verdict::Refused(r) => r.number,
+    }
 }
