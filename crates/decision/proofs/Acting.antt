@@ -111,12 +111,12 @@ module _ (j : Job) (bytes : List ℕ) (s base : ℕ) (mark cost list : List ℕ)
 pub used-at : {b base : ℕ} {mark cost list : List ℕ} → b ≡ base → Used base mark cost list → Used b mark cost list
 used-at {mark = mark} {cost = cost} {list = list} e u = subst (λ b. Used b mark cost list) (sym e) u
 
--- n is a variable so that the lists are not written out
-zeros-fresh : (n : ℕ) → n ≡ 4096 → Fresh 1 (replicate n 0) (replicate n 0) (replicate n 0)
-zeros-fresh n e = record { marks = marks-zeros n e; costs = length-replicate {A = ℕ} n 0 ∙ e; cells = length-replicate {A = ℕ} n 0 ∙ e }
+-- m and n are variables so that the lists are not written out
+zeros-fresh : (m n : ℕ) → m ≡ 4096 → n ≡ 8192 → Fresh 1 (replicate m 0) (replicate m 0) (replicate n 0)
+zeros-fresh m n d e = record { marks = marks-zeros m d; costs = length-replicate {A = ℕ} m 0 ∙ d; cells = length-replicate {A = ℕ} n 0 ∙ e }
 
-pub fresh-zeros : Fresh 1 (replicate 4096 0) (replicate 4096 0) (replicate 4096 0)
-fresh-zeros = zeros-fresh 4096 refl
+pub fresh-zeros : Fresh 1 (replicate 4096 0) (replicate 4096 0) (replicate 8192 0)
+fresh-zeros = zeros-fresh 4096 8192 refl refl
 
 pub leaves-refused : {r : Acted} {s : State} {number base : ℕ} {mark cost list place path : List ℕ} → r ≡ refusing s number base → Used base mark cost list
     → Places place path (s .length) → Leaves r mark cost list place path

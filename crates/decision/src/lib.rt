@@ -324,7 +324,7 @@ fn decide_past(
 {
     let mut mark = [0u32; 4096];
     let mut cost = [0u16; 4096];
-    let mut list = [0u16; 4096];
+    let mut list = [0u16; 8192];
     let r = act(
         job,
         floor,

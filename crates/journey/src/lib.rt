@@ -249,7 +249,7 @@ pub fn tell(
     let mut moves = [0u8; 288];
     let mut mark = [0u32; 4096];
     let mut cost = [0u16; 4096];
-    let mut list = [0u16; 4096];
+    let mut list = [0u16; 8192];
     let mut place = [0u16; 4096];
     tell_on(
         job,

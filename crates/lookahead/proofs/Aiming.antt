@@ -60,7 +60,8 @@ module _ (j : Job) (bytes : List ℕ) (s : ℕ) (Q : Asked j bytes s) (table : L
 
     pub listing : Listing base mark list n
     listing = record {
-      fits = omega (arith, W .fits, W .room);
+      room = W .room;
+      fits = W .fits;
       early = λ i h. omega (arith, W .view .marks (getD list i 0) (W .cells i h));
       listed = λ x i. W .listed x (near x i);
     }

@@ -1,22 +1,24 @@
--- One cell more gets a mark: what was marked stays, and the new cell's walk is one move longer than that of the cell it is reached from.
+-- One cell more gets a mark, or one cost is lowered, or a cost is noted: what was marked stays, and the walk of the cell that is reached is
+-- one move longer than that of the cell it is reached from.
 -- Assumes nothing.
 use mathlib.Core.Path.{_≡_, refl, ap, sym, _∙_, subst}
 use mathlib.Core.List.{List}
 use mathlib.Core.Bool.{true}
-use Prim.Native.Nat.{ℕ, _+_, _-_, _*_, _≤_, _<_}
+use mathlib.Core.Logic.{_⊎_, inl, inr, ⊎-elim}
+use Prim.Native.Nat.{ℕ, suc, _+_, _-_, _*_, _≤_, _<_}
 use native.Mathlib.Omega.{arith}
-use native.Mathlib.Decide.{decLe}
+use native.Mathlib.Decide.{decLe, decLt}
 use borrow.Author.Count.{below-more}
 use lib.ListN.{length, getD, set, length-set}
 use lib.Seq.{getD-set-same, getD-set-other}
-use Rattle.learning.specs.Walk.{Walk, move}
+use Rattle.learning.specs.Walk.{Walk, move, Leads}
 use Rattle.learning.proofs.Walks.{widen, restate}
 use Rattle.model.specs.Floor.{Floor, Sized, free, price}
 use Rattle.model.specs.Grounds.{price-same}
 use Rattle.floor.specs.declared.Step.the-variants.{To, Wall}
 use Rattle.floor.specs.Moves.{stepOf}
 use Rattle.floor.proofs.Steps.{Stepped, stepped, wall≢to, same-to}
-use Rattle.lookahead.specs.Marks.{net, State, state, markOf, costAt, cellOf, In, Sizes, Room, Spread, Kept, Grew, Reached, Extended, Left, Swept, Out}
+use Rattle.lookahead.specs.Marks.{net, State, state, entered, markOf, costAt, cellOf, noteOf, In, Sizes, Room, Spread, Kept, Grew, Reached, Extended, Left, Swept, Out}
 use Rattle.lookahead.proofs.Blanks.{blanks-pos, blanks-set}
 use Rattle.lookahead.proofs.Stores.{by-store}
 
@@ -26,17 +28,37 @@ edge-back f z c m d v step = let s = stepped f z c m d v step in (omega (arith, 
 
 -- the state with the mark k + 1 and the cost u at d
 abbrev pub grown : (k d u : ℕ) → State → State
-grown k d u S = state (set (S .mark) d (k + 1)) (set (S .cost) d u) (set (S .list) (S .n) d) (S .n + 1)
+grown k d u S = state (set (S .mark) d (k + 1)) (set (S .cost) d u) (entered (S .list) (S .n) d) (S .n + 1)
+
+-- the cells and notes of the list after one more is entered
+module _ (list : List ℕ) (n d : ℕ) (size : length list ≡ 8192) (space : n < 4096) where
+  first-in-list : n < length list
+  first-in-list = omega (arith, size, space)
+
+  second-in-list : n + 4096 < length (set list n d)
+  second-in-list = omega (arith, size, space, length-set list n d)
+
+  pub entered-size : length (entered list n d) ≡ 8192
+  entered-size = simp length-set size
+
+  pub entered-cell : (i : ℕ) → i < n → getD (entered list n d) i 0 ≡ getD list i 0
+  entered-cell i p = getD-set-other (set list n d) (n + 4096) i 65535 0 (λ e. omega arith) ∙ getD-set-other list n i d 0 (λ e. omega arith)
+
+  pub entered-note : (i : ℕ) → i < n → getD (entered list n d) (i + 4096) 0 ≡ getD list (i + 4096) 0
+  entered-note i p = getD-set-other (set list n d) (n + 4096) (i + 4096) 65535 0 (λ e. omega arith) ∙ getD-set-other list n (i + 4096) d 0 (λ e. omega arith)
+
+  pub entered-new : getD (entered list n d) n 0 ≡ d
+  entered-new = getD-set-other (set list n d) (n + 4096) n 65535 0 (λ e. omega arith) ∙ getD-set-same list n d 0 first-in-list
+
+  pub entered-blank : getD (entered list n d) (n + 4096) 0 ≡ 65535
+  entered-blank = getD-set-same (set list n d) (n + 4096) 65535 0 second-in-list
 
 module _
-    (f : Floor) (z : Sized f) (base k c m d v : ℕ) (S : State) (R : Room f base S)
-    (from : markOf S c ≡ k) (pos : base ≤ k) (blank : markOf S d < base) (step : stepOf f c m ≡ To d v)
+    (f : Floor) (z : Sized f) (base k c m d v w : ℕ) (S : State) (R : Room f base S)
+    (from : markOf S c ≡ k) (own : costAt S c ≡ w) (pos : base ≤ k) (step : stepOf f c m ≡ To d v)
   where
     abbrev u : ℕ
-    u = costAt S c + v
-
-    abbrev mark′ : List ℕ
-    mark′ = set (S .mark) d (k + 1)
+    u = w + v
 
     E : Stepped f c m d v
     E = stepped f z c m d v step
@@ -47,101 +69,165 @@ module _
     inside-cost : d < length (S .cost)
     inside-cost = omega (arith, R .sizes .costs, E .few)
 
-    space : S .n < length (S .list)
-    space = omega (arith, R .sizes .cells, R .sizes .count, blanks-pos base (S .mark) d inside blank)
-
-    -- what had a mark has it still
-    other : (x : ℕ) → In base (S .mark) x → x ≡ d → ⊥
-    other x p e = omega (arith, p, blank, ap (markOf S) e)
-
-    marks-kept : (x : ℕ) → In base (S .mark) x → getD mark′ x 0 ≡ markOf S x
-    marks-kept x p = getD-set-other (S .mark) d x (k + 1) 0 (other x p)
-
-    costs-kept : (x : ℕ) → In base (S .mark) x → getD (set (S .cost) d u) x 0 ≡ costAt S x
-    costs-kept x p = getD-set-other (S .cost) d x u 0 (other x p)
-
-    cells-kept : (i : ℕ) → i < S .n → getD (set (S .list) (S .n) d) i 0 ≡ cellOf S i
-    cells-kept i p = getD-set-other (S .list) (S .n) i d 0 (λ e. omega arith)
-
-    mark-new : getD mark′ d 0 ≡ k + 1
-    mark-new = getD-set-same (S .mark) d (k + 1) 0 inside
-
-    cost-new : getD (set (S .cost) d u) d 0 ≡ u
-    cost-new = getD-set-same (S .cost) d u 0 inside-cost
-
-    cell-new : getD (set (S .list) (S .n) d) (S .n) 0 ≡ d
-    cell-new = getD-set-same (S .list) (S .n) d 0 space
-
-    stays-in : (y : ℕ) → In base (S .mark) y → In base mark′ y
-    stays-in y p = rw (marks-kept y p) p
-
     from-in : In base (S .mark) c
     from-in = omega (arith, from, pos)
 
-    grown-sizes : Sizes base (grown k d u S)
-    grown-sizes = record {
-      marks = simp length-set (R .sizes .marks);
-      costs = simp length-set (R .sizes .costs);
-      cells = simp length-set (R .sizes .cells);
-      count = omega (arith, R .sizes .count, blanks-set base (S .mark) d (k + 1) inside blank (omega (arith, pos)));
-    }
+    -- d has no mark yet
+    module _ (blank : markOf S d < base) where
+      abbrev mark′ : List ℕ
+      mark′ = set (S .mark) d (k + 1)
 
-    grown-kept : Kept base S (grown k d u S)
-    grown-kept = record { marks = marks-kept; costs = costs-kept; cells = cells-kept; grows = omega arith }
+      space : S .n < 4096
+      space = omega (arith, R .sizes .count, blanks-pos base (S .mark) d inside blank)
 
-    grown-cheap : (x : ℕ) → In base mark′ x → costAt (grown k d u S) x ≤ 14 * (getD mark′ x 0 - base)
-    grown-cheap x =
-        by-store (λ y. base ≤ y → costAt (grown k d u S) x ≤ 14 * (y - base)) (S .mark) d (k + 1) x inside
-        (λ e p. rw (e, cost-new) (omega (arith, E .most, R .cheap c from-in, from, pos)))
-        (λ n p. rw (costs-kept x p) (R .cheap x p))
+      -- what had a mark has it still
+      other : (x : ℕ) → In base (S .mark) x → x ≡ d → ⊥
+      other x p e = omega (arith, p, blank, ap (markOf S) e)
 
-    grown-free : (x : ℕ) → In base mark′ x → free f x ≡ true
-    grown-free x = by-store (λ y. base ≤ y → free f x ≡ true) (S .mark) d (k + 1) x inside (λ e p. rw e (E .free)) (λ n p. R .free x p)
+      marks-kept : (x : ℕ) → In base (S .mark) x → getD mark′ x 0 ≡ markOf S x
+      marks-kept x p = getD-set-other (S .mark) d x (k + 1) 0 (other x p)
 
-    grown-room : Room f base (grown k d u S)
-    grown-room = record { sizes = grown-sizes; free = grown-free; cheap = grown-cheap }
+      costs-kept : (x : ℕ) → In base (S .mark) x → getD (set (S .cost) d u) x 0 ≡ costAt S x
+      costs-kept x p = getD-set-other (S .cost) d x u 0 (other x p)
 
-    -- for each s and each start of the ring
-    module _ (s to : ℕ) (G : Spread f s base (k + 1) to S) where
-      grown-top : (x : ℕ) → getD mark′ x 0 ≤ k + 1
-      grown-top x = by-store (λ y. y ≤ k + 1) (S .mark) d (k + 1) x inside (λ e. omega arith) (λ n. G .top x)
+      cells-kept : (i : ℕ) → i < S .n → cellOf (grown k d u S) i ≡ cellOf S i
+      cells-kept = entered-cell (S .list) (S .n) d (R .sizes .cells) space
 
-      new-walk : Walk (net f) (In base mark′) d s u (k + 1 - base)
-      new-walk =
-          restate (omega arith) (omega (arith, from, pos))
-          (move (rw mark-new (omega (arith, pos))) (edge-back f z c m d v step) (widen stays-in (G .walks c from-in)))
+      mark-new : getD mark′ d 0 ≡ k + 1
+      mark-new = getD-set-same (S .mark) d (k + 1) 0 inside
 
-      grown-walks : (x : ℕ) → In base mark′ x → Walk (net f) (In base mark′) x s (costAt (grown k d u S) x) (getD mark′ x 0 - base)
-      grown-walks x =
-          by-store (λ y. base ≤ y → Walk (net f) (In base mark′) x s (costAt (grown k d u S) x) (y - base)) (S .mark) d (k + 1) x inside
-          (λ e p. rw (e, cost-new) new-walk)
-          (λ n p. rw (costs-kept x p) (widen stays-in (G .walks x p)))
+      cost-new : getD (set (S .cost) d u) d 0 ≡ u
+      cost-new = getD-set-same (S .cost) d u 0 inside-cost
 
-      grown-listed : (x : ℕ) → In base mark′ x
-          → (i : ℕ) × (i < S .n + 1) × (cellOf (grown k d u S) i ≡ x) × (getD mark′ x 0 ≡ k + 1 → to ≤ i)
-      grown-listed x =
-          by-store (λ y. base ≤ y → (i : ℕ) × (i < S .n + 1) × (cellOf (grown k d u S) i ≡ x) × (y ≡ k + 1 → to ≤ i)) (S .mark) d (k + 1) x inside
-          (λ e p. (S .n, omega arith, cell-new ∙ sym e, λ q. G .upto))
-          (λ n p. let l = G .listed x p in (l .0, omega (arith, l .1), cells-kept (l .0) (l .1) ∙ l .2, l .3))
+      cell-new : cellOf (grown k d u S) (S .n) ≡ d
+      cell-new = entered-new (S .list) (S .n) d (R .sizes .cells) space
 
-      grown-early : (i : ℕ) → i < S .n + 1 → In base mark′ (cellOf (grown k d u S) i)
-      grown-early i p =
-          by-store (λ y. base ≤ getD mark′ y 0) (S .list) (S .n) d i space
-          (λ e. rw mark-new (omega (arith, pos)))
-          (λ n. stays-in (cellOf S i) (G .early i (omega (arith, n))))
+      stays-in : (y : ℕ) → In base (S .mark) y → In base mark′ y
+      stays-in y p = rw (marks-kept y p) p
 
-      grown-late : (i : ℕ) → i < S .n + 1 → to ≤ i → getD mark′ (cellOf (grown k d u S) i) 0 ≡ k + 1
-      grown-late i p q =
-          by-store (λ y. getD mark′ y 0 ≡ k + 1) (S .list) (S .n) d i space
-          (λ e. mark-new)
-          (λ n. let l : i < S .n = omega (arith, n) in marks-kept (cellOf S i) (G .early i l) ∙ G .late i l q)
+      grown-sizes : Sizes base (grown k d u S)
+      grown-sizes = record {
+        marks = simp length-set (R .sizes .marks);
+        costs = simp length-set (R .sizes .costs);
+        cells = entered-size (S .list) (S .n) d (R .sizes .cells) space;
+        count = omega (arith, R .sizes .count, blanks-set base (S .mark) d (k + 1) inside blank (omega (arith, pos)));
+      }
 
-      grown-spread : Spread f s base (k + 1) to (grown k d u S)
-      grown-spread =
-          record { top = grown-top; walks = grown-walks; listed = grown-listed; early = grown-early; late = grown-late; upto = omega (arith, G .upto) }
+      grown-kept : Kept base S (grown k d u S)
+      grown-kept = record { marks = marks-kept; costs = λ x p. omega (arith, costs-kept x p); cells = cells-kept; grows = omega arith }
 
-    pub grown-grew : Grew f base k S (grown k d u S)
-    grown-grew = record { room = grown-room; kept = grown-kept; spread = grown-spread }
+      grown-cheap : (x : ℕ) → In base mark′ x → costAt (grown k d u S) x ≤ 14 * (getD mark′ x 0 - base)
+      grown-cheap x =
+          by-store (λ y. base ≤ y → costAt (grown k d u S) x ≤ 14 * (y - base)) (S .mark) d (k + 1) x inside
+          (λ e p. rw (e, cost-new) (omega (arith, E .most, R .cheap c from-in, own, from, pos)))
+          (λ n p. rw (costs-kept x p) (R .cheap x p))
+
+      grown-free : (x : ℕ) → In base mark′ x → free f x ≡ true
+      grown-free x = by-store (λ y. base ≤ y → free f x ≡ true) (S .mark) d (k + 1) x inside (λ e p. rw e (E .free)) (λ n p. R .free x p)
+
+      -- the new cell's moves were not followed; those of the others lead where they led
+      grown-notes : (i : ℕ) → i < S .n + 1 → (j x y : ℕ) → j < 8 → stepOf f (cellOf (grown k d u S) i) j ≡ To x y
+          → (noteOf (grown k d u S) i ≡ 65535) ⊎ (In base mark′ x × (costAt (grown k d u S) x ≤ noteOf (grown k d u S) i + y))
+      grown-notes i l j x y lj e = by (decLt i (S .n))
+        where
+          by : Dec (i < S .n) → (noteOf (grown k d u S) i ≡ 65535) ⊎ (In base mark′ x × (costAt (grown k d u S) x ≤ noteOf (grown k d u S) i + y))
+          by (yes p) =
+              rw (entered-note (S .list) (S .n) d (R .sizes .cells) space i p)
+              (⊎-elim inl (λ q. inr (stays-in x (q .0), omega (arith, q .1, costs-kept x (q .0))))
+              (R .notes i p j x y lj (subst (λ o. stepOf f o j ≡ To x y) (cells-kept i p) e)))
+          by (no p) = let q : i ≡ S .n = omega (arith, p, l) in inl (rw q (entered-blank (S .list) (S .n) d (R .sizes .cells) space))
+
+      grown-room : Room f base (grown k d u S)
+      grown-room = record { sizes = grown-sizes; free = grown-free; cheap = grown-cheap; notes = grown-notes }
+
+      -- for each s and each start of the ring
+      module _ (s to : ℕ) (G : Spread f s base (k + 1) to S) where
+        grown-top : (x : ℕ) → getD mark′ x 0 ≤ k + 1
+        grown-top x = by-store (λ y. y ≤ k + 1) (S .mark) d (k + 1) x inside (λ e. omega arith) (λ n. G .top x)
+
+        grown-walks : (x : ℕ) → In base mark′ x → (a : ℕ) × Walk (net f) (In base mark′) x s a (getD mark′ x 0 - base)
+        grown-walks x =
+            by-store (λ y. base ≤ y → (a : ℕ) × Walk (net f) (In base mark′) x s a (y - base)) (S .mark) d (k + 1) x inside
+            (λ e p. let g = G .walks c from-in in
+            rw e (v + g .0, restate refl (omega (arith, from, pos)) (move (rw mark-new (omega (arith, pos))) (edge-back f z c m d v step) (widen stays-in (g .1)))))
+            (λ n p. let g = G .walks x p in (g .0, widen stays-in (g .1)))
+
+        grown-costs : (x : ℕ) → In base mark′ x → Leads (net f) (In base mark′) x s (costAt (grown k d u S) x)
+        grown-costs x =
+            by-store (λ y. base ≤ y → Leads (net f) (In base mark′) x s (costAt (grown k d u S) x)) (S .mark) d (k + 1) x inside
+            (λ e p. let g = G .costs c from-in in
+            rw (e, cost-new) (suc (g .0), restate (omega (arith, own)) refl (move (rw mark-new (omega (arith, pos))) (edge-back f z c m d v step) (widen stays-in (g .1)))))
+            (λ n p. let g = G .costs x p in rw (costs-kept x p) (g .0, widen stays-in (g .1)))
+
+        grown-listed : (x : ℕ) → In base mark′ x
+            → (i : ℕ) × (i < S .n + 1) × (cellOf (grown k d u S) i ≡ x) × (getD mark′ x 0 ≡ k + 1 → to ≤ i)
+        grown-listed x =
+            by-store (λ y. base ≤ y → (i : ℕ) × (i < S .n + 1) × (cellOf (grown k d u S) i ≡ x) × (y ≡ k + 1 → to ≤ i)) (S .mark) d (k + 1) x inside
+            (λ e p. (S .n, omega arith, cell-new ∙ sym e, λ q. G .upto))
+            (λ n p. let l = G .listed x p in (l .0, omega (arith, l .1), cells-kept (l .0) (l .1) ∙ l .2, l .3))
+
+        -- the cells of the list, the new one last
+        by-cell : (P : ℕ → Type 0) (i : ℕ) → i < S .n + 1 → P d → (i < S .n → P (cellOf S i)) → P (cellOf (grown k d u S) i)
+        by-cell P i l new old = by (decLt i (S .n))
+          where
+            by : Dec (i < S .n) → P (cellOf (grown k d u S) i)
+            by (yes p) = rw (cells-kept i p) (old p)
+            by (no p) = let q : i ≡ S .n = omega (arith, p, l) in rw (q, cell-new) new
+
+        grown-spread : Spread f s base (k + 1) to (grown k d u S)
+        grown-spread = record {
+          top = grown-top;
+          walks = grown-walks;
+          costs = grown-costs;
+          listed = grown-listed;
+          early = λ i p. by-cell (λ y. base ≤ getD mark′ y 0) i p (rw mark-new (omega (arith, pos))) (λ l. stays-in (cellOf S i) (G .early i l));
+          late = λ i p q. by-cell (λ y. getD mark′ y 0 ≡ k + 1) i p mark-new (λ l. marks-kept (cellOf S i) (G .early i l) ∙ G .late i l q);
+          upto = omega (arith, G .upto);
+        }
+
+      pub grown-grew : Grew f base k S (grown k d (w + v) S)
+      grown-grew = record { room = grown-room; kept = grown-kept; spread = grown-spread }
+
+      pub grown-out : In base (set (S .mark) d (k + 1)) d × (getD (set (S .cost) d (w + v)) d 0 ≤ w + v)
+      grown-out = (rw mark-new (omega (arith, pos)), omega (arith, cost-new))
+
+      pub grown-stays : getD (set (S .cost) d (w + v)) c 0 ≡ w
+      grown-stays = costs-kept c from-in ∙ own
+
+    -- d has one, and its cost is lowered
+    module _ (to-in : In base (S .mark) d) (less : w + v < costAt S d) where
+      abbrev L : State
+      L = state (S .mark) (set (S .cost) d u) (S .list) (S .n)
+
+      falls : (x : ℕ) → costAt L x ≤ costAt S x
+      falls x = by-store (λ y. y ≤ costAt S x) (S .cost) d u x inside-cost (λ e. rw e (omega (arith, less))) (λ n. omega arith)
+
+      lower-room : Room f base L
+      lower-room = record {
+        sizes = record { marks = R .sizes .marks; costs = simp length-set (R .sizes .costs); cells = R .sizes .cells; count = R .sizes .count };
+        free = R .free;
+        cheap = λ x p. omega (arith, falls x, R .cheap x p);
+        notes = λ i l j x y lj e. ⊎-elim inl (λ q. inr (q .0, omega (arith, q .1, falls x))) (R .notes i l j x y lj e);
+      }
+
+      lower-costs : (s to : ℕ) → Spread f s base (k + 1) to S → (x : ℕ) → In base (S .mark) x → Leads (net f) (In base (S .mark)) x s (costAt L x)
+      lower-costs s to G x =
+          by-store (λ y. In base (S .mark) x → Leads (net f) (In base (S .mark)) x s y) (S .cost) d u x inside-cost
+          (λ e p. let g = G .costs c from-in in rw e (suc (g .0), restate (omega (arith, own)) refl (move to-in (edge-back f z c m d v step) (g .1))))
+          (λ n p. G .costs x p)
+
+      pub lower-grew : Grew f base k S (state (S .mark) (set (S .cost) d (w + v)) (S .list) (S .n))
+      lower-grew = record {
+        room = lower-room;
+        kept = record { marks = λ x p. refl; costs = λ x p. falls x; cells = λ i p. refl; grows = omega arith };
+        spread = λ s to G. record { top = G .top; walks = G .walks; costs = lower-costs s to G; listed = G .listed; early = G .early; late = G .late; upto = G .upto };
+      }
+
+      pub lower-out : getD (set (S .cost) d (w + v)) d 0 ≤ w + v
+      lower-out = omega (arith, getD-set-same (S .cost) d u 0 inside-cost)
+
+      pub lower-stays : getD (set (S .cost) d (w + v)) c 0 ≡ w
+      lower-stays = by-store (λ y. y ≡ w) (S .cost) d u c inside-cost (λ e. absurd (omega (arith, less, own, ap (costAt S) e))) (λ n. own)
 
 -- a marked cell stays marked
 pub kept-in : {base : ℕ} (S S′ : State) → Kept base S S′ → (x : ℕ) → In base (S .mark) x → In base (S′ .mark) x
@@ -149,7 +235,7 @@ kept-in S S′ K x p = rw (K .marks x p) p
 
 -- no state grew in itself; and one growth after another
 pub kept-refl : (base : ℕ) (S : State) → Kept base S S
-kept-refl base S = record { marks = λ x p. refl; costs = λ x p. refl; cells = λ i p. refl; grows = omega arith }
+kept-refl base S = record { marks = λ x p. refl; costs = λ x p. omega arith; cells = λ i p. refl; grows = omega arith }
 
 pub grew-refl : (f : Floor) (base k : ℕ) (S : State) → Room f base S → Grew f base k S S
 grew-refl f base k S R = record { room = R; kept = kept-refl base S; spread = λ s to G. G }
@@ -157,7 +243,7 @@ grew-refl f base k S R = record { room = R; kept = kept-refl base S; spread = λ
 pub kept-trans : (base : ℕ) (A B C : State) → Kept base A B → Kept base B C → Kept base A C
 kept-trans base A B C p q = record {
   marks = λ x l. q .marks x (kept-in A B p x l) ∙ p .marks x l;
-  costs = λ x l. q .costs x (kept-in A B p x l) ∙ p .costs x l;
+  costs = λ x l. omega (arith, q .costs x (kept-in A B p x l), p .costs x l);
   cells = λ i l. q .cells i (omega (arith, p .grows)) ∙ p .cells i l;
   grows = omega (arith, p .grows, q .grows);
 }
@@ -168,48 +254,107 @@ grew-trans f base k A B C p q =
 
 -- the cell moved into is reached
 module _
-    (f : Floor) (z : Sized f) (base k c m d v : ℕ) (S S′ : State) (R : Room f base S)
-    (from : markOf S c ≡ k) (pos : base ≤ k) (step : stepOf f c m ≡ To d v)
-    (E : Reached base d (k + 1) (costAt S c + v) S S′)
+    (f : Floor) (z : Sized f) (base k c m d v w : ℕ) (S S′ : State) (R : Room f base S)
+    (from : markOf S c ≡ k) (own : costAt S c ≡ w) (pos : base ≤ k) (step : stepOf f c m ≡ To d v)
+    (E : Reached base d (k + 1) (w + v) S S′)
   where
-    reached-grew : Dec (base ≤ markOf S d) → Grew f base k S S′
-    reached-grew (yes p) = rw (E .old p) (grew-refl f base k S R)
-    reached-grew (no n) = let b : markOf S d < base = omega (arith, n) in rw (E .new b) (grown-grew f z base k c m d v S R from pos b step)
-
-    reached-mark : Dec (base ≤ markOf S d) → In base (S′ .mark) d
-    reached-mark (yes p) = rw (E .old p) p
-    reached-mark (no n) =
-        let b : markOf S d < base = omega (arith, n) in
-        rw (E .new b, getD-set-same (S .mark) d (k + 1) 0 (omega (arith, R .sizes .marks, stepped f z c m d v step .few))) (omega (arith, pos))
-
-    pub extended-to : Extended f base k c m S S′
-    extended-to = record {
-      grew = reached-grew (decLe base (markOf S d));
-      out = λ e w q. subst (In base (S′ .mark)) (same-to (sym step ∙ q) .0) (reached-mark (decLe base (markOf S d)));
+    -- what the move gives in a state T, where it leads
+    extends : (T : State) → Grew f base k S T → In base (T .mark) d × (costAt T d ≤ w + v) → costAt T c ≡ w → Extended f base k c m w S T
+    extends T G o e = record {
+      grew = G;
+      out = λ x y q. let t = same-to (sym step ∙ q) in (subst (In base (T .mark)) (t .0) (o .0), omega (arith, o .1, t .1, ap (costAt T) (t .0)));
+      stays = e;
     }
 
+    by-cost : In base (S .mark) d → Dec (w + v < costAt S d) → Extended f base k c m w S S′
+    by-cost i (yes l) =
+        rw (E .low i l)
+        (extends (state (S .mark) (set (S .cost) d (w + v)) (S .list) (S .n))
+        (lower-grew f z base k c m d v w S R from own pos step i l) (i, lower-out f z base k c m d v w S R from own pos step i l) (lower-stays f z base k c m d v w S R from own pos step i l))
+    by-cost i (no n) =
+        let l : costAt S d ≤ w + v = omega (arith, n) in
+        rw (E .old i l) (extends S (grew-refl f base k S R) (i, l) own)
+
+    by-mark : Dec (base ≤ markOf S d) → Extended f base k c m w S S′
+    by-mark (yes i) = by-cost i (decLt (w + v) (costAt S d))
+    by-mark (no n) =
+        let b : markOf S d < base = omega (arith, n) in
+        rw (E .new b)
+        (extends (grown k d (w + v) S)
+        (grown-grew f z base k c m d v w S R from own pos step b) (grown-out f z base k c m d v w S R from own pos step b) (grown-stays f z base k c m d v w S R from own pos step b))
+
+    pub extended-to : Extended f base k c m w S S′
+    extended-to = by-mark (decLe base (markOf S d))
+
 -- no cell is moved into
-pub extended-wall : (f : Floor) (base k c m : ℕ) (S : State) → Room f base S → stepOf f c m ≡ Wall → Extended f base k c m S S
-extended-wall f base k c m S R e = record { grew = grew-refl f base k S R; out = λ d v q. absurd (wall≢to d v (sym e ∙ q)) }
+pub extended-wall : (f : Floor) (base k c m w : ℕ) (S : State) → Room f base S → costAt S c ≡ w → stepOf f c m ≡ Wall → Extended f base k c m w S S
+extended-wall f base k c m w S R own e = record { grew = grew-refl f base k S R; out = λ d v q. absurd (wall≢to d v (sym e ∙ q)); stays = own }
 
 -- no move yet, and one move more
-pub left-none : (f : Floor) (base k c : ℕ) (S : State) → Room f base S → Left f base k c 0 S S
-left-none f base k c S R = record { grew = grew-refl f base k S R; out = λ i l d v e. absurd (omega arith) }
+pub left-none : (f : Floor) (base k c w : ℕ) (S : State) → Room f base S → costAt S c ≡ w → Left f base k c 0 w S S
+left-none f base k c w S R own = record { grew = grew-refl f base k S R; out = λ i l d v e. absurd (omega arith); stays = own }
 
-pub left-more : (f : Floor) (base k c m : ℕ) (A B C : State) → Left f base k c m A B → Extended f base k c m B C → Left f base k c (m + 1) A C
-left-more f base k c m A B C p q = record {
+pub left-more : (f : Floor) (base k c m w : ℕ) (A B C : State) → Left f base k c m w A B → Extended f base k c m w B C → Left f base k c (m + 1) w A C
+left-more f base k c m w A B C p q = record {
   grew = grew-trans f base k A B C (p .grew) (q .grew);
-  out = below-more (λ i. (d v : ℕ) → stepOf f c i ≡ To d v → In base (C .mark) d) m (λ i l d v e. kept-in B C (q .grew .kept) d (p .out i l d v e)) (q .out);
+  out = below-more (λ i. (d v : ℕ) → stepOf f c i ≡ To d v → In base (C .mark) d × (costAt C d ≤ w + v)) m
+      (λ i l d v e. let o = p .out i l d v e in (kept-in B C (q .grew .kept) d (o .0), omega (arith, o .1, q .grew .kept .costs d (o .0)))) (q .out);
+  stays = q .stays;
 }
+
+-- the cost at which a cell was left is noted beside it in the list
+module _ (f : Floor) (base k c w i : ℕ) (A B : State) (L : Left f base k c 8 w A B) (l : i < B .n) (here : cellOf B i ≡ c) where
+  abbrev N : State
+  N = state (B .mark) (B .cost) (set (B .list) (i + 4096) w) (B .n)
+
+  R : Room f base B
+  R = L .grew .room
+
+  short : B .n ≤ 4096
+  short = omega (arith, R .sizes .count)
+
+  cells : (j : ℕ) → j < B .n → cellOf N j ≡ cellOf B j
+  cells j p = getD-set-other (B .list) (i + 4096) j w 0 (λ e. omega (arith, short))
+
+  noted-notes : (j : ℕ) → j < B .n → (m d v : ℕ) → m < 8 → stepOf f (cellOf N j) m ≡ To d v
+      → (noteOf N j ≡ 65535) ⊎ (In base (B .mark) d × (costAt B d ≤ noteOf N j + v))
+  noted-notes j p m d v lm e =
+      let s = subst (λ y. stepOf f y m ≡ To d v) (cells j p) e in
+      by-store (λ y. (y ≡ 65535) ⊎ (In base (B .mark) d × (costAt B d ≤ y + v))) (B .list) (i + 4096) w (j + 4096) (omega (arith, R .sizes .cells, short))
+      (λ q. let t : j ≡ i = omega (arith, q) in inr (L .out m lm d v (subst (λ y. stepOf f y m ≡ To d v) (ap (cellOf B) t ∙ here) s)))
+      (λ q. R .notes j p m d v lm s)
+
+  pub noted-grew : Grew f base k B (state (B .mark) (B .cost) (set (B .list) (i + 4096) w) (B .n))
+  noted-grew = record {
+    room = record {
+      sizes = record { marks = R .sizes .marks; costs = R .sizes .costs; cells = simp length-set (R .sizes .cells); count = R .sizes .count };
+      free = R .free;
+      cheap = R .cheap;
+      notes = noted-notes;
+    };
+    kept = record { marks = λ x p. refl; costs = λ x p. omega arith; cells = cells; grows = omega arith };
+    spread = λ s to G. record {
+      top = G .top;
+      walks = G .walks;
+      costs = G .costs;
+      listed = λ x p. let q = G .listed x p in (q .0, q .1, cells (q .0) (q .1) ∙ q .2, q .3);
+      early = λ j p. rw (cells j p) (G .early j p);
+      late = λ j p q. rw (cells j p) (G .late j p q);
+      upto = G .upto;
+    };
+  }
 
 -- no cell yet, and one cell more
 pub swept-none : (f : Floor) (base k from : ℕ) (S : State) → Room f base S → Swept f base k from from S S
 swept-none f base k from S R = record { grew = grew-refl f base k S R; outs = λ j l q. absurd (omega arith) }
 
-pub swept-more : (f : Floor) (base k from i c : ℕ) (A B C : State) → cellOf A i ≡ c
-    → Swept f base k from i A B → Left f base k c 8 B C → Swept f base k from (i + 1) A C
-swept-more f base k from i c A B C e p q = record {
-  grew = grew-trans f base k A B C (p .grew) (q .grew);
-  outs = λ j l t. below-more (λ y. from ≤ y → Out f base C (cellOf A y) 8) i
-      (λ y ly lf m lm d v s. kept-in B C (q .grew .kept) d (p .outs y lf ly m lm d v s)) (λ lf. rw e (q .out)) j t l;
-}
+pub swept-more : (f : Floor) (base k from i c w : ℕ) (A B C : State) → i < A .n → cellOf A i ≡ c
+    → Swept f base k from i A B → Left f base k c 8 w B C → Swept f base k from (i + 1) A (state (C .mark) (C .cost) (set (C .list) (i + 4096) w) (C .n))
+swept-more f base k from i c w A B C l e p q =
+    let n : i < C .n = omega (arith, p .grew .kept .grows, q .grew .kept .grows) in
+    let here : cellOf C i ≡ c = q .grew .kept .cells i (omega (arith, p .grew .kept .grows)) ∙ p .grew .kept .cells i l ∙ e in
+    record {
+      grew = grew-trans f base k A C _ (grew-trans f base k A B C (p .grew) (q .grew)) (noted-grew f base k c w i B C q n here);
+      outs = λ j r t. below-more (λ y. from ≤ y → Out f base C (cellOf A y) 8) i
+          (λ y ly lf m lm d v s. kept-in B C (q .grew .kept) d (p .outs y lf ly m lm d v s)) (λ lf. rw e (λ m lm d v s. q .out m lm d v s .0)) j t r;
+    }

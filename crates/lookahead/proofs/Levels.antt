@@ -20,7 +20,7 @@ use Rattle.lookahead.specs.Marks.{net, State, begun, markOf, costAt, cel
 use Rattle.lookahead.specs.Rings.{Done, Level, Full, Marked, Framed, Blocked}
 use Rattle.lookahead.proofs.Blanks.{blanks-set, blanks-all}
 use Rattle.lookahead.proofs.Stores.{by-store}
-use Rattle.lookahead.proofs.Grow.{kept-in}
+use Rattle.lookahead.proofs.Grow.{kept-in, entered-new, entered-size, entered-blank}
 
 -- only s has a mark
 module _ (f : Floor) (s base : ℕ) (mark cost list : List ℕ) (on : free f s ≡ true) (few : s < 4096) (F : Fresh base mark cost list) where
@@ -40,7 +40,7 @@ module _ (f : Floor) (s base : ℕ) (mark cost list : List ℕ) (on : free f s �
   cost-s = getD-set-same cost s 0 0 (omega (arith, F .costs))
 
   list-s : cellOf S₀ 0 ≡ s
-  list-s = getD-set-same list 0 s 0 (omega (arith, F .cells))
+  list-s = entered-new list 0 s (F .cells) (omega arith)
 
   mark-le : (x : ℕ) → markOf S₀ x ≤ base
   mark-le x = by-store (λ y. y ≤ base) mark s base x inside (λ e. omega arith) (λ n. omega (arith, F .marks .below x))
@@ -49,12 +49,17 @@ module _ (f : Floor) (s base : ℕ) (mark cost list : List ℕ) (on : free f s �
   begin-sizes = record {
     marks = simp length-set (F .marks .size);
     costs = simp length-set (F .costs);
-    cells = simp length-set (F .cells);
+    cells = entered-size list 0 s (F .cells) (omega arith);
     count = omega (arith, blanks-set base mark s base inside (F .marks .below s) (omega arith), blanks-all base mark (F .marks .below), F .marks .size);
   }
 
   begin-room : Room f base S₀
-  begin-room = record { sizes = begin-sizes; free = λ x p. rw (only x p) on; cheap = λ x p. rw (only x p, cost-s) (omega arith) }
+  begin-room = record {
+    sizes = begin-sizes;
+    free = λ x p. rw (only x p) on;
+    cheap = λ x p. rw (only x p, cost-s) (omega arith);
+    notes = λ i l j x y lj e. let q : i ≡ 0 = omega arith in inl (rw q (entered-blank list 0 s (F .cells) (omega arith)));
+  }
 
   first : (i : ℕ) → i < 1 → markOf S₀ (cellOf S₀ i) ≡ base
   first i p = let e : i ≡ 0 = omega arith in rw (e, list-s) mark-s
@@ -62,7 +67,8 @@ module _ (f : Floor) (s base : ℕ) (mark cost list : List ℕ) (on : free f s �
   begin-spread : Spread f s base base 0 S₀
   begin-spread = record {
     top = mark-le;
-    walks = λ x p. rw (only x p, cost-s, mark-s) (restate refl (omega arith) (stop (rw mark-s (omega arith))));
+    walks = λ x p. rw (only x p, mark-s) (0, restate refl (omega arith) (stop (rw mark-s (omega arith))));
+    costs = λ x p. rw (only x p, cost-s) (0, stop {a = s} (omega (arith, mark-s)));
     listed = λ x p. (0, omega arith, list-s ∙ sym (only x p), λ e. omega arith);
     early = λ i p. omega (arith, first i p);
     late = λ i p l. first i p;
@@ -91,6 +97,7 @@ module _ (f : Floor) (z : Sized f) (s base k from : ℕ) (S : State) (L : Level 
       let G = L .spread in record {
         top = λ x. omega (arith, G .top x);
         walks = G .walks;
+        costs = G .costs;
         listed = λ x p. let l = G .listed x p in (l .0, l .1, l .2, λ e. absurd (omega (arith, e, G .top x)));
         early = G .early;
         late = λ i p q. absurd (omega arith);
@@ -182,6 +189,7 @@ module _ (f : Floor) (z : Sized f) (s base k from : ℕ) (S : State) (L : Level 
     room = L .room;
     top = λ x. omega (arith, L .spread .top x);
     walks = L .spread .walks;
+    costs = L .spread .costs;
     fewest = λ x c n w l.
         let t = reach w 0 (omega (arith, L .start)) (omega (arith, L .start)) (omega arith) in
         (t .0, omega (arith, t .1));

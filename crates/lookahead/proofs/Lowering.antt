@@ -9,6 +9,7 @@ use native.Mathlib.Omega.{arith}
 use native.Mathlib.Decide.{decLt}
 use borrow.Author.Count.{below-more}
 use lib.ListN.{length, getD, set, length-set}
+use lib.Seq.{getD-set-same, getD-set-other}
 use Rattle.learning.specs.Walk.{Walk, stop, move, Least, Leads}
 use Rattle.learning.proofs.Walks.{restate, first-in}
 use Rattle.model.specs.Floor.{Floor, Sized, price}
@@ -17,8 +18,8 @@ use Rattle.floor.specs.declared.Step.the-variants.{To, Wall}
 use Rattle.floor.specs.Moves.{stepOf}
 use Rattle.floor.proofs.Steps.{free-few, price-step, wall≢to, same-to}
 use Rattle.lookahead.specs.Marks.{net, In}
-use Rattle.lookahead.specs.Costs.{total, at, Costs, Walked, Tight, Tight1, Lowered, Lower, Listing, Passed, Relaxed}
-use Rattle.lookahead.proofs.Stores.{by-store}
+use Rattle.lookahead.specs.Costs.{total, at, noteAt, Costs, Walked, Under, Followed, Eased, Easing, Lowered, Lower, Listing, Noted, Again, Passed, Relaxed}
+use Rattle.lookahead.proofs.Stores.{by-store, set-self}
 use Rattle.lookahead.proofs.Grow.{edge-back}
 
 -- the sum falls with an entry
@@ -30,13 +31,13 @@ total-set (x ∷ xs) (suc i) v p = omega (arith, total-set xs i v p)
 
 module _ (f : Floor) (base : ℕ) (mark : List ℕ) where
   -- nothing is lowered
-  pub lowered-none : (P : List ℕ → Type 0) (cost : List ℕ) (b : Bool) → Costs f base mark cost → (b ≡ false → P cost) → Lowered f base mark P cost b cost b
+  pub lowered-none : (P : List ℕ → Type 0) (cost : List ℕ) (b : Bool) → Costs f base mark cost → P cost → Lowered f base mark P cost b cost b
   lowered-none P cost b C p =
-      record { costs = C; walked = λ s W. W; drop = λ x. omega arith; down = omega arith; less = λ e. inl e; same = λ e. (e, refl, p e) }
+      record { costs = C; walked = λ s W. W; drop = λ x. omega arith; down = omega arith; less = λ e. inl e; same = λ e. (e, refl); so = p }
 
   -- and then more is
   pub lowered-more : (P Q R : List ℕ → Type 0) (A : List ℕ) (a : Bool) (B : List ℕ) (b : Bool) (C : List ℕ) (c : Bool)
-      → Lowered f base mark P A a B b → Lowered f base mark Q B b C c → (P A → Q A → R A) → Lowered f base mark R A a C c
+      → Lowered f base mark P A a B b → Lowered f base mark Q B b C c → (P B → Q C → R C) → Lowered f base mark R A a C c
   lowered-more P Q R A a B b C c p q r = record {
     costs = q .costs;
     walked = λ s W. q .walked s (p .walked s W);
@@ -46,48 +47,49 @@ module _ (f : Floor) (base : ℕ) (mark : List ℕ) where
     same = λ e.
         let y = q .same e in
         let x = p .same (y .0) in
-        (x .0, y .1 ∙ x .1, r (x .2) (subst Q (x .1) (y .2)));
+        (x .0, y .1 ∙ x .1);
+    so = r (p .so) (q .so);
   }
 
   -- a pass that lowered something lowers the sum
   pub turned : (P : List ℕ → Type 0) (A B : List ℕ) (b : Bool) → Lowered f base mark P A false B b → b ≡ true → total B < total A
   turned P A B b p e = ⊎-elim (λ z. absurd (true≢false (sym z))) (λ l. l) (p .less e)
 
+  -- what was followed stays so while costs fall
+  pub followed-drop : (c m u : ℕ) (A B : List ℕ) → ((x : ℕ) → at B x ≤ at A x) → Followed f base mark c m u A → Followed f base mark c m u B
+  followed-drop c m u A B drop F i l d v s t = omega (arith, F i l d v s t, drop d)
+
   -- one move more from a cell
-  pub tight-more : (c m : ℕ) (A : List ℕ) (a : Bool) (B : List ℕ) (b : Bool) (C : List ℕ) (e : Bool)
-      → Lowered f base mark (Tight f base mark c m) A a B b → Lowered f base mark (Tight1 f base mark c m) B b C e
-      → Lowered f base mark (Tight f base mark c (m + 1)) A a C e
-  tight-more c m A a B b C e p q =
-      lowered-more (Tight f base mark c m) (Tight1 f base mark c m) (Tight f base mark c (m + 1)) A a B b C e p q
-      (λ t u. below-more (λ i. (d v : ℕ) → stepOf f c i ≡ To d v → In base mark d → at A d ≤ at A c + v) m t u)
+  pub eased-more : (c m u : ℕ) (A : List ℕ) (a : Bool) (B : List ℕ) (b : Bool) (C : List ℕ) (e : Bool)
+      → Lowered f base mark (Easing f base mark c m u) A a B b → Lowered f base mark (Eased f base mark c m u) B b C e
+      → Lowered f base mark (Easing f base mark c (m + 1) u) A a C e
+  eased-more c m u A a B b C e p q =
+      lowered-more (Easing f base mark c m u) (Eased f base mark c m u) (Easing f base mark c (m + 1) u) A a B b C e p q
+      (λ t y. (y .0, below-more (λ i. Under f base mark c i u C) m (followed-drop c m u B C (q .drop) (t .1)) (y .1)))
 
-  -- one cell more of the list
-  pub passed-more : (list : List ℕ) (n c : ℕ) (A : List ℕ) (a : Bool) (B : List ℕ) (b : Bool) (C : List ℕ) (e : Bool) → getD list n 0 ≡ c
-      → Lowered f base mark (Passed f base mark list n) A a B b → Lowered f base mark (Tight f base mark c 8) B b C e
-      → Lowered f base mark (Passed f base mark list (n + 1)) A a C e
-  passed-more list n c A a B b C e z p q =
-      lowered-more (Passed f base mark list n) (Tight f base mark c 8) (Passed f base mark list (n + 1)) A a B b C e p q
-      (λ t u. below-more (λ i. Tight f base mark (getD list i 0) 8 A) n t (rw z u))
-
-  module _ (cost : List ℕ) (c m : ℕ) (C : Costs f base mark cost) where
+  module _ (cost : List ℕ) (c m w : ℕ) (C : Costs f base mark cost) (own : at cost c ≡ w) where
     -- a move that leads out of the window, or nowhere, lowers nothing
-    pub eased-out : (d v : ℕ) (b : Bool) → stepOf f c m ≡ To d v → getD mark d 0 < base → Lowered f base mark (Tight1 f base mark c m) cost b cost b
+    pub eased-out : (d v : ℕ) (b : Bool) → stepOf f c m ≡ To d v → getD mark d 0 < base → Lowered f base mark (Eased f base mark c m w) cost b cost b
     eased-out d v b step e =
-        lowered-none (Tight1 f base mark c m) cost b C
-        (λ z x u s i. absurd (omega (arith, e, subst (In base mark) (sym (same-to (sym step ∙ s) .0)) i)))
+        lowered-none (Eased f base mark c m w) cost b C
+        (own, λ x u s i. absurd (omega (arith, e, subst (In base mark) (sym (same-to (sym step ∙ s) .0)) i)))
 
-    pub eased-wall : (b : Bool) → stepOf f c m ≡ Wall → Lowered f base mark (Tight1 f base mark c m) cost b cost b
-    eased-wall b step = lowered-none (Tight1 f base mark c m) cost b C (λ z x u s i. absurd (wall≢to x u (sym step ∙ s)))
+    pub eased-wall : (b : Bool) → stepOf f c m ≡ Wall → Lowered f base mark (Eased f base mark c m w) cost b cost b
+    eased-wall b step = lowered-none (Eased f base mark c m w) cost b C (own, λ x u s i. absurd (wall≢to x u (sym step ∙ s)))
 
     -- the cell moved into is lowered, or need not be
     module _ (z : Sized f) (d v : ℕ) (step : stepOf f c m ≡ To d v) (from : In base mark c) (to : In base mark d) where
       abbrev u : ℕ
-      u = at cost c + v
+      u = w + v
 
       inside : d < length cost
       inside = omega (arith, free-few f d z (C .free d to), C .costs)
 
-      lowered-set : (b : Bool) → u < at cost d → Lowered f base mark (Tight1 f base mark c m) cost b (set cost d u) true
+      -- what holds of the cell moved into
+      at-cell : (A : List ℕ) → at A d ≤ w + v → Under f base mark c m w A
+      at-cell A l x y s i = let q = same-to (sym step ∙ s) in omega (arith, l, q .1, ap (at A) (q .0))
+
+      lowered-set : (b : Bool) → u < at cost d → Lowered f base mark (Eased f base mark c m w) cost b (set cost d u) true
       lowered-set b l = record {
         costs = record {
           marks = C .marks;
@@ -96,27 +98,107 @@ module _ (f : Floor) (base : ℕ) (mark : List ℕ) where
           small = λ x. by-store (λ y. In base mark x → y ≤ 112) cost d u x inside (λ e i. omega (arith, C .small d to)) (λ n i. C .small x i);
         };
         walked = λ s W x. by-store (λ y. In base mark x → Leads (net f) (In base mark) x s y) cost d u x inside
-            (λ e i. let w = W c from in rw e (suc (w .0), restate (omega arith) refl (move to (edge-back f z c m d v step) (w .1)))) (λ n i. W x i);
+            (λ e i. let k = W c from in rw e (suc (k .0), restate (omega (arith, own)) refl (move to (edge-back f z c m d v step) (k .1)))) (λ n i. W x i);
         drop = λ x. by-store (λ y. y ≤ at cost x) cost d u x inside (λ e. rw e (omega arith)) (λ n. omega arith);
         down = omega (arith, total-set cost d u l);
         less = λ e. inr (total-set cost d u l);
         same = λ e. absurd (true≢false e);
+        so = (
+          by-store (λ y. y ≡ w) cost d u c inside (λ e. absurd (omega (arith, l, own, ap (at cost) e))) (λ n. own),
+          at-cell (set cost d u) (omega (arith, getD-set-same cost d u 0 inside)),
+        );
       }
 
-      pub eased : (b : Bool) (cost′ : List ℕ) (b′ : Bool) → Lower d (at cost c + v) b cost cost′ b′ → Lowered f base mark (Tight1 f base mark c m) cost b cost′ b′
+      pub eased : (b : Bool) (cost′ : List ℕ) (b′ : Bool) → Lower d (w + v) b cost cost′ b′ → Lowered f base mark (Eased f base mark c m w) cost b cost′ b′
       eased b cost′ b′ L = by (decLt u (at cost d))
         where
-          by : Dec (u < at cost d) → Lowered f base mark (Tight1 f base mark c m) cost b cost′ b′
+          by : Dec (u < at cost d) → Lowered f base mark (Eased f base mark c m w) cost b cost′ b′
           by (yes l) = let e = L .new l in rw (e .0, e .1) (lowered-set b l)
           by (no n) =
               let l : at cost d ≤ u = omega (arith, n) in
               let e = L .old l in
-              rw (e .0, e .1)
-              (lowered-none (Tight1 f base mark c m) cost b C
-              (λ t x y s i. let q = same-to (sym step ∙ s) in omega (arith, l, q .1, ap (at cost) (q .0))))
+              rw (e .0, e .1) (lowered-none (Eased f base mark c m w) cost b C (own, at-cell cost l))
+
+  -- the list's i-th cell, of cost w: its moves need not be followed, or they are
+  pub again-not : (i c w : ℕ) (cost list : List ℕ) (b : Bool) → Costs f base mark cost → getD list i 0 ≡ c → at cost c ≡ w → noteAt list i ≤ w
+      → Followed f base mark (getD list i 0) 8 (noteAt list i) cost → Again f base mark i cost list b cost list b
+  again-not i c w cost list b C e own l F = record {
+    note = noteAt list i;
+    noted = sym (set-self list (i + 4096));
+    lowered = lowered-none (Followed f base mark (getD list i 0) 8 (noteAt list i)) cost b C F;
+    calm = λ z. rw e (omega (arith, l, own));
+  }
+
+  pub again-eased : (i c w : ℕ) (A list : List ℕ) (a : Bool) (B : List ℕ) (b : Bool) → getD list i 0 ≡ c → at A c ≡ w
+      → Lowered f base mark (Easing f base mark c 8 w) A a B b → Again f base mark i A list a B (set list (i + 4096) w) b
+  again-eased i c w A list a B b e own p = record {
+    note = w;
+    noted = refl;
+    lowered = record {
+      costs = p .costs;
+      walked = p .walked;
+      drop = p .drop;
+      down = p .down;
+      less = p .less;
+      same = p .same;
+      so = rw e (p .so .1);
+    };
+    calm = λ z. rw e (omega (arith, own));
+  }
+
+  -- a cost is noted beside the list's i-th cell
+  module _ (list : List ℕ) (n i note : ℕ) (L : Listing base mark list n) (l : i < n) where
+    cell-kept : (j : ℕ) → j < n → getD (set list (i + 4096) note) j 0 ≡ getD list j 0
+    cell-kept j h = getD-set-other list (i + 4096) j note 0 (λ e. omega (arith, L .fits))
+
+    inside-list : i + 4096 < length list
+    inside-list = omega (arith, L .room, L .fits)
+
+    note-listing : Listing base mark (set list (i + 4096) note) n
+    note-listing = record {
+      room = simp length-set (L .room);
+      fits = L .fits;
+      early = λ j h. rw (cell-kept j h) (L .early j h);
+      listed = λ x h. let k = L .listed x h in (k .0, k .1, cell-kept (k .0) (k .1) ∙ k .2);
+    }
+
+    note-noted : (A B : List ℕ) → ((x : ℕ) → at B x ≤ at A x) → Noted f base mark list n A → Followed f base mark (getD list i 0) 8 note B
+        → Noted f base mark (set list (i + 4096) note) n B
+    note-noted A B drop N F j h =
+        rw (cell-kept j h)
+        (by-store (λ u. Followed f base mark (getD list j 0) 8 u B) list (i + 4096) note (j + 4096) inside-list
+        (λ e. let q : j ≡ i = omega (arith, e) in rw q F)
+        (λ e. followed-drop (getD list j 0) 8 (noteAt list j) A B drop (N j h)))
+
+    note-calm : (cost : List ℕ) → ((j : ℕ) → j < i → noteAt list j ≤ at cost (getD list j 0)) → note ≤ at cost (getD list i 0)
+        → (j : ℕ) → j < i + 1 → noteAt (set list (i + 4096) note) j ≤ at cost (getD (set list (i + 4096) note) j 0)
+    note-calm cost p q j h =
+        rw (cell-kept j (omega (arith, l)))
+        (by-store (λ u. u ≤ at cost (getD list j 0)) list (i + 4096) note (j + 4096) inside-list
+        (λ e. let t : j ≡ i = omega (arith, e) in rw t q)
+        (λ e. p j (omega (arith, e))))
+
+  -- no cell of the list yet, and one more
+  pub passed-none : (list : List ℕ) (n : ℕ) (cost : List ℕ) → Listing base mark list n → Costs f base mark cost → Noted f base mark list n cost
+      → Passed f base mark n 0 cost cost list false
+  passed-none list n cost L C N = record { listing = L; lowered = lowered-none (Noted f base mark list n) cost false C N; calm = λ e j h. absurd (omega arith) }
+
+  pub passed-more : (n i : ℕ) (A B list : List ℕ) (b : Bool) (C list′ : List ℕ) (e : Bool) → i < n
+      → Passed f base mark n i A B list b → Again f base mark i B list b C list′ e → Passed f base mark n (i + 1) A C list′ e
+  passed-more n i A B list b C list′ e l p q =
+      rw (q .noted)
+      (record {
+        listing = note-listing list n i (q .note) (p .listing) l;
+        lowered = lowered-more (Noted f base mark list n) (Followed f base mark (getD list i 0) 8 (q .note)) (Noted f base mark (set list (i + 4096) (q .note)) n) A false B b C e
+            (p .lowered) (q .lowered) (λ t u. note-noted list n i (q .note) (p .listing) l B C (q .lowered .drop) t u);
+        calm = λ z.
+            let y = q .lowered .same z in
+            let x = p .lowered .same (y .0) in
+            note-calm list n i (q .note) (p .listing) l A (p .calm (y .0)) (subst (λ c. q .note ≤ at c (getD list i 0)) (x .1) (q .calm z));
+      })
 
   -- where no move of the window lowers a cost, each is the least
-  module _ (z : Sized f) (cost : List ℕ) (s : ℕ) (start : at cost s ≡ 0) (tight : (x : ℕ) → In base mark x → Tight f base mark x 8 cost) where
+  module _ (z : Sized f) (cost : List ℕ) (s : ℕ) (start : at cost s ≡ 0) (tight : (x : ℕ) → In base mark x → Followed f base mark x 8 (at cost x) cost) where
     low : {x y c n : ℕ} → Walk (net f) (In base mark) x y c n → at cost x ≤ c + at cost y
     low (stop t) = omega arith
     low (move {a = a} {b = b} t e w) =
@@ -127,13 +209,17 @@ module _ (f : Floor) (base : ℕ) (mark : List ℕ) where
     least W x i = record { met = W x i; low = λ k v. omega (arith, low (v .1), start) }
 
   -- the last pass lowers nothing, so every cost is the least
-  pub relaxed : Sized f → (list : List ℕ) (n : ℕ) (A B Z : List ℕ) (b : Bool)
-      → Listing base mark list n → ((s : ℕ) → Walked f s base mark A → Walked f s base mark B) → ((x : ℕ) → at B x ≤ at A x)
-      → Lowered f base mark (Passed f base mark list n) B false Z b → b ≡ false → Relaxed f base mark A Z
-  relaxed z list n A B Z b L walk drop p none =
-      let y = p .same none in record {
-        costs = p .costs;
-        least = λ s W e x i. least z Z s (omega (arith, p .drop s, drop s, e))
-            (λ u j. let l = L .listed u j in subst (λ o. Tight f base mark o 8 Z) (l .2) (subst (λ o. Tight f base mark (getD list (l .0) 0) 8 o) (sym (y .1)) (y .2 (l .0) (l .1))))
-            (p .walked s (walk s W)) x i;
-      }
+  pub relaxed : Sized f → (n : ℕ) (A B Z list : List ℕ) (b : Bool)
+      → ((s : ℕ) → Walked f s base mark A → Walked f s base mark B) → ((x : ℕ) → at B x ≤ at A x)
+      → Passed f base mark n n B Z list b → b ≡ false → Relaxed f base mark n A Z list
+  relaxed z n A B Z list b walk drop p none = record {
+    costs = p .lowered .costs;
+    listing = p .listing;
+    least = λ s W e. least z Z s (omega (arith, p .lowered .drop s, drop s, e)) tight (p .lowered .walked s (walk s W));
+  }
+    where
+      tight : (x : ℕ) → In base mark x → Followed f base mark x 8 (at Z x) Z
+      tight x h m l d v s t =
+          let k = p .listing .listed x h in
+          let c : noteAt list (k .0) ≤ at Z x = subst (λ y. noteAt list (k .0) ≤ at Z y) (k .2) (subst (λ y. noteAt list (k .0) ≤ at y (getD list (k .0) 0)) (sym (p .lowered .same none .1)) (p .calm none (k .0) (k .1))) in
+          omega (arith, c, p .lowered .so (k .0) (k .1) m l d v (subst (λ y. stepOf f y m ≡ To d v) (sym (k .2)) s) t)

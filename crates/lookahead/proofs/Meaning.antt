@@ -144,25 +144,25 @@ module _ (j : Job) (bytes : List ℕ) (s : ℕ) (Q : Asked j bytes s) where
 
   -- the window that `look` leaves
   module _ (base last n : ℕ) (mark cost list : List ℕ) (F : Framed (floorOf j bytes) s (j .goal) (j .depth) base last (state mark cost list n)) (room : base ≤ 4294967279)
-      (cost′ : List ℕ) (R : Relaxed (floorOf j bytes) base mark cost cost′)
+      (cost′ list′ : List ℕ) (R : Relaxed (floorOf j bytes) base mark n cost cost′ list′)
     where
       W : Window (netOf G) (Goal G) d s last (ringAt base mark) (at cost′)
-      W = array-window f s (j .goal) d base last (state mark cost list n) F (Q .deep) (Q .sized) (Q .bench) cost′ R
+      W = array-window f s (j .goal) d base last (state mark cost list n) F (Q .deep) (Q .sized) (Q .bench) cost′ list′ R
 
       spent : Spent base mark
       spent = record { size = F .marked .room .sizes .marks; room = room; below = λ x. omega (arith, F .marked .top x, F .within, Q .deep) }
 
-      pub looked : contract.Window j bytes s base mark cost′ list n last
+      pub looked : contract.Window j bytes s base mark cost′ list′ n last
       looked = record {
         view = array-seen base last mark cost′ W spent (R .costs .costs) (F .marked .top);
-        room = F .marked .room .sizes .cells;
+        room = R .listing .room;
         last-is = last-seen base last mark cost′ W;
         some = F .some;
         depth = F .within;
         full = array-full base last mark cost′ W (F .full);
-        fits = omega (arith, F .marked .room .sizes .count);
-        cells = λ i h. mark-near base last mark cost′ W (getD list i 0) (in-ring base mark (getD list i 0) last (F .marked .early i h) (F .marked .top (getD list i 0)));
-        listed = λ x h. F .marked .listed x (ring-in base mark x (omega (arith, near-ring base last mark cost′ W x h, F .within, Q .deep)));
+        fits = R .listing .fits;
+        cells = λ i h. mark-near base last mark cost′ W (getD list′ i 0) (in-ring base mark (getD list′ i 0) last (R .listing .early i h) (F .marked .top (getD list′ i 0)));
+        listed = λ x h. R .listing .listed x (ring-in base mark x (omega (arith, near-ring base last mark cost′ W x h, F .within, Q .deep)));
       }
 
   -- number 9's case
@@ -187,7 +187,7 @@ module _ (j : Job) (bytes : List ℕ) (s : ℕ) (Q : Asked j bytes s) where
     none x l e =
         let (c, v) = job-window .attained x (omega (arith, e, r-below)) in
         let m = B .marked .fewest x c (ringOf G d s x) v (omega (arith, e)) in
-        let back = turn (widen {S′ = Any} (λ y k. tt) (B .marked .walks x (m .0))) in
+        let back = turn (widen {S′ = Any} (λ y k. tt) (B .marked .walks x (m .0) .1)) in
         omega (arith, job-window .fewest x _ _ back (omega (arith, B .empty x, r-below)), B .empty x, e)
 
     pub blocked : Used base mark cost list × (emptyRing j bytes (seen j bytes s) (seen j bytes s .last) ≡ true)

@@ -3,7 +3,7 @@
 use mathlib.Core.Path.{_≡_, refl, sym, subst}
 use mathlib.Core.List.{List, [], _∷_}
 use mathlib.Core.Bool.{true}
-use mathlib.Core.Logic.{_⊎_, inl, inr}
+use mathlib.Core.Logic.{_⊎_, inl, inr, ⊎-elim}
 use Prim.Native.Nat.{ℕ, _+_, _-_, _≤_}
 use native.Mathlib.Omega.{arith}
 use native.Mathlib.Decide.{decLe}
@@ -16,7 +16,7 @@ use Rattle.model.specs.Grounds.{groundOf}
 use Rattle.model.proofs.Looking.{goal-only, goal-is}
 use Rattle.lookahead.specs.Marks.{net, State, markOf, costAt, In}
 use Rattle.lookahead.specs.Rings.{Framed}
-use Rattle.lookahead.specs.Costs.{Costs, at, Listing, Relaxed}
+use Rattle.lookahead.specs.Costs.{Costs, at, Listing, Noted, Relaxed}
 use Rattle.lookahead.specs.Bests.{ringAt}
 use Rattle.lookahead.proofs.Weighing.{ring-in, in-ring, ring-is}
 
@@ -33,16 +33,22 @@ module _ (f : Floor) (s goal depth base last : ℕ) (S : State) (F : Framed f s 
 
   pub framed-listing : Listing base (S .mark) (S .list) (S .n)
   framed-listing = record {
-    fits = omega (arith, F .marked .room .sizes .count, F .marked .room .sizes .cells);
+    room = F .marked .room .sizes .cells;
+    fits = omega (arith, F .marked .room .sizes .count);
     early = F .marked .early;
     listed = F .marked .listed;
   }
+
+  -- where no note stands, the place has more than any cost
+  pub framed-noted : Noted f base (S .mark) (S .list) (S .n) (S .cost)
+  framed-noted i l m lm d v e t =
+      ⊎-elim (λ q. omega (arith, q, framed-costs .small d t)) (λ q. q .1) (F .marked .room .notes i l m d v lm e)
 
   start : costAt S s ≡ 0
   start = let m = F .marked .fewest s 0 0 (stop tt) (omega arith) in omega (arith, F .marked .room .cheap s (m .0), m .1)
 
   -- the window
-  module _ (z : Sized f) (bench : free f goal ≡ true) (cost : List ℕ) (R : Relaxed f base (S .mark) (S .cost) cost) where
+  module _ (z : Sized f) (bench : free f goal ≡ true) (cost list : List ℕ) (R : Relaxed f base (S .mark) (S .n) (S .cost) cost list) where
     abbrev ring : ℕ → ℕ
     ring = ringAt base (S .mark)
 
@@ -65,7 +71,7 @@ module _ (f : Floor) (s goal depth base last : ℕ) (S : State) (F : Framed f s 
     ends (inr e) = inr (goal, goal-is f goal z bench, by-mark goal e)
 
     least : (x : ℕ) → In base (S .mark) x → Least (Leads (net f) (In base (S .mark)) x s) (at cost x)
-    least = R .least s (λ x p. (_, F .marked .walks x p)) start
+    least = R .least s (F .marked .costs) start
 
     pub array-window : Window (net f) (Goal (groundOf f (goal ∷ []))) depth s last (ringAt base (S .mark)) (at cost)
     array-window = record {
@@ -73,7 +79,8 @@ module _ (f : Floor) (s goal depth base last : ℕ) (S : State) (F : Framed f s 
       depth = F .within;
       attained = λ x h.
           let p = inner x h in
-          (costAt S x, restate refl (ring-is base (S .mark) x p) (turn (widen (λ y k. tt) (F .marked .walks x p))));
+          let g = F .marked .walks x p in
+          (g .0, restate refl (ring-is base (S .mark) x p) (turn (widen (λ y k. tt) (g .1))));
       fewest = λ x c n w h. let m = F .marked .fewest x c n w h in in-ring base (S .mark) x n (m .0) (m .1);
       goals = λ y g. subst (λ k. last ≤ ring k) (sym (goal-only f goal y g)) (goal-ring (decLe base (markOf S goal)));
       ends = ends (F .ends);

@@ -1,8 +1,8 @@
 -- What holds of an entry after a store: all case work on stores is here.
 -- Assumes nothing.
-use mathlib.Core.Path.{_≡_}
-use mathlib.Core.List.{List}
-use Prim.Native.Nat.{ℕ, _<_}
+use mathlib.Core.Path.{_≡_, refl, ap}
+use mathlib.Core.List.{List, [], _∷_}
+use Prim.Native.Nat.{ℕ, zero, suc, _<_}
 use native.Mathlib.Decide.{ℕ-discrete}
 use lib.ListN.{length, getD, set}
 use lib.Seq.{getD-set-same, getD-set-other}
@@ -14,3 +14,9 @@ by-store P l i v j p same other = go (ℕ-discrete j i)
     go : Dec (j ≡ i) → P (getD (set l i v) j 0)
     go (yes e) = rw (e, getD-set-same l i v 0 p) (same e)
     go (no n) = rw (getD-set-other l i j v 0 n) (other n)
+
+-- what stands there already changes nothing
+pub set-self : (l : List ℕ) (i : ℕ) → set l i (getD l i 0) ≡ l
+set-self [] i = refl
+set-self (x ∷ l) zero = refl
+set-self (x ∷ l) (suc i) = ap (λ k. x ∷ k) (set-self l i)

@@ -23,16 +23,16 @@ pub record Spent (base : ℕ) (mark : List ℕ) : Type 0 where
   pub room : base ≤ 4294967279
   pub below : (x : ℕ) → getD mark x 0 < base + 16
 
--- The lent lists before a lookahead, and after.
+-- The lent lists before a lookahead, and after. The list of cells has two places for each: the cell, and 4096 further on a cost.
 pub record Fresh (base : ℕ) (mark cost list : List ℕ) : Type 0 where
   pub marks : Marks base mark
   pub costs : length cost ≡ 4096
-  pub cells : length list ≡ 4096
+  pub cells : length list ≡ 8192
 
 pub record Used (base : ℕ) (mark cost list : List ℕ) : Type 0 where
   pub marks : Spent base mark
   pub costs : length cost ≡ 4096
-  pub cells : length list ≡ 4096
+  pub cells : length list ≡ 8192
 
 -- What a lookahead from s is asked of: a floor, two free cells that are not the same, and a depth.
 pub record Asked (j : Job) (bytes : List ℕ) (s : ℕ) : Type 0 where
@@ -58,7 +58,7 @@ pub record Seen (j : Job) (bytes : List ℕ) (s base : ℕ) (mark cost : List �
 -- The whole window: no ring up to the last is empty, and the list's first n places hold just the window's cells.
 pub record Window (j : Job) (bytes : List ℕ) (s base : ℕ) (mark cost list : List ℕ) (n last : ℕ) : Type 0 where
   pub view : Seen j bytes s base mark cost
-  pub room : length list ≡ 4096
+  pub room : length list ≡ 8192
   pub last-is : last ≡ seen j bytes s .last
   pub some : 1 ≤ last
   pub depth : last ≤ j .depth

@@ -30,22 +30,29 @@ pub record Costs (f : Floor) (base : ℕ) (mark cost : List ℕ) : Type 0 where
 abbrev pub Walked : Floor → (s base : ℕ) → (mark cost : List ℕ) → Type 0
 Walked f s base mark cost = (x : ℕ) → In base mark x → Leads (net f) (In base mark) x s (at cost x)
 
--- the first m moves from c lower no cost of the window
-abbrev pub Tight : Floor → ℕ → (mark : List ℕ) → (c m : ℕ) → (cost : List ℕ) → Type 0
-Tight f base mark c m cost = (i : ℕ) → i < m → (d v : ℕ) → stepOf f c i ≡ To d v → In base mark d → at cost d ≤ at cost c + v
+-- the move m from c, followed at the cost u, lowers no cost of the window; nor do the first m moves
+abbrev pub Under : Floor → ℕ → (mark : List ℕ) → (c m u : ℕ) → (cost : List ℕ) → Type 0
+Under f base mark c m u cost = (d v : ℕ) → stepOf f c m ≡ To d v → In base mark d → at cost d ≤ u + v
 
--- the move m alone
-abbrev pub Tight1 : Floor → ℕ → (mark : List ℕ) → (c m : ℕ) → (cost : List ℕ) → Type 0
-Tight1 f base mark c m cost = (d v : ℕ) → stepOf f c m ≡ To d v → In base mark d → at cost d ≤ at cost c + v
+abbrev pub Followed : Floor → ℕ → (mark : List ℕ) → (c m u : ℕ) → (cost : List ℕ) → Type 0
+Followed f base mark c m u cost = (i : ℕ) → i < m → Under f base mark c i u cost
 
--- costs are lowered or stay; b says whether one was lowered, here or before; where none was, P holds of them
+-- and the cost of c is u itself
+abbrev pub Eased : Floor → ℕ → (mark : List ℕ) → (c m u : ℕ) → (cost : List ℕ) → Type 0
+Eased f base mark c m u cost = (at cost c ≡ u) × Under f base mark c m u cost
+
+abbrev pub Easing : Floor → ℕ → (mark : List ℕ) → (c m u : ℕ) → (cost : List ℕ) → Type 0
+Easing f base mark c m u cost = (at cost c ≡ u) × Followed f base mark c m u cost
+
+-- costs are lowered or stay, and P holds of them; b says whether one was lowered, here or before
 pub record Lowered (f : Floor) (base : ℕ) (mark : List ℕ) (P : List ℕ → Type 0) (cost : List ℕ) (b : Bool) (cost′ : List ℕ) (b′ : Bool) : Type 0 where
   pub costs : Costs f base mark cost′
   pub walked : (s : ℕ) → Walked f s base mark cost → Walked f s base mark cost′
   pub drop : (x : ℕ) → at cost′ x ≤ at cost x
   pub down : total cost′ ≤ total cost
   pub less : b′ ≡ true → (b ≡ true) ⊎ (total cost′ < total cost)
-  pub same : b′ ≡ false → (b ≡ false) × (cost′ ≡ cost) × P cost
+  pub same : b′ ≡ false → (b ≡ false) × (cost′ ≡ cost)
+  pub so : P cost′
 
 -- d gets the cost v if that is lower
 pub record Lower (d v : ℕ) (b : Bool) (cost cost′ : List ℕ) (b′ : Bool) : Type 0 where
@@ -59,15 +66,34 @@ pub record Cell (f : Floor) (base c col line : ℕ) (mark : List ℕ) : Type 0 w
 
 -- the list's first n places hold the window's cells
 pub record Listing (base : ℕ) (mark list : List ℕ) (n : ℕ) : Type 0 where
-  pub fits : n ≤ length list
+  pub room : length list ≡ 8192
+  pub fits : n ≤ 4096
   pub early : (i : ℕ) → i < n → In base mark (getD list i 0)
   pub listed : (x : ℕ) → In base mark x → (i : ℕ) × (i < n) × (getD list i 0 ≡ x)
 
--- no move from a cell at the first n places lowers a cost
-abbrev pub Passed : Floor → ℕ → (mark list : List ℕ) → (n : ℕ) → (cost : List ℕ) → Type 0
-Passed f base mark list n cost = (i : ℕ) → i < n → Tight f base mark (getD list i 0) 8 cost
+-- the cost at which the moves of the list's i-th cell were followed last
+abbrev pub noteAt : List ℕ → ℕ → ℕ
+noteAt list i = getD list (i + 4096) 0
+
+-- followed at these costs, no cell's moves lower a cost
+abbrev pub Noted : Floor → ℕ → (mark list : List ℕ) → (n : ℕ) → (cost : List ℕ) → Type 0
+Noted f base mark list n cost = (i : ℕ) → i < n → Followed f base mark (getD list i 0) 8 (noteAt list i) cost
+
+-- the moves of the list's i-th cell are followed at a cost that is noted; where that lowers nothing, the cell's own is no lower
+pub record Again (f : Floor) (base : ℕ) (mark : List ℕ) (i : ℕ) (cost list : List ℕ) (b : Bool) (cost′ list′ : List ℕ) (b′ : Bool) : Type 0 where
+  pub note : ℕ
+  pub noted : list′ ≡ set list (i + 4096) note
+  pub lowered : Lowered f base mark (Followed f base mark (getD list i 0) 8 note) cost b cost′ b′
+  pub calm : b′ ≡ false → note ≤ at cost (getD list i 0)
+
+-- so are those of the first i of n cells
+pub record Passed (f : Floor) (base : ℕ) (mark : List ℕ) (n i : ℕ) (cost cost′ list′ : List ℕ) (b′ : Bool) : Type 0 where
+  pub listing : Listing base mark list′ n
+  pub lowered : Lowered f base mark (Noted f base mark list′ n) cost false cost′ b′
+  pub calm : b′ ≡ false → (j : ℕ) → j < i → noteAt list′ j ≤ at cost (getD list′ j 0)
 
 -- after the last pass: each cost is the least of a walk in the window
-pub record Relaxed (f : Floor) (base : ℕ) (mark cost cost′ : List ℕ) : Type 0 where
+pub record Relaxed (f : Floor) (base : ℕ) (mark : List ℕ) (n : ℕ) (cost cost′ list′ : List ℕ) : Type 0 where
   pub costs : Costs f base mark cost′
+  pub listing : Listing base mark list′ n
   pub least : (s : ℕ) → Walked f s base mark cost → at cost s ≡ 0 → (x : ℕ) → In base mark x → Least (Leads (net f) (In base mark) x s) (at cost′ x)

@@ -3,7 +3,7 @@ use mathlib.Core.Path.{_≡_}
 use mathlib.Core.List.{List}
 use mathlib.Core.Logic.{_⊎_}
 use Prim.Native.Nat.{ℕ, _+_, _-_, _≤_, _<_}
-use Rattle.learning.specs.Walk.{Walk, Any}
+use Rattle.learning.specs.Walk.{Walk, Any, Leads}
 use Rattle.model.specs.Floor.{Floor}
 use Rattle.floor.specs.declared.Step.the-variants.{To}
 use Rattle.floor.specs.Moves.{stepOf}
@@ -27,11 +27,13 @@ pub record Level (f : Floor) (s base k from : ℕ) (S : State) : Type 0 where
 abbrev pub Full : (base k : ℕ) → State → Type 0
 Full base k S = (g : ℕ) → base ≤ g → g ≤ k → (x : ℕ) × (markOf S x ≡ g)
 
--- the marks are the rings 0 to r; each marked cell stands in the list, and its cost is that of a walk in the window
+-- the marks are the rings 0 to r; each marked cell stands in the list, a walk of its ring's moves leads from it to s, and its cost is that of
+-- a walk in the window
 pub record Marked (f : Floor) (s base r : ℕ) (S : State) : Type 0 where
   pub room : Room f base S
   pub top : (x : ℕ) → markOf S x ≤ base + r
-  pub walks : (x : ℕ) → In base (S .mark) x → Walk (net f) (In base (S .mark)) x s (costAt S x) (markOf S x - base)
+  pub walks : (x : ℕ) → In base (S .mark) x → (c : ℕ) × Walk (net f) (In base (S .mark)) x s c (markOf S x - base)
+  pub costs : (x : ℕ) → In base (S .mark) x → Leads (net f) (In base (S .mark)) x s (costAt S x)
   pub fewest : (x c n : ℕ) → Walk (net f) Any s x c n → n ≤ r → In base (S .mark) x × (markOf S x ≤ base + n)
   pub listed : (x : ℕ) → In base (S .mark) x → (i : ℕ) × (i < S .n) × (cellOf S i ≡ x)
   pub early : (i : ℕ) → i < S .n → In base (S .mark) (cellOf S i)

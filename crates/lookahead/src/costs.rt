@@ -1,12 +1,13 @@
 // The costs in a window are lowered along its moves until none can be lowered: each is then the least of a walk that stays in the window.
+// Only the moves of a cell whose cost fell since they were followed need to be followed again; the list says at which cost that was.
 ghost use mathlib.Core.Path.{_≡_};
 ghost use mathlib.Core.Bool.{false};
 ghost use Prim.Native.Nat.{_<_};
-ghost use lib.ListN.{length};
+ghost use lib.ListN.{length, getD};
 ghost use Rattle.model.specs.Floor.{Sized};
 ghost use Rattle.floor.specs.Moves.{flat};
 ghost use Rattle.lookahead.specs.Marks.{In};
-ghost use Rattle.lookahead.specs.Costs.{Costs, Lower, Lowered, Cell, Tight, Tight1, Listing, Passed, Relaxed};
+ghost use Rattle.lookahead.specs.Costs.{at, noteAt, Costs, Lower, Lowered, Cell, Eased, Easing, Followed, Listing, Noted, Again, Passed, Relaxed};
 use floor::Step;
 
 // The cell d gets the cost v if that is lower; whether a cost was lowered, here or before.
@@ -21,7 +22,7 @@ fn lower(cost: &mut [u16], d: usize, v: u16, changed: bool) -> bool
     changed
 }
 
-// The move m from the cell c of the window lowers the cost of the cell moved into.
+// The move m from the cell c of the window, of cost w, lowers the cost of the cell moved into.
 fn ease(
     width: usize,
     height: usize,
@@ -33,26 +34,27 @@ fn ease(
     col: usize,
     row: usize,
     m: usize,
+    w: u16,
     changed: bool,
 ) -> bool
     requires { ⌜ Sized (flat width height (now floor)) ⌝ ∗ ⌜ Costs (flat width height (now floor)) base (now mark) (now cost) ⌝
-        ∗ ⌜ Cell (flat width height (now floor)) base c col row (now mark) ⌝ ∗ ⌜ m < 8 ⌝ }
+        ∗ ⌜ Cell (flat width height (now floor)) base c col row (now mark) ⌝ ∗ ⌜ (m < 8) × (at (now cost) c ≡ w) ⌝ }
     ensures { λ r. ⌜ Lowered (flat width height (now (floor .entry))) base (now (mark .entry))
-        (Tight1 (flat width height (now (floor .entry))) base (now (mark .entry)) c m) (now (cost .entry)) changed (now (cost .exit)) r ⌝ }
+        (Eased (flat width height (now (floor .entry))) base (now (mark .entry)) c m w) (now (cost .entry)) changed (now (cost .exit)) r ⌝ }
 {
     match floor::step_from(width, height, floor, c, col, row, m) {
         Step::To { cell, cost: v } => {
             if mark[cell] < base {
                 return changed;
             }
-            let sum = cost[c] + v;
+            let sum = w + v;
             lower(cost, cell, sum, changed)
         }
         Step::Wall => changed,
     }
 }
 
-// Every move from the cell c of the window.
+// Every move from the cell c of the window, of cost w.
 fn ease_cell(
     width: usize,
     height: usize,
@@ -61,24 +63,66 @@ fn ease_cell(
     mark: &[u32],
     cost: &mut [u16],
     c: usize,
+    w: u16,
     changed: bool,
 ) -> bool
-    requires { ⌜ Sized (flat width height (now floor)) ⌝ ∗ ⌜ Costs (flat width height (now floor)) base (now mark) (now cost) ⌝ ∗ ⌜ In base (now mark) c ⌝ }
+    requires { ⌜ Sized (flat width height (now floor)) ⌝ ∗ ⌜ Costs (flat width height (now floor)) base (now mark) (now cost) ⌝
+        ∗ ⌜ In base (now mark) c ⌝ ∗ ⌜ at (now cost) c ≡ w ⌝ }
     ensures { λ r. ⌜ Lowered (flat width height (now (floor .entry))) base (now (mark .entry))
-        (Tight (flat width height (now (floor .entry))) base (now (mark .entry)) c 8) (now (cost .entry)) changed (now (cost .exit)) r ⌝ }
+        (Easing (flat width height (now (floor .entry))) base (now (mark .entry)) c 8 w) (now (cost .entry)) changed (now (cost .exit)) r ⌝ }
 {
     let col = c % width;
     let row = c / width;
     let mut any = changed;
     let mut m = 0;
     while m < 8 {
-        any = ease(width, height, floor, base, mark, cost, c, col, row, m, any);
+        any = ease(
+            width,
+            height,
+            floor,
+            base,
+            mark,
+            cost,
+            c,
+            col,
+            row,
+            m,
+            w,
+            any,
+        );
         m += 1;
     }
     any
 }
 
-// Every move from each of the window's n cells: whether a cost was lowered.
+// The moves of the list's i-th cell are followed, if its cost fell since they were.
+fn ease_again(
+    width: usize,
+    height: usize,
+    floor: &[u8],
+    base: u32,
+    mark: &[u32],
+    cost: &mut [u16],
+    list: &mut [u16],
+    i: usize,
+    changed: bool,
+) -> bool
+    requires { ⌜ Sized (flat width height (now floor)) ⌝ ∗ ⌜ Costs (flat width height (now floor)) base (now mark) (now cost) ⌝
+        ∗ ⌜ (length (now list) ≡ 8192) × (i < 4096) × In base (now mark) (getD (now list) i 0) ⌝
+        ∗ ⌜ Followed (flat width height (now floor)) base (now mark) (getD (now list) i 0) 8 (noteAt (now list) i) (now cost) ⌝ }
+    ensures { λ r. ⌜ Again (flat width height (now (floor .entry))) base (now (mark .entry)) i
+        (now (cost .entry)) (now (list .entry)) changed (now (cost .exit)) (now (list .exit)) r ⌝ }
+{
+    let c = floor::wide16(list[i]);
+    let w = cost[c];
+    if list[i + 4096] <= w {
+        return changed;
+    }
+    list[i + 4096] = w;
+    ease_cell(width, height, floor, base, mark, cost, c, w, changed)
+}
+
+// Each of the window's n cells whose cost fell since its moves were followed: whether a cost was lowered.
 fn pass(
     width: usize,
     height: usize,
@@ -86,18 +130,18 @@ fn pass(
     base: u32,
     mark: &[u32],
     cost: &mut [u16],
-    list: &[u16],
+    list: &mut [u16],
     n: usize,
 ) -> bool
-    requires { ⌜ Sized (flat width height (now floor)) ⌝ ∗ ⌜ Costs (flat width height (now floor)) base (now mark) (now cost) ⌝ ∗ ⌜ Listing base (now mark) (now list) n ⌝ }
-    ensures { λ r. ⌜ Lowered (flat width height (now (floor .entry))) base (now (mark .entry))
-        (Passed (flat width height (now (floor .entry))) base (now (mark .entry)) (now (list .entry)) n) (now (cost .entry)) false (now (cost .exit)) r ⌝ }
+    requires { ⌜ Sized (flat width height (now floor)) ⌝ ∗ ⌜ Costs (flat width height (now floor)) base (now mark) (now cost) ⌝
+        ∗ ⌜ Listing base (now mark) (now list) n ⌝ ∗ ⌜ Noted (flat width height (now floor)) base (now mark) (now list) n (now cost) ⌝ }
+    ensures { λ r. ⌜ Passed (flat width height (now (floor .entry))) base (now (mark .entry)) n n
+        (now (cost .entry)) (now (cost .exit)) (now (list .exit)) r ⌝ }
 {
     let mut any = false;
     let mut i = 0;
     while i < n {
-        let c = floor::wide16(list[i]);
-        any = ease_cell(width, height, floor, base, mark, cost, c, any);
+        any = ease_again(width, height, floor, base, mark, cost, list, i, any);
         i += 1;
     }
     any
@@ -111,11 +155,12 @@ pub(crate) fn relax(
     base: u32,
     mark: &[u32],
     cost: &mut [u16],
-    list: &[u16],
+    list: &mut [u16],
     n: usize,
 )
-    requires { ⌜ Sized (flat width height (now floor)) ⌝ ∗ ⌜ Costs (flat width height (now floor)) base (now mark) (now cost) ⌝ ∗ ⌜ Listing base (now mark) (now list) n ⌝ }
-    ensures { λ _. ⌜ Relaxed (flat width height (now (floor .entry))) base (now (mark .entry)) (now (cost .entry)) (now (cost .exit)) ⌝ }
+    requires { ⌜ Sized (flat width height (now floor)) ⌝ ∗ ⌜ Costs (flat width height (now floor)) base (now mark) (now cost) ⌝
+        ∗ ⌜ Listing base (now mark) (now list) n ⌝ ∗ ⌜ Noted (flat width height (now floor)) base (now mark) (now list) n (now cost) ⌝ }
+    ensures { λ _. ⌜ Relaxed (flat width height (now (floor .entry))) base (now (mark .entry)) n (now (cost .entry)) (now (cost .exit)) (now (list .exit)) ⌝ }
 {
     while pass(width, height, floor, base, mark, cost, list, n) {}
 }

@@ -1,4 +1,5 @@
-// The rings around a cell are marked one after another, and their cells put into a list.
+// The rings around a cell are marked one after another, their cells put into a list, and costs lowered on the way.
+// The list's i-th cell stands at i. At i + 4096 stands the cost at which its moves were followed last, and 65535 before they were.
 ghost use mathlib.Core.Path.{_≡_};
 ghost use mathlib.Core.Bool.{true};
 ghost use Prim.Native.Nat.{_<_, _≤_};
@@ -11,7 +12,7 @@ ghost use Rattle.lookahead.specs.Rings.{Rings};
 use super::Around;
 use floor::Step;
 
-// The cell d gets the mark k and the cost v, and goes into the list, if it has no mark yet.
+// The cell d is reached at the cost v. With no mark yet it gets the mark k and goes into the list; with one its cost is lowered, if v is lower.
 fn reach(
     base: u32,
     mark: &mut [u32],
@@ -27,15 +28,19 @@ fn reach(
         (state (now (mark .exit)) (now (cost .exit)) (now (list .exit)) r) ⌝ }
 {
     if base <= mark[d] {
+        if v < cost[d] {
+            cost[d] = v;
+        }
         return n;
     }
     mark[d] = k;
     cost[d] = v;
     list[n] = d as u16;
+    list[n + 4096] = 65535;
     n + 1
 }
 
-// The move m from the cell c of mark k: the cell moved into is reached.
+// The move m from the cell c of mark k and cost w: the cell moved into is reached.
 fn extend(
     width: usize,
     height: usize,
@@ -50,22 +55,23 @@ fn extend(
     row: usize,
     m: usize,
     k: u32,
+    w: u16,
 ) -> usize
     requires { ⌜ Sized (flat width height (now floor)) ⌝ ∗ ⌜ Room (flat width height (now floor)) base (state (now mark) (now cost) (now list) n) ⌝
-        ∗ ⌜ Leaving (flat width height (now floor)) base c col row k (now mark) ⌝ ∗ ⌜ m < 8 ⌝ }
-    ensures { λ r. ⌜ Extended (flat width height (now (floor .entry))) base k c m (state (now (mark .entry)) (now (cost .entry)) (now (list .entry)) n)
+        ∗ ⌜ Leaving (flat width height (now floor)) base c col row k w (state (now mark) (now cost) (now list) n) ⌝ ∗ ⌜ m < 8 ⌝ }
+    ensures { λ r. ⌜ Extended (flat width height (now (floor .entry))) base k c m w (state (now (mark .entry)) (now (cost .entry)) (now (list .entry)) n)
         (state (now (mark .exit)) (now (cost .exit)) (now (list .exit)) r) ⌝ }
 {
     match floor::step_from(width, height, floor, c, col, row, m) {
         Step::To { cell, cost: v } => {
-            let sum = cost[c] + v;
+            let sum = w + v;
             reach(base, mark, cost, list, n, cell, k + 1, sum)
         }
         Step::Wall => n,
     }
 }
 
-// Every move from the cell c of mark k.
+// Every move from the cell c of mark k and cost w.
 fn visit(
     width: usize,
     height: usize,
@@ -77,10 +83,11 @@ fn visit(
     n: usize,
     c: usize,
     k: u32,
+    w: u16,
 ) -> usize
     requires { ⌜ Sized (flat width height (now floor)) ⌝ ∗ ⌜ Room (flat width height (now floor)) base (state (now mark) (now cost) (now list) n) ⌝
-        ∗ ⌜ Open (flat width height (now floor)) base c k (now mark) ⌝ }
-    ensures { λ r. ⌜ Left (flat width height (now (floor .entry))) base k c 8 (state (now (mark .entry)) (now (cost .entry)) (now (list .entry)) n)
+        ∗ ⌜ Open (flat width height (now floor)) base c k w (state (now mark) (now cost) (now list) n) ⌝ }
+    ensures { λ r. ⌜ Left (flat width height (now (floor .entry))) base k c 8 w (state (now (mark .entry)) (now (cost .entry)) (now (list .entry)) n)
         (state (now (mark .exit)) (now (cost .exit)) (now (list .exit)) r) ⌝ }
 {
     let col = c % width;
@@ -102,6 +109,7 @@ fn visit(
             row,
             m,
             k,
+            w,
         );
         m += 1;
     }
@@ -130,7 +138,9 @@ fn spread(
     let mut i = from;
     while i < to {
         let c = floor::wide16(list[i]);
-        end = visit(width, height, floor, base, mark, cost, list, end, c, k);
+        let w = cost[c];
+        end = visit(width, height, floor, base, mark, cost, list, end, c, k, w);
+        list[i + 4096] = w;
         i += 1;
     }
     end
@@ -138,12 +148,13 @@ fn spread(
 
 // Only s has a mark: its ring is 0.
 fn begin(base: u32, mark: &mut [u32], cost: &mut [u16], list: &mut [u16], s: usize)
-    requires { ⌜ s < 4096 ⌝ ∗ ⌜ length (now mark) ≡ 4096 ⌝ ∗ ⌜ length (now cost) ≡ 4096 ⌝ ∗ ⌜ length (now list) ≡ 4096 ⌝ }
+    requires { ⌜ s < 4096 ⌝ ∗ ⌜ length (now mark) ≡ 4096 ⌝ ∗ ⌜ length (now cost) ≡ 4096 ⌝ ∗ ⌜ length (now list) ≡ 8192 ⌝ }
     ensures { λ _. ⌜ state (now (mark .exit)) (now (cost .exit)) (now (list .exit)) 1 ≡ begun base (now (mark .entry)) (now (cost .entry)) (now (list .entry)) s ⌝ }
 {
     mark[s] = base;
     cost[s] = 0;
     list[0] = s as u16;
+    list[4096] = 65535;
 }
 
 // The rings around s are marked, up to the depth's or the goal's.

@@ -164,7 +164,7 @@ module _ (j : Job) (bytes : List ℕ) (start : ℕ) (table₀ path₀ : List ℕ
         }
 
 -- the scratch lists that a trial starts with
-pub scratched : Scratch (replicate 288 0) (replicate 4096 0) (replicate 4096 0) (replicate 4096 0) (replicate 4096 0)
+pub scratched : Scratch (replicate 288 0) (replicate 4096 0) (replicate 4096 0) (replicate 8192 0) (replicate 4096 0)
 scratched = record { room = length-replicate {A = ℕ} 288 0; fresh = fresh-zeros; places = length-replicate {A = ℕ} 4096 0 }
 
 -- ---- a trial's answer, by what the opening answers

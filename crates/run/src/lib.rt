@@ -220,7 +220,7 @@ fn ride(job: Job, floor: &[u8], start: usize, table: &mut [u32], path: &mut [u16
     let mut moves = [0u8; 288];
     let mut mark = [0u32; 4096];
     let mut cost = [0u16; 4096];
-    let mut list = [0u16; 4096];
+    let mut list = [0u16; 8192];
     let mut place = [0u16; 4096];
     ride_on(
         job,

@@ -4,7 +4,7 @@ use borrow.Author.Needs.{needs}
 use Rattle.floor.proofs.Steps.{free-few}
 use Rattle.model.specs.Checks.{floorOf}
 use Rattle.lookahead.proofs.Meaning.{looked, blocked}
-use Rattle.lookahead.proofs.Seeing.{framed-costs, framed-listing}
+use Rattle.lookahead.proofs.Seeing.{framed-costs, framed-listing, framed-noted}
 use Rattle.lookahead.specs.Marks.{state}
 use Rattle.lookahead.specs.Rings.{Framed}
 use Rattle.lookahead.proofs.look.Statement.{statement}
@@ -34,7 +34,10 @@ relax-requires c κs =
       a .pre .0 .sized,
       (
         framed-costs g (a .args .s) (a .args .job .goal) (a .args .job .depth) (a .args .base) _ _ F (a .pre .0 .deep),
-        framed-listing g (a .args .s) (a .args .job .goal) (a .args .job .depth) (a .args .base) _ _ F (a .pre .0 .deep),
+        (
+          framed-listing g (a .args .s) (a .args .job .goal) (a .args .job .depth) (a .args .base) _ _ F (a .pre .0 .deep),
+          framed-noted g (a .args .s) (a .args .job .goal) (a .args .job .depth) (a .args .base) _ _ F (a .pre .0 .deep),
+        ),
       ),
     )
 
@@ -52,8 +55,8 @@ same-length-3 c = search needs
 
 returns : tie.Need-returns
 returns c =
-    let a = c .before .before .before .before .before .before .before .before .before .before .before .before .before .before .before .before .before .before .before .before .before .before .before in
-    looked (a .args .job) (a .args .floor .now) (a .args .s) (a .pre .0) (a .args .base) _ _ _ _ _ (framed (c .before .before .before .before .before .before .before)) (a .pre .1 .marks .room) _ (c .before .before .relax .ensures)
+    let a = c .before .before .before .before .before .before .before .before .before .before .before .before .before .before .before .before .before .before .before .before .before .before .before .before .before in
+    looked (a .args .job) (a .args .floor .now) (a .args .s) (a .pre .0) (a .args .base) _ _ _ _ _ (framed (c .before .before .before .before .before .before .before .before .before)) (a .pre .1 .marks .room) _ _ (c .before .before .before .before .relax .ensures)
 
 same-length-4 : tie.Need-same-length-4
 same-length-4 c = search needs

@@ -1,18 +1,14 @@
 -- `lookahead::costs::ease` meets its contract: what `lower` does, at the cell that the move leads to.
 -- Assumes nothing.
-use Prim.Native.Nat.{_<_}
 use mathlib.Core.Path.{_≡_, sym, _∙_}
 use native.Mathlib.Omega.{arith}
 use borrow.Author.Needs.{needs}
-use Rattle.floor.proofs.Steps.{free-few, Stepped, stepped}
+use Rattle.floor.proofs.Steps.{Stepped, stepped}
 use Rattle.floor.specs.Moves.{flat, stepOf}
 use Rattle.floor.specs.declared.Step.the-variants.{To}
 use Rattle.lookahead.proofs.Lowering.{eased, eased-out, eased-wall}
 use Rattle.lookahead.proofs.costs.ease.Statement.{statement}
 use Rattle.lookahead.proofs.costs.ease.Tie as tie
-
-few : (c : tie.Start) → c .args .c < 4096
-few c = free-few (flat (c .args .width) (c .args .height) (c .args .floor .now)) (c .args .c) (c .pre .0) (c .pre .1 .1 .0 .placed .free)
 
 -- the step leads to the cell
 to-cell : (c : tie.After-cell) → let a = c .before .before .before .before .before .before .args in stepOf (flat (a .width) (a .height) (a .floor .now)) (a .c) (a .m) ≡ To (c .cell .given .0 .0) (c .cell .given .0 .1 .0)
@@ -37,21 +33,15 @@ shared-slice-read-if1 c = omega (arith, at-cell (c .before .before) .few, c .bef
 returns : tie.Need-returns
 returns c =
     let a = c .before .before .before .before .before .before .before .before .before in
-    eased-out (flat (a .args .width) (a .args .height) (a .args .floor .now)) (a .args .base) (a .args .mark .now) (a .args .cost .now) (a .args .c) (a .args .m) (a .pre .1 .0) _ _ (a .args .changed) (to-cell (c .before .before .before)) (c .if1 .taken)
-
-mul-sum : tie.Need-mul-sum
-mul-sum c = omega (arith, few (c .before .before .before .before .before .before .before .before .before))
-
-slice-read-sum : tie.Need-slice-read-sum
-slice-read-sum c = omega (arith, few (c .before .before .before .before .before .before .before .before .before .before), c .before .before .before .before .before .before .before .before .before .before .pre .1 .0 .costs)
+    eased-out (flat (a .args .width) (a .args .height) (a .args .floor .now)) (a .args .base) (a .args .mark .now) (a .args .cost .now) (a .args .c) (a .args .m) (a .args .w) (a .pre .1 .0) (a .pre .1 .1 .1 .1) _ _ (a .args .changed) (to-cell (c .before .before .before)) (c .if1 .taken)
 
 add-sum : tie.Need-add-sum
 add-sum c =
-    let a = c .before .before .before .before .before .before .before .before .before .before in
-    omega (arith, a .pre .1 .0 .small (a .args .c) (a .pre .1 .1 .0 .marked), at-cell (c .before .before .before .before) .most)
+    let a = c .before .before .before .before .before .before .before .before .before in
+    omega (arith, a .pre .1 .0 .small (a .args .c) (a .pre .1 .1 .0 .marked), a .pre .1 .1 .1 .1, at-cell (c .before .before .before) .most)
 
 lower-requires : tie.Need-lower-requires
-lower-requires c κs = omega (arith, at-cell (c .before .before .before .before .before) .few, c .before .before .before .before .before .before .before .before .before .before .before .pre .1 .0 .costs)
+lower-requires c κs = omega (arith, at-cell (c .before .before .before .before) .few, c .before .before .before .before .before .before .before .before .before .before .pre .1 .0 .costs)
 
 enum-told : tie.Need-enum-told
 enum-told c = search needs
@@ -61,14 +51,14 @@ same-length c = search needs
 
 returns-2 : tie.Need-returns-2
 returns-2 c =
-    let a = c .before .before .before .before .before .before .before .before .before .before .before .before .before .before in
-    eased (flat (a .args .width) (a .args .height) (a .args .floor .now)) (a .args .base) (a .args .mark .now) (a .args .cost .now) (a .args .c) (a .args .m) (a .pre .1 .0) (a .pre .0) _ _ (to-cell (c .before .before .before .before .before .before .before .before))
-    (a .pre .1 .1 .0 .marked) (omega (arith, c .before .before .before .before .before .if1 .left)) (a .args .changed) _ _ (c .before .before .lower .ensures)
+    let a = c .before .before .before .before .before .before .before .before .before .before .before .before .before in
+    eased (flat (a .args .width) (a .args .height) (a .args .floor .now)) (a .args .base) (a .args .mark .now) (a .args .cost .now) (a .args .c) (a .args .m) (a .args .w) (a .pre .1 .0) (a .pre .1 .1 .1 .1) (a .pre .0) _ _ (to-cell (c .before .before .before .before .before .before .before))
+    (a .pre .1 .1 .0 .marked) (omega (arith, c .before .before .before .before .if1 .left)) (a .args .changed) _ _ (c .before .before .lower .ensures)
 
 returns-3 : tie.Need-returns-3
 returns-3 c =
     let a = c .before .before .before .before .before .before in
-    eased-wall (flat (a .args .width) (a .args .height) (a .args .floor .now)) (a .args .base) (a .args .mark .now) (a .args .cost .now) (a .args .c) (a .args .m) (a .pre .1 .0) (a .args .changed) (sym (c .before .before .step-from .ensures) ∙ c .enum-told .given .1)
+    eased-wall (flat (a .args .width) (a .args .height) (a .args .floor .now)) (a .args .base) (a .args .mark .now) (a .args .cost .now) (a .args .c) (a .args .m) (a .args .w) (a .pre .1 .0) (a .pre .1 .1 .1 .1) (a .args .changed) (sym (c .before .before .step-from .ensures) ∙ c .enum-told .given .1)
 
 pub ease-spec : {M : Type 1} → statement M
 ease-spec =
@@ -79,8 +69,6 @@ ease-spec =
     mul-if1
     shared-slice-read-if1
     returns
-    mul-sum
-    slice-read-sum
     add-sum
     lower-requires
     enum-told

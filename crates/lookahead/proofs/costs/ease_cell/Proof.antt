@@ -5,17 +5,17 @@ use mathlib.Core.Path.{_≡_, refl, sym, _∙_, subst}
 use native.Mathlib.Omega.{arith}
 use borrow.Author.Needs.{needs}
 use Rattle.floor.specs.Moves.{flat}
-use Rattle.lookahead.proofs.Lowering.{lowered-none, tight-more}
-use Rattle.lookahead.specs.Costs.{Lowered, Tight}
+use Rattle.lookahead.proofs.Lowering.{lowered-none, eased-more}
+use Rattle.lookahead.specs.Costs.{Lowered, Easing}
 use Rattle.lookahead.proofs.costs.ease_cell.Statement.{statement}
 use Rattle.lookahead.proofs.costs.ease_cell.Tie as tie
 
 abbrev Inv-loop : tie.InvT-loop
-Inv-loop width height floor base mark cost₀ c changed col row any₀ m₀ cost any m =
-    (m ≤ 8) × Lowered (flat width height floor) base mark (Tight (flat width height floor) base mark c m) cost₀ changed cost any
+Inv-loop width height floor base mark cost₀ c w changed col row any₀ m₀ cost any m =
+    (m ≤ 8) × Lowered (flat width height floor) base mark (Easing (flat width height floor) base mark c m w) cost₀ changed cost any
 
 abbrev μ-loop : tie.MeasureT-loop
-μ-loop width height floor base mark cost₀ c changed col row any₀ m₀ cost any m = 8 - m
+μ-loop width height floor base mark cost₀ c w changed col row any₀ m₀ cost any m = 8 - m
 
 rem-col : tie.Need-rem-col Inv-loop μ-loop
 rem-col c = search needs
@@ -26,12 +26,12 @@ div-row c = search needs
 loop-holds : tie.Need-loop-holds Inv-loop μ-loop
 loop-holds c =
     let a = c .before .before .before in
-    (omega arith, lowered-none (flat (a .args .width) (a .args .height) (a .args .floor .now)) (a .args .base) (a .args .mark .now) (Tight (flat (a .args .width) (a .args .height) (a .args .floor .now)) (a .args .base) (a .args .mark .now) (a .args .c) 0) (a .args .cost .now) (a .args .changed) (a .pre .1 .0) (λ e i l. absurd (omega arith)))
+    (omega arith, lowered-none (flat (a .args .width) (a .args .height) (a .args .floor .now)) (a .args .base) (a .args .mark .now) (Easing (flat (a .args .width) (a .args .height) (a .args .floor .now)) (a .args .base) (a .args .mark .now) (a .args .c) 0 (a .args .w)) (a .args .cost .now) (a .args .changed) (a .pre .1 .0) (a .pre .1 .1 .1, λ i l. absurd (omega arith)))
 
 ease-requires : tie.Need-ease-requires Inv-loop μ-loop
 ease-requires c κs =
     let a = c .before .before .before .before .before .before in
-    (a .pre .0, (c .before .before .loop .inv .1 .costs, (record { marked = a .pre .1 .1; placed = record { free = a .pre .1 .0 .free (a .args .c) (a .pre .1 .1); column = refl; row = refl } }, omega arith)))
+    (a .pre .0, (c .before .before .loop .inv .1 .costs, (record { marked = a .pre .1 .1 .0; placed = record { free = a .pre .1 .0 .free (a .args .c) (a .pre .1 .1 .0); column = refl; row = refl } }, (omega arith, c .before .before .loop .inv .1 .so .0))))
 
 add-m : tie.Need-add-m Inv-loop μ-loop
 add-m c = omega arith
@@ -43,7 +43,7 @@ loop-again : tie.Need-loop-again Inv-loop μ-loop
 loop-again c =
     let a = c .before .before .before .before .before .before .before .before .before .args in
     let l = c .before .before .before .before .before .loop in
-    (omega arith, tight-more (flat (a .width) (a .height) (a .floor .now)) (a .base) (a .mark .now) (a .c) (l .m) (a .cost .now) (a .changed) (l .cost) (l .any) _ _ (l .inv .1) (c .before .before .ease .ensures))
+    (omega arith, eased-more (flat (a .width) (a .height) (a .floor .now)) (a .base) (a .mark .now) (a .c) (l .m) (a .w) (a .cost .now) (a .changed) (l .cost) (l .any) _ _ (l .inv .1) (c .before .before .ease .ensures))
 
 same-length : tie.Need-same-length Inv-loop μ-loop
 same-length c = c .before .loop .inv .1 .costs .costs ∙ sym (c .before .before .before .before .before .pre .1 .0 .costs)
@@ -53,7 +53,7 @@ returns c =
     let a = c .before .before .before .before .before .args in
     let l = c .before .loop in
     let e : l .m ≡ 8 = omega arith in
-    subst (λ z. Lowered (flat (a .width) (a .height) (a .floor .now)) (a .base) (a .mark .now) (Tight (flat (a .width) (a .height) (a .floor .now)) (a .base) (a .mark .now) (a .c) z) (a .cost .now) (a .changed) (l .cost) (l .any)) e (l .inv .1)
+    subst (λ z. Lowered (flat (a .width) (a .height) (a .floor .now)) (a .base) (a .mark .now) (Easing (flat (a .width) (a .height) (a .floor .now)) (a .base) (a .mark .now) (a .c) z (a .w)) (a .cost .now) (a .changed) (l .cost) (l .any)) e (l .inv .1)
 
 pub ease-cell-spec : {M : Type 1} → statement M
 ease-cell-spec =

@@ -1,43 +1,32 @@
--- `lookahead::costs::pass` meets its contract. The loop's invariant: the first i cells have lowered what they can.
+-- `lookahead::costs::pass` meets its contract. The loop's invariant: the moves of the first i cells are followed where they need to be.
 -- Assumes nothing.
 use Prim.Native.Nat.{_-_, _≤_}
-use mathlib.Core.Bool.{false}
 use mathlib.Core.Path.{_≡_, sym, _∙_, subst}
 use native.Mathlib.Omega.{arith}
-use borrow.Author.Needs.{needs}
 use Rattle.floor.specs.Moves.{flat}
-use Rattle.lookahead.proofs.Lowering.{lowered-none, passed-more}
-use Rattle.lookahead.specs.Costs.{Lowered, Passed}
-use Rattle.lookahead.specs.Marks.{In}
+use Rattle.lookahead.proofs.Lowering.{passed-none, passed-more}
+use Rattle.lookahead.specs.Costs.{Passed}
 use Rattle.lookahead.proofs.costs.pass.Statement.{statement}
 use Rattle.lookahead.proofs.costs.pass.Tie as tie
 
 abbrev Inv-loop : tie.InvT-loop
-Inv-loop width height floor base mark cost₀ list n any₀ i₀ cost any i =
-    (i ≤ n) × Lowered (flat width height floor) base mark (Passed (flat width height floor) base mark list i) cost₀ false cost any
+Inv-loop width height floor base mark cost₀ list₀ n any₀ i₀ cost list any i =
+    (i ≤ n) × Passed (flat width height floor) base mark n i cost₀ cost list any
 
 abbrev μ-loop : tie.MeasureT-loop
-μ-loop width height floor base mark cost₀ list n any₀ i₀ cost any i = n - i
+μ-loop width height floor base mark cost₀ list₀ n any₀ i₀ cost list any i = n - i
 
 loop-holds : tie.Need-loop-holds Inv-loop μ-loop
 loop-holds c =
     let a = c .before .before .before .before in
-    (omega arith, lowered-none (flat (a .args .width) (a .args .height) (a .args .floor .now)) (a .args .base) (a .args .mark .now) (Passed (flat (a .args .width) (a .args .height) (a .args .floor .now)) (a .args .base) (a .args .mark .now) (a .args .list .now) 0) (a .args .cost .now) false (a .pre .1 .0) (λ e i l. absurd (omega arith)))
+    (omega arith, passed-none (flat (a .args .width) (a .args .height) (a .args .floor .now)) (a .args .base) (a .args .mark .now) (a .args .list .now) (a .args .n) (a .args .cost .now) (a .pre .1 .1 .0) (a .pre .1 .0) (a .pre .1 .1 .1))
 
-mul-wide16 : tie.Need-mul-wide16 Inv-loop μ-loop
-mul-wide16 c = search needs
-
-shared-slice-read-wide16 : tie.Need-shared-slice-read-wide16 Inv-loop μ-loop
-shared-slice-read-wide16 c = omega (arith, c .before .before .before .before .before .before .before .pre .1 .1 .fits)
-
-wide16-requires : tie.Need-wide16-requires Inv-loop μ-loop
-wide16-requires c κs = search needs
-
-ease-cell-requires : tie.Need-ease-cell-requires Inv-loop μ-loop
-ease-cell-requires c κs =
-    let a = c .before .before .before .before .before .before .before .before .before in
-    let l = c .before .before .before .before .loop in
-    (a .pre .0, (l .inv .1 .costs, subst (In (a .args .base) (a .args .mark .now)) (sym (c .before .wide16 .ensures .0)) (a .pre .1 .1 .early (l .i) (omega arith))))
+ease-again-requires : tie.Need-ease-again-requires Inv-loop μ-loop
+ease-again-requires c κs =
+    let a = c .before .before .before .before .before .before .before .before in
+    let l = c .before .before .before .loop in
+    let p = l .inv .1 in
+    (a .pre .0, (p .lowered .costs, ((p .listing .room, omega (arith, p .listing .fits), p .listing .early (l .i) (omega arith)), p .lowered .so (l .i) (omega arith))))
 
 add-i : tie.Need-add-i Inv-loop μ-loop
 add-i c = omega arith
@@ -47,19 +36,22 @@ loop-less c = omega arith
 
 loop-again : tie.Need-loop-again Inv-loop μ-loop
 loop-again c =
-    let a = c .before .before .before .before .before .before .before .before .before .before .before .before .args in
-    let l = c .before .before .before .before .before .before .before .loop in
-    (omega arith, passed-more (flat (a .width) (a .height) (a .floor .now)) (a .base) (a .mark .now) (a .list .now) (l .i) _ (a .cost .now) false (l .cost) (l .any) _ _ (sym (c .before .before .before .before .wide16 .ensures .0)) (l .inv .1) (c .before .before .ease-cell .ensures))
+    let a = c .before .before .before .before .before .before .before .before .before .before .before .before .before in
+    let l = c .before .before .before .before .before .before .before .before .loop in
+    (omega arith, passed-more (flat (a .args .width) (a .args .height) (a .args .floor .now)) (a .args .base) (a .args .mark .now) (a .args .n) (l .i) (a .args .cost .now) (l .cost) (l .list) (l .any) _ _ _ (omega arith) (l .inv .1) (c .before .before .before .before .ease-again .ensures))
 
 same-length : tie.Need-same-length Inv-loop μ-loop
-same-length c = c .before .loop .inv .1 .costs .costs ∙ sym (c .before .before .before .before .before .before .pre .1 .0 .costs)
+same-length c = c .before .loop .inv .1 .lowered .costs .costs ∙ sym (c .before .before .before .before .before .before .pre .1 .0 .costs)
+
+same-length-2 : tie.Need-same-length-2 Inv-loop μ-loop
+same-length-2 c = c .before .loop .inv .1 .listing .room ∙ sym (c .before .before .before .before .before .before .pre .1 .1 .0 .room)
 
 returns : tie.Need-returns Inv-loop μ-loop
 returns c =
     let a = c .before .before .before .before .before .before .args in
     let l = c .before .loop in
     let e : l .i ≡ a .n = omega arith in
-    subst (λ z. Lowered (flat (a .width) (a .height) (a .floor .now)) (a .base) (a .mark .now) (Passed (flat (a .width) (a .height) (a .floor .now)) (a .base) (a .mark .now) (a .list .now) z) (a .cost .now) false (l .cost) (l .any)) e (l .inv .1)
+    subst (λ z. Passed (flat (a .width) (a .height) (a .floor .now)) (a .base) (a .mark .now) (a .n) z (a .cost .now) (l .cost) (l .list) (l .any)) e (l .inv .1)
 
 pub pass-spec : {M : Type 1} → statement M
 pass-spec =
@@ -68,12 +60,10 @@ pass-spec =
     Inv-loop
     μ-loop
     loop-holds
-    mul-wide16
-    shared-slice-read-wide16
-    wide16-requires
-    ease-cell-requires
+    ease-again-requires
     add-i
     loop-less
     loop-again
     same-length
+    same-length-2
     returns)

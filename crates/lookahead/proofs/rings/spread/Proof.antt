@@ -1,10 +1,11 @@
 -- `lookahead::rings::spread` meets its contract. The loop's invariant: the cells at the places from `from` to i are left.
 -- Assumes nothing.
 use Prim.Native.Nat.{_-_, _≤_}
-use mathlib.Core.Path.{_≡_, sym, _∙_, subst}
+use mathlib.Core.Path.{_≡_, refl, sym, _∙_, subst}
 use native.Mathlib.Omega.{arith}
 use borrow.Author.Needs.{needs}
 use lib.ListN.{getD}
+use Rattle.floor.proofs.Steps.{free-few}
 use Rattle.floor.specs.Moves.{flat}
 use Rattle.lookahead.proofs.Grow.{swept-none, swept-more}
 use Rattle.lookahead.specs.Marks.{state, In, Swept}
@@ -18,9 +19,15 @@ Inv-loop width height floor base mark₀ cost₀ list₀ from to k end₀ i₀ m
 abbrev μ-loop : tie.MeasureT-loop
 μ-loop width height floor base mark₀ cost₀ list₀ from to k end₀ i₀ mark cost list end i = to - i
 
--- the cell at i is the one that stood there at the start
+-- the cell at i is the one that stood there at the start, and has the mark k
 cell-eq : (c : tie.After-wide16 Inv-loop μ-loop) → getD (c .before .before .before .before .before .before .before .before .args .list .now) (c .before .before .before .loop .i) 0 ≡ c .wide16 .result
 cell-eq c = let l = c .before .before .before .loop in sym (l .inv .2 .grew .kept .cells (l .i) (omega arith)) ∙ sym (c .wide16 .ensures .0)
+
+marked : (c : tie.After-wide16 Inv-loop μ-loop) → getD (c .before .before .before .before .before .before .before .before .args .mark .now) (c .wide16 .result) 0 ≡ c .before .before .before .before .before .before .before .before .args .k
+marked c = let l = c .before .before .before .loop in rw (cell-eq c) at (c .before .before .before .before .before .before .before .before .pre .1 .1 .marked (l .i) (l .inv .1) (omega arith))
+
+inside : (c : tie.After-wide16 Inv-loop μ-loop) → In (c .before .before .before .before .before .before .before .before .args .base) (c .before .before .before .before .before .before .before .before .args .mark .now) (c .wide16 .result)
+inside c = omega (arith, marked c, c .before .before .before .before .before .before .before .before .pre .1 .1 .ring .first)
 
 loop-holds : tie.Need-loop-holds Inv-loop μ-loop
 loop-holds c =
@@ -34,17 +41,32 @@ slice-read-wide16 : tie.Need-slice-read-wide16 Inv-loop μ-loop
 slice-read-wide16 c = omega (arith, c .before .before .loop .inv .2 .grew .room .sizes .cells, c .before .before .before .before .before .before .before .pre .1 .0 .sizes .count)
 
 wide16-requires : tie.Need-wide16-requires Inv-loop μ-loop
-wide16-requires c κs = search needs
+wide16-requires c κs = tt
+
+mul-w : tie.Need-mul-w Inv-loop μ-loop
+mul-w c = search needs
+
+slice-read-w : tie.Need-slice-read-w Inv-loop μ-loop
+slice-read-w c =
+    let a = c .before .before .before .before .before .before .before .before .before in
+    omega (arith, free-few (flat (a .args .width) (a .args .height) (a .args .floor .now)) (c .before .wide16 .result) (a .pre .0) (a .pre .1 .0 .free _ (inside (c .before))), c .before .before .before .before .loop .inv .2 .grew .room .sizes .costs)
 
 visit-requires : tie.Need-visit-requires Inv-loop μ-loop
 visit-requires c κs =
-    let a = c .before .before .before .before .before .before .before .before .before .before .before in
-    let l = c .before .before .before .before .before .before .loop in
-    let g = l .inv .2 .grew in
-    let x = c .before .before .before .wide16 .result in
-    let k : getD (a .args .mark .now) x 0 ≡ a .args .k = rw (cell-eq (c .before .before .before)) at (a .pre .1 .1 .marked (l .i) (l .inv .1) (omega arith)) in
-    let p : In (a .args .base) (a .args .mark .now) x = omega (arith, k, a .pre .1 .1 .ring .first) in
-    (a .pre .0, (g .room, record { free = a .pre .1 .0 .free x p; ring = a .pre .1 .1 .ring; marked = g .kept .marks x p ∙ k }))
+    let a = c .before .before .before .before .before .before .before .before .before .before .before .before in
+    let g = c .before .before .before .before .before .before .before .loop .inv .2 .grew in
+    let x = c .before .before .before .before .wide16 .result in
+    let p = inside (c .before .before .before .before) in
+    (a .pre .0, (g .room, record { free = a .pre .1 .0 .free x p; ring = a .pre .1 .1 .ring; marked = g .kept .marks x p ∙ marked (c .before .before .before .before); costs = refl }))
+
+add-list : tie.Need-add-list Inv-loop μ-loop
+add-list c = omega (arith, c .before .before .before .before .before .before .before .before .before .before .before .before .before .before .before .before .before .before .before .pre .1 .0 .sizes .count)
+
+mul-list : tie.Need-mul-list Inv-loop μ-loop
+mul-list c = omega (arith, c .before .before .before .before .before .before .before .before .before .before .before .before .before .before .before .before .before .before .before .pre .1 .0 .sizes .count)
+
+slice-write-list : tie.Need-slice-write-list Inv-loop μ-loop
+slice-write-list c = omega (arith, c .before .before .before .before .before .before .before .before .before .before .before .before .before .before .before .before .before .before .before .pre .1 .0 .sizes .count, c .before .before .before .before .before .before .visit .ensures .grew .room .sizes .cells)
 
 add-i : tie.Need-add-i Inv-loop μ-loop
 add-i c = omega arith
@@ -54,10 +76,9 @@ loop-less c = omega arith
 
 loop-again : tie.Need-loop-again Inv-loop μ-loop
 loop-again c =
-    let a = c .before .before .before .before .before .before .before .before .before .before .before .before .before .before .before .before .before .before in
-    let l = c .before .before .before .before .before .before .before .before .before .before .before .before .before .loop in
-    let v = c .before .before .before .before .before .before in
-    (omega arith, omega arith, swept-more (flat (a .args .width) (a .args .height) (a .args .floor .now)) (a .args .base) (a .args .k) (a .args .from) (l .i) _ _ _ _ (cell-eq (v .before .before .before .before)) (l .inv .2) (v .visit .ensures))
+    let a = c .before .before .before .before .before .before .before .before .before .before .before .before .before .before .before .before .before .before .before in
+    let l = c .before .before .before .before .before .before .before .before .before .before .before .before .before .before .loop in
+    (omega arith, omega arith, swept-more (flat (a .args .width) (a .args .height) (a .args .floor .now)) (a .args .base) (a .args .k) (a .args .from) (l .i) _ _ _ _ _ (omega arith) (cell-eq (c .before .before .before .before .before .before .before .before .before .before .before)) (l .inv .2) (c .before .before .before .before .before .before .visit .ensures))
 
 same-length : tie.Need-same-length Inv-loop μ-loop
 same-length c = c .before .loop .inv .2 .grew .room .sizes .marks ∙ sym (c .before .before .before .before .before .before .pre .1 .0 .sizes .marks)
@@ -85,7 +106,12 @@ spread-spec =
     mul-wide16
     slice-read-wide16
     wide16-requires
+    mul-w
+    slice-read-w
     visit-requires
+    add-list
+    mul-list
+    slice-write-list
     add-i
     loop-less
     loop-again

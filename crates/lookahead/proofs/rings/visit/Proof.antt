@@ -11,11 +11,11 @@ use Rattle.lookahead.proofs.rings.visit.Statement.{statement}
 use Rattle.lookahead.proofs.rings.visit.Tie as tie
 
 abbrev Inv-loop : tie.InvT-loop
-Inv-loop width height floor base mark₀ cost₀ list₀ n c k col row end₀ m₀ mark cost list end m =
-    (m ≤ 8) × Left (flat width height floor) base k c m (state mark₀ cost₀ list₀ n) (state mark cost list end)
+Inv-loop width height floor base mark₀ cost₀ list₀ n c k w col row end₀ m₀ mark cost list end m =
+    (m ≤ 8) × Left (flat width height floor) base k c m w (state mark₀ cost₀ list₀ n) (state mark cost list end)
 
 abbrev μ-loop : tie.MeasureT-loop
-μ-loop width height floor base mark₀ cost₀ list₀ n c k col row end₀ m₀ mark cost list end m = 8 - m
+μ-loop width height floor base mark₀ cost₀ list₀ n c k w col row end₀ m₀ mark cost list end m = 8 - m
 
 rem-col : tie.Need-rem-col Inv-loop μ-loop
 rem-col c = search needs
@@ -26,15 +26,16 @@ div-row c = search needs
 loop-holds : tie.Need-loop-holds Inv-loop μ-loop
 loop-holds c =
     let a = c .before .before .before .before in
-    (omega arith, left-none (flat (a .args .width) (a .args .height) (a .args .floor .now)) (a .args .base) (a .args .k) (a .args .c) _ (a .pre .1 .0))
+    (omega arith, left-none (flat (a .args .width) (a .args .height) (a .args .floor .now)) (a .args .base) (a .args .k) (a .args .c) (a .args .w) _ (a .pre .1 .0) (a .pre .1 .1 .costs))
 
 extend-requires : tie.Need-extend-requires Inv-loop μ-loop
 extend-requires c κs =
     let a = c .before .before .before .before .before .before .before .before .before in
     let o = a .pre .1 .1 in
-    let i = c .before .before .before .before .loop .inv .1 .grew in
+    let L = c .before .before .before .before .loop .inv .1 in
+    let i = L .grew in
     let k = i .kept .marks (a .args .c) (omega (arith, o .marked, o .ring .first)) in
-    (a .pre .0, (i .room, (record { placed = record { free = o .free; column = refl; row = refl }; ring = o .ring; marked = k ∙ o .marked }, omega arith)))
+    (a .pre .0, (i .room, (record { placed = record { free = o .free; column = refl; row = refl }; ring = o .ring; marked = k ∙ o .marked; costs = L .stays }, omega arith)))
 
 add-m : tie.Need-add-m Inv-loop μ-loop
 add-m c = omega arith
@@ -46,7 +47,7 @@ loop-again : tie.Need-loop-again Inv-loop μ-loop
 loop-again c =
     let a = c .before .before .before .before .before .before .before .before .before .before .before .before .before .before .before .before in
     let l = c .before .before .before .before .before .before .before .before .before .before .before .loop in
-    (omega arith, left-more (flat (a .args .width) (a .args .height) (a .args .floor .now)) (a .args .base) (a .args .k) (a .args .c) (l .m) _ _ _ (l .inv .1) (c .before .before .before .before .before .before .extend .ensures))
+    (omega arith, left-more (flat (a .args .width) (a .args .height) (a .args .floor .now)) (a .args .base) (a .args .k) (a .args .c) (l .m) (a .args .w) _ _ _ (l .inv .1) (c .before .before .before .before .before .before .extend .ensures))
 
 same-length : tie.Need-same-length Inv-loop μ-loop
 same-length c = c .before .loop .inv .1 .grew .room .sizes .marks ∙ sym (c .before .before .before .before .before .before .pre .1 .0 .sizes .marks)
@@ -62,7 +63,7 @@ returns c =
     let a = c .before .before .before .before .before .before .args in
     let l = c .before .loop in
     let e : l .m ≡ 8 = omega arith in
-    subst (λ z. Left (flat (a .width) (a .height) (a .floor .now)) (a .base) (a .k) (a .c) z (state (a .mark .now) (a .cost .now) (a .list .now) (a .n)) (state (l .mark) (l .cost) (l .list) (l .end))) e (l .inv .1)
+    subst (λ z. Left (flat (a .width) (a .height) (a .floor .now)) (a .base) (a .k) (a .c) z (a .w) (state (a .mark .now) (a .cost .now) (a .list .now) (a .n)) (state (l .mark) (l .cost) (l .list) (l .end))) e (l .inv .1)
 
 pub visit-spec : {M : Type 1} → statement M
 visit-spec =
