@@ -17,10 +17,9 @@ use Rattle.learning.specs.Ground.{Goal, netOf, distIn, distOf, ringOf, lastOf, 
 use Rattle.learning.specs.Route.{Chain, priorIn}
 use Rattle.learning.proofs.Sound.{ring-self}
 use Rattle.learning.proofs.Spread.{second-true}
-use Rattle.learning.proofs.Ground.{window, ring-low, ring-walk}
+use Rattle.learning.proofs.Ground.{dist-least, window, ring-low, ring-walk}
 use Rattle.learning.proofs.Look.{answer-if}
 use Rattle.learning.proofs.Routes.{route-chain, route-self, route-back, prior-least}
-use Rattle.learning.proofs.Certificate.{dist-least}
 use Rattle.answers.specs.declared.Job.{Job}
 use Rattle.model.specs.Basics.{member}
 use Rattle.model.specs.Floor.{Floor, size, Sized, free, price, ahead, allowed}
