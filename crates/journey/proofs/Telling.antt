@@ -7,7 +7,7 @@ use mathlib.Core.List.{List, [], _∷_, _++_, append-assoc, append-nil}
 use native.Mathlib.Decide.{decLe}
 use native.Mathlib.Omega.{arith}
 use borrow.Author.Tests.{lt-ltb}
-use lib.Dec.{leb, ltb, eqb}
+use lib.Dec.{T, leb, ltb, eqb}
 use lib.ListN.{length, take, drop, getD, length-append, length-drop, drop-of-length-le}
 use lib.Seq.{sets-eq, length-sets, take-at, length-take-le, drop-append-le, drop-drop}
 use Rattle.learning.specs.Path.{All, end, also}
@@ -17,10 +17,10 @@ use Rattle.answers.specs.declared.Report.{Report}
 use Rattle.answers.specs.declared.Verdict.the-variants as Vd
 use Rattle.model.specs.Opening.{openTrial}
 use Rattle.learning.specs.Ground.{View}
-use Rattle.model.specs.Checks.{ceiling}
+use Rattle.model.specs.Checks.{ceiling, floorOf}
 use Rattle.model.specs.Lookahead.{seen, ring, emptyRing, newFigure, target}
 use Rattle.model.specs.Decision.{Deed, atGoal, rise, forward, stay, backOut, goBack, learn, act}
-use Rattle.model.specs.Ride.{Ride, next, ride, report}
+use Rattle.model.specs.Ride.{Ride, next, report}
 use Rattle.model.specs.Line.{field, movesField, trialLine}
 use Rattle.model.proofs.Meaning.{goal-means}
 use Rattle.model.proofs.Openings as openings
@@ -159,7 +159,7 @@ module _ (j : Job) (bytes : List ℕ) (start : ℕ) (table₀ path₀ : List ℕ
   off = by (atGoal j bytes (g .at .state .current)) refl
     where
       by : (b : Bool) → atGoal j bytes (g .at .state .current) ≡ b → b ≡ false
-      by true e = absurd (aside (sym (ap (λ u. u .current) (g .state-is)) ∙ goal-means j bytes (g .at .state .current) e))
+      by true e = absurd (aside (sym (ap (λ u. u .current) (g .state-is)) ∙ goal-means (floorOf j bytes) (j .goal) (g .at .state .current) (subst T (sym e) tt)))
       by false e = refl
 
   same : act j bytes (g .at .state) (g .at .table) (g .at .path) ≡ act j bytes s table path

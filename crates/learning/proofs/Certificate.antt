@@ -6,17 +6,14 @@ use mathlib.Core.Bool.{Bool, true, false}
 use native.Mathlib.Nat.{mul-le-mul-left}
 use native.Mathlib.Decide.{decLe}
 use native.Mathlib.Omega.{arith}
-use Rattle.learning.specs.Walk.{Any, Least, Arrives, Reaches}
+use Rattle.learning.specs.Walk.{Any, Arrives, Reaches}
 use Rattle.learning.specs.Ground.{Ground, Goal, netOf, pick, reachOf, distOf}
 use Rattle.learning.proofs.Walks.{least-unique}
 use Rattle.learning.proofs.Ceiling.{least-high}
 use Rattle.learning.proofs.Route.{closed-low}
-use Rattle.learning.proofs.Ground.{on-floor, lawful, reach-of, reach-true}
+use Rattle.learning.proofs.Ground.{on-floor, dist-least, reach-of, reach-true}
 
--- the true distance is the least cost of a walk, and at most the dearest move for each cell but one
-pub dist-least : (G : Ground) (x : ℕ) → Reaches (netOf G) (Goal G) x → Least (Arrives (netOf G) (Goal G) x) (distOf G x)
-dist-least G x r = lawful G 1 1 1 0 (omega arith) (omega arith) (omega arith) .true-dist x r
-
+-- the true distance is at most the dearest move for each cell but one
 pub dist-high : (G : Ground) (x : ℕ) → Reaches (netOf G) (Goal G) x → distOf G x ≤ G .dearest * (G .cells - 1)
 dist-high G x r =
     least-high (G .cells) (G .dearest) (λ y c a. on-floor G y (c, a)) (λ a b c e. omega (arith, e .1, G .high a b)) x (distOf G x) (dist-least G x r)

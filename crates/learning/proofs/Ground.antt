@@ -35,8 +35,8 @@ module _ (G : Ground) where
   pub on-floor : (x : ℕ) → Reaches (netOf G) (Goal G) x → x < G .cells
   on-floor x (c, a) = arr-inside G everywhere (G .goal) (G .goals-inside) x c a
 
-  -- the true distance
-  dist-least : (x : ℕ) → Reaches (netOf G) (Goal G) x → Least (Arrives (netOf G) (Goal G) x) (distOf G x)
+  -- the true distance is the least cost of a walk
+  pub dist-least : (x : ℕ) → Reaches (netOf G) (Goal G) x → Least (Arrives (netOf G) (Goal G) x) (distOf G x)
   unfolding distOf distsOf
   dist-least x (c, a) =
       let (l, h) = spread-least G everywhere (G .goal) (G .goals-inside) x c a in

@@ -15,7 +15,7 @@ use Rattle.answers.specs.declared.Job.{Job}
 use Rattle.model.specs.Floor.{size}
 use Rattle.model.specs.Checks.{groundIn}
 use Rattle.model.specs.Lookahead.{seen}
-use Rattle.model.proofs.Looking.{full-ring}
+use Rattle.model.proofs.Rings.{empty-full}
 use Rattle.lookahead.specs.Contract.{Asked, Near, Figures, Aimed}
 use Rattle.lookahead.specs.Contract as contract
 use Rattle.lookahead.specs.Marks.{In}
@@ -71,7 +71,7 @@ module _ (j : Job) (bytes : List ℕ) (s : ℕ) (Q : Asked j bytes s) (table : L
     unfolding ringOf
     full zero h = (s, omega (arith, ring-self Y))
     full (suc k) h =
-        let (x, l, e) = full-ring j bytes (seen j bytes s) last (W .full) (suc k) (omega arith) h in
+        let (x, l, e) = empty-full j bytes (seen j bytes s) last (W .full) (suc k) (omega arith) h in
         (x, ring-unique (job-window j bytes s Q) (seen-window j bytes s Q base mark cost (W .view)) x (omega (arith, e, h, last-eq)) ∙ e)
 
     module _ (best : List ℕ) (top : ℕ) (B : Bests base mark cost table (j .p) list n best) (M : Topped best (last + 1) top) where

@@ -25,7 +25,8 @@ use Rattle.model.specs.Checks.{floorOf, groundIn}
 use Rattle.model.specs.Lookahead.{seen, ring, w, emptyRing}
 use Rattle.model.proofs.Cells.{cells-le}
 use Rattle.model.proofs.Moves.{is-true, free-lt}
-use Rattle.model.proofs.Looking.{goal-only, empty-false, empty-true, empty-ring}
+use Rattle.model.proofs.Rings.{empty-none, empty-of, empty-some}
+use Rattle.model.proofs.Meaning.{goal-means}
 use Rattle.lookahead.specs.Contract.{Spent, Used, Asked, Near, Seen}
 use Rattle.lookahead.specs.Contract as contract
 use Rattle.lookahead.specs.Marks.{state, In}
@@ -49,7 +50,7 @@ module _ (j : Job) (bytes : List ℕ) (s : ℕ) (Q : Asked j bytes s) where
   start-on = free-lt f (Q .sized) s (Q .start)
 
   pub not-goal : ¬ Goal (groundIn j bytes) s
-  not-goal g = Q .apart (goal-only f (j .goal) s g)
+  not-goal g = Q .apart (goal-means f (j .goal) s g)
 
   pub job-window : Window (netOf (groundIn j bytes)) (Goal (groundIn j bytes)) (j .depth) s (lastOf (groundIn j bytes) (j .depth) s) (ringOf (groundIn j bytes) (j .depth) s) (legOf (groundIn j bytes) (j .depth) s)
   job-window = window G d s start-on (Q .shallow) not-goal
@@ -133,7 +134,7 @@ module _ (j : Job) (bytes : List ℕ) (s : ℕ) (Q : Asked j bytes s) where
     -- each ring up to the last has a cell
     pub array-full : ((k : ℕ) → base ≤ k → k ≤ base + last → (x : ℕ) × (getD mark x 0 ≡ k)) → emptyRing j bytes (seen j bytes s) last ≡ false
     unfolding ringOf
-    array-full full = empty-false j bytes (seen j bytes s) last ring-cell
+    array-full full = empty-none j bytes (seen j bytes s) last ring-cell
       where
         ring-cell : (i : ℕ) → 1 ≤ i → i ≤ last → (x : ℕ) × (x < size f) × (ringOf G d s x ≡ i)
         ring-cell i a h =
@@ -171,7 +172,7 @@ module _ (j : Job) (bytes : List ℕ) (s : ℕ) (Q : Asked j bytes s) where
     goal-far y g e h =
         let (c, v) = job-window .attained y (omega (arith, e)) in
         let m = B .marked .fewest y c (ringOf G d s y) v (omega (arith, e, h)) in
-        omega (arith, m .0, B .far, ap (λ x. getD mark x 0) (goal-only f (j .goal) y g))
+        omega (arith, m .0, B .far, ap (λ x. getD mark x 0) (goal-means f (j .goal) y g))
 
     -- ring r + 1 is a ring up to the last
     below : (lastOf G d s ≡ d) ⊎ ((y : ℕ) × Goal G y × (ringOf G d s y ≡ lastOf G d s)) → Dec (lastOf G d s ≤ r) → r < lastOf G d s
@@ -195,14 +196,14 @@ module _ (j : Job) (bytes : List ℕ) (s : ℕ) (Q : Asked j bytes s) where
     blocked =
         let R = B .marked .room .sizes in (
           record { marks = record { size = R .marks; room = room; below = λ x. omega (arith, B .empty x, B .short, Q .deep) }; costs = R .costs; cells = R .cells },
-          empty-true j bytes (seen j bytes s) (seen j bytes s .last) (r + 1) (omega arith) (omega (arith, r-below)) none,
+          empty-of j bytes (seen j bytes s) (seen j bytes s .last) (r + 1) (omega arith) (omega (arith, r-below)) none,
         )
 
   -- where a ring up to the last is empty no cell is on the last ring
   pub empty-last : emptyRing j bytes (seen j bytes s) (seen j bytes s .last) ≡ true → (x : ℕ) → ring j bytes (seen j bytes s) x ≡ seen j bytes s .last → ⊥
   unfolding ringOf lastOf
   empty-last e x on =
-      let (i, a, h, none) = empty-ring j bytes (seen j bytes s) (seen j bytes s .last) e in
+      let (i, a, h, none) = empty-some j bytes (seen j bytes s) (seen j bytes s .last) e in
       let (c, v) = job-window .attained x (omega (arith, on)) in
       let t = crosses job-window {k = i} h (omega (arith, ring-self job-window)) (omega (arith, on, h)) v in
       none (t .at) (inside (t .at) (omega (arith, t .on, h))) (t .on)

@@ -13,7 +13,8 @@ use Rattle.learning.specs.Ground.{Goal}
 use Rattle.learning.proofs.Walks.{restate, turn, widen, least-same}
 use Rattle.model.specs.Floor.{Floor, Sized, free}
 use Rattle.model.specs.Grounds.{groundOf}
-use Rattle.model.proofs.Looking.{goal-only, goal-is}
+use Rattle.model.proofs.Moves.{free-lt}
+use Rattle.model.proofs.Meaning.{goal-means, goal-is}
 use Rattle.lookahead.specs.Marks.{net, State, markOf, costAt, In}
 use Rattle.lookahead.specs.Rings.{Framed}
 use Rattle.lookahead.specs.Costs.{Costs, at, Listing, Noted, Relaxed}
@@ -68,7 +69,7 @@ module _ (f : Floor) (s goal depth base last : ℕ) (S : State) (F : Framed f s 
 
     ends : (last ≡ depth) ⊎ (markOf S goal ≡ base + last) → (last ≡ depth) ⊎ ((y : ℕ) × Goal (groundOf f (goal ∷ [])) y × (ring y ≡ last))
     ends (inl e) = inl e
-    ends (inr e) = inr (goal, goal-is f goal z bench, by-mark goal e)
+    ends (inr e) = inr (goal, goal-is f goal (free-lt f z goal bench), by-mark goal e)
 
     least : (x : ℕ) → In base (S .mark) x → Least (Leads (net f) (In base (S .mark)) x s) (at cost x)
     least = R .least s (F .marked .costs) start
@@ -82,7 +83,7 @@ module _ (f : Floor) (s goal depth base last : ℕ) (S : State) (F : Framed f s 
           let g = F .marked .walks x p in
           (g .0, restate refl (ring-is base (S .mark) x p) (turn (widen (λ y k. tt) (g .1))));
       fewest = λ x c n w h. let m = F .marked .fewest x c n w h in in-ring base (S .mark) x n (m .0) (m .1);
-      goals = λ y g. subst (λ k. last ≤ ring k) (sym (goal-only f goal y g)) (goal-ring (decLe base (markOf S goal)));
+      goals = λ y g. subst (λ k. last ≤ ring k) (sym (goal-means f goal y g)) (goal-ring (decLe base (markOf S goal)));
       ends = ends (F .ends);
       cheapest = λ x h. least-same (λ u w. (w .0, turn (widen outer (w .1)))) (λ u w. (w .0, turn (widen inner (w .1)))) (least x (inner x h));
     }

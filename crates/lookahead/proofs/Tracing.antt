@@ -17,7 +17,7 @@ use Rattle.model.specs.Floor.{Floor, free, heading}
 use Rattle.model.specs.Grounds.{price-low}
 use Rattle.model.specs.Checks.{floorOf, groundIn}
 use Rattle.model.specs.Lookahead.{seen, route, movesAlong}
-use Rattle.model.proofs.Looking.{moves-more, moves-length}
+use Rattle.model.proofs.Steps.{moves-more, moves-length}
 use Rattle.lookahead.specs.declared.Link.{Link}
 use Rattle.lookahead.specs.Contract.{Asked, Near, Seen, movesTo, Traced}
 use Rattle.lookahead.specs.Marks.{In}

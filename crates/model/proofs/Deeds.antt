@@ -1,11 +1,11 @@
 -- A decision past its checks, case by case: what each test leads to. Proofs of code go by these and leave the definitions shut.
 -- And a cart on the last ring of a cell has no empty ring on the way there, by a walk that crosses each of them. Assumes nothing.
 use Prim.Native.Nat.{ℕ, _+_, _-_, _*_, _≤_, _<_}
-use mathlib.Core.Path.{_≡_, subst}
+use mathlib.Core.Path.{_≡_}
 use mathlib.Core.Bool.{Bool, true, false, _&&_}
 use mathlib.Core.List.{List}
 use native.Mathlib.Omega.{arith}
-use lib.Dec.{T, leb, ltb, eqb, eqb→eq}
+use lib.Dec.{leb, ltb, eqb}
 use lib.ListN.{length, getD}
 use Rattle.learning.specs.Ground.{Ground, Goal, netOf, ringOf, lastOf, legOf, View}
 use Rattle.learning.specs.Ahead as learning
@@ -22,8 +22,9 @@ use Rattle.model.specs.Floor.{size, free}
 use Rattle.model.specs.Checks.{ceiling, floorOf, groundIn}
 use Rattle.model.specs.Lookahead.{seen, ring, emptyRing, newFigure, target}
 use Rattle.model.specs.Decision.{atGoal, judge, unchanged, refused, rise, forward, backOut, stay, goBack, learn, act, outcomeOf, decide}
-use Rattle.model.proofs.Looking.{empty-false}
-use Rattle.model.proofs.Held.{free-below, at-goal}
+use Rattle.model.proofs.Rings.{empty-none}
+use Rattle.model.proofs.Held.{free-below}
+use Rattle.model.proofs.Meaning.{goal-means}
 
 module _ (j : Job) (bytes : List ℕ) (s : State) (table path : List ℕ) where
   abbrev v : View
@@ -100,7 +101,7 @@ module _ (j : Job) (bytes : List ℕ) (s : ℕ) (deep : 1 ≤ j .depth) (here : 
   n = size (floorOf j bytes)
 
   no-goal : ¬ Goal G s
-  no-goal t = away (eqb→eq s (j .goal) (subst T (at-goal j bytes s here) t))
+  no-goal t = away (goal-means (floorOf j bytes) (j .goal) s t)
 
   W : learning.Window (netOf G) (Goal G) (j .depth) s (lastOf G (j .depth) s) (ringOf G (j .depth) s) (legOf G (j .depth) s)
   W = window G (j .depth) s (free-below (floorOf j bytes) s here) deep no-goal
@@ -118,4 +119,4 @@ module _ (j : Job) (bytes : List ℕ) (s : ℕ) (deep : 1 ≤ j .depth) (here : 
         (c .at, walk-inside G (free-below (floorOf j bytes) s here) (turn (c .inside .1)), c .on)
 
     pub full : emptyRing j bytes (seen j bytes s) (seen j bytes s .last) ≡ false
-    full = empty-false j bytes (seen j bytes s) (seen j bytes s .last) (λ k l h. crossed k h)
+    full = empty-none j bytes (seen j bytes s) (seen j bytes s .last) (λ k l h. crossed k h)

@@ -175,7 +175,7 @@ module _ (j : Job) (bytes : List ℕ) (start : ℕ) (table path : List ℕ) (e :
   pub trial-reaches-the-bench : (ride j bytes start table path .state .current ≡ j .goal) × (ride j bytes start table path .decisions < K j bytes * (R j bytes table + 1))
   trial-reaches-the-bench =
       let A = ready j bytes start table path e in (
-        goal-means j bytes _ (ride-arrives j bytes start table path A),
+        goal-means (floorOf j bytes) (j .goal) _ (subst T (sym (ride-arrives j bytes start table path A)) tt),
         subst (λ b. ride j bytes start table path .decisions < b) (bound-is j bytes table) (decisions-low j bytes start table path A (ride-riding j bytes start table path A)),
       )
 

@@ -50,7 +50,7 @@ free-place {f} {x} z e = omega (arith, free-below f x e, sized-cells z)
 
 -- ---- a cell of the floor is at the goal just where it is the goal
 
-or-false : (b : Bool) → (b || false) ≡ b
+pub or-false : (b : Bool) → (b || false) ≡ b
 or-false true = refl
 or-false false = refl
 

@@ -64,7 +64,7 @@ module _ (j : Job) (bytes : List ℕ) (H : Held j bytes) where
   reach-free x (c, (z, g, (n, t))) = by g t
     where
       by : {z c n : ℕ} → Goal (groundIn j bytes) z → Walk (netOf (groundIn j bytes)) Any x z c n → free (floorOf j bytes) x ≡ true
-      by g (stop s) = ap (free (floorOf j bytes)) (goal-means j bytes x (is-true (atGoal j bytes x) g)) ∙ H .bench
+      by g (stop s) = ap (free (floorOf j bytes)) (goal-means (floorOf j bytes) (j .goal) x g) ∙ H .bench
       by g (move {b = b} s e k) = is-true _ (price-free (floorOf j bytes) x b (omega (arith, e .0, e .1)))
 
   module _ {start : ℕ} (s : State) (table path : List ℕ) (k : Keeps (learningJob j bytes) start (asState s table path)) (room : size (floorOf j bytes) ≤ length path) where

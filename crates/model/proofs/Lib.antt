@@ -11,9 +11,8 @@ pub mod Refusals
 pub mod Soundness
 pub mod Figures
 pub mod OpeningSound
--- The lookahead: empty rings, the goal and moves along a route; what the definitions mean, in document 01's words.
+-- The lookahead: empty rings; what the definitions mean, in document 01's words.
 pub mod Rings
-pub mod Looking
 pub mod Meaning
 -- A decision test by test, and as code makes it; in a trial it is one of `learning` and is never refused; trials and runs; the figures.
 pub mod Cases

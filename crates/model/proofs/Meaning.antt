@@ -1,25 +1,25 @@
 -- What the definitions mean, in document 01's words: moves, rings, the window, w, the new figure, the target, the route, true distances, and number 9.
 -- All are what `learning` proves of any ground; here they are said of the model's own names.
 use Prim.Native.Nat.{ℕ, zero, suc, _+_, _≤_, _<_}
-use mathlib.Core.Path.{_≡_, refl, subst}
+use mathlib.Core.Path.{_≡_, subst}
 use mathlib.Core.Logic.{_⊎_, inl, inr, _≢_}
-use mathlib.Core.Bool.{Bool, true, false, _||_}
+use mathlib.Core.Bool.{true, false}
 use mathlib.Core.List.{List, [], _∷_, _++_}
 use native.Mathlib.Nat.{le-trans}
 use native.Mathlib.Decide.{decLe}
 use native.Mathlib.Omega.{arith}
-use borrow.Author.Tests.{eqb-true, eq-eqb, lt-ltb}
-use lib.Dec.{T, ltb, eqb}
+use borrow.Author.Tests.{lt-ltb}
+use lib.Dec.{T, ltb, eqb, eqb→eq, eqb-refl}
 use lib.ListN.{getD}
 use Rattle.learning.specs.Walk.{Network, Walk, Any, Least, Leads, Arrives}
 use Rattle.learning.specs.Ahead.{Window, Ahead}
 use Rattle.learning.specs.Ground.{Goal, netOf, distIn, distOf, ringOf, lastOf, legOf}
 use Rattle.learning.specs.Route.{Chain, priorIn}
 use Rattle.learning.proofs.Sound.{ring-self}
-use Rattle.learning.proofs.Ground.{window, ring-low, ring-walk}
+use Rattle.learning.proofs.Spread.{second-true}
+use Rattle.learning.proofs.Ground.{dist-least, window, ring-low, ring-walk}
 use Rattle.learning.proofs.Look.{answer-if}
 use Rattle.learning.proofs.Routes.{route-chain, route-self, route-back, prior-least}
-use Rattle.learning.proofs.Certificate.{dist-least}
 use Rattle.answers.specs.declared.Job.{Job}
 use Rattle.model.specs.Basics.{member}
 use Rattle.model.specs.Floor.{Floor, size, Sized, free, price, ahead, allowed}
@@ -27,10 +27,11 @@ use Rattle.model.specs.Checks.{floorOf, groundIn}
 use Rattle.model.specs.Lookahead.{seen, ring, w, emptyRing, newFigure, target, route}
 use Rattle.model.specs.Opening.{distances, reaches}
 use Rattle.model.specs.Decision.{atGoal}
-use Rattle.model.proofs.Moves.{both, toll, price-move, price-ahead, allowed-inside, allowed-free, is-true}
+use Rattle.model.proofs.Moves.{toll, price-move, price-ahead, allowed-inside, allowed-free, is-true}
+use Rattle.model.proofs.Held.{or-false}
 use Rattle.model.proofs.Openings.{reaches-of, reaches-means}
 use Rattle.model.proofs.Rings.{Bare, empty-some, empty-full, empty-of}
-use Rattle.model.specs.Grounds.{price-free}
+use Rattle.model.specs.Grounds.{price-free, groundOf}
 
 -- ---- "A move is allowed when the cell moved into is on the floor and free. A straight move costs 10, a diagonal one 14."
 
@@ -43,17 +44,13 @@ price-means f z x y h =
 
 -- ---- the goal
 
-pub goal-means : (j : Job) (bytes : List ℕ) (x : ℕ) → atGoal j bytes x ≡ true → x ≡ j .goal
+pub goal-means : (f : Floor) (goal x : ℕ) → Goal (groundOf f (goal ∷ [])) x → x ≡ goal
 unfolding member
-goal-means j bytes x e = eqb-true x (j .goal) (one (eqb x (j .goal)) (both (ltb x (size (floorOf j bytes))) _ e .1))
-  where
-    one : (b : Bool) → (b || false) ≡ true → b ≡ true
-    one true e = refl
-    one false e = e
+goal-means f goal x t = eqb→eq x goal (subst T (or-false (eqb x goal)) (second-true (ltb x (size f)) _ t))
 
-pub goal-is : (j : Job) (bytes : List ℕ) → j .goal < size (floorOf j bytes) → atGoal j bytes (j .goal) ≡ true
+pub goal-is : (f : Floor) (goal : ℕ) → goal < size f → Goal (groundOf f (goal ∷ [])) goal
 unfolding member
-goal-is j bytes h = rw (lt-ltb (j .goal) (size (floorOf j bytes)) h, eq-eqb (j .goal) (j .goal) refl)
+goal-is f goal h = rw (lt-ltb goal (size f) h, or-false (eqb goal goal)) (eqb-refl goal)
 
 -- ---- "The true distance of a free cell is the least cost of any walk of allowed moves to the goal."
 

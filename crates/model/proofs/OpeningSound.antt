@@ -15,8 +15,7 @@ use Rattle.learning.specs.Walk.{Any, Reaches}
 use Rattle.learning.specs.Ground.{Goal, netOf, pick, distOf}
 use Rattle.learning.proofs.Route.{closed-low}
 use Rattle.learning.proofs.Spread.{list-at, second-true}
-use Rattle.learning.proofs.Ground.{on-floor}
-use Rattle.learning.proofs.Certificate.{dist-least}
+use Rattle.learning.proofs.Ground.{on-floor, dist-least}
 use Rattle.answers.specs.declared.Job.{Job}
 use Rattle.answers.specs.declared.Verdict.the-variants as Vd
 use Rattle.model.specs.Basics.{member, then}

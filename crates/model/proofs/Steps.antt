@@ -11,6 +11,7 @@ use borrow.Author.Tests.{ltb-true, ltb-false, le-ltb, le-leb, lt-leb, eq-eqb, ne
 use lib.Dec.{T, ltb}
 use lib.ListN.{length, getD, set, take, length-set, length-take, length-map, length-reverse}
 use lib.Seq.{take-suc, getD-set-same, getD-set-other}
+use Rattle.learning.specs.Walk.{Network}
 use Rattle.learning.specs.Trial as learning
 use Rattle.learning.specs.Trial.{CanReach, LooksAhead, LeadsOn, raised, after, moveCost}
 use Rattle.learning.specs.Path.{Linked, All, end, also}
@@ -87,6 +88,13 @@ pub moves-length : (f : Floor) (a : ℕ) (cells : List ℕ) → length (movesAlo
 unfolding movesAlong
 moves-length f a [] = refl
 moves-length f a (b ∷ bs) = ap suc (moves-length f b bs)
+
+-- one cell more at the end of a walk is one move more
+pub moves-more : {N : Network} {S : ℕ → Type 0} (f : Floor) (x : ℕ) {a z c : ℕ} {xs : List ℕ} → Chain N S a xs z c
+    → movesAlong f a (xs ++ x ∷ []) ≡ movesAlong f a xs ++ heading f z x ∷ []
+unfolding movesAlong
+moves-more f x (ended s) = refl
+moves-more f x (step {a = a} {b = b} s e k) = ap (λ ms. heading f a b ∷ ms) (moves-more f x k)
 
 -- every move along a walk is one of the eight, and so is every move back
 moves-low : (f : Floor) (z : Sized f) (gs : List ℕ) {S : ℕ → Type 0} {a b c : ℕ} {xs : List ℕ} → Chain (netOf (groundOf f gs)) S a xs b c → All (λ m. m < 8) (movesAlong f a xs)

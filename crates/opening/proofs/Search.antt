@@ -2,26 +2,26 @@
 -- the numbers are certified. What a visit, a sweep and the whole search come to, one law for each.
 use Prim.Native.Nat.{ℕ, zero, suc, _+_, _*_, _≤_, _<_, min}
 use mathlib.Core.Path.{_≡_, refl, sym, ap, _∙_, subst}
-use mathlib.Core.Bool.{Bool, true, false, _&&_, _||_}
+use mathlib.Core.Bool.{Bool, true, false, _||_}
 use mathlib.Core.List.{List, [], _∷_}
 use native.Mathlib.Nat.{mul-le-mul-left}
 use native.Mathlib.Decide.{ℕ-discrete, decLe}
 use native.Mathlib.Omega.{arith}
 use borrow.Author.Count.{below-more}
-use borrow.Author.Tests.{lt-ltb, eq-eqb, eqb-true}
-use lib.Dec.{T, ltb, eqb}
+use lib.Dec.{T}
 use lib.ListN.{length, getD, set, length-set}
 use lib.Seq.{getD-set-same, getD-set-other}
 use Rattle.learning.specs.Walk.{Arrives, move, stop}
 use Rattle.learning.specs.Ground.{Goal, netOf, listOf}
-use Rattle.learning.proofs.Spread.{second-true, list-at, list-length, list-off}
+use Rattle.learning.proofs.Spread.{list-at, list-length, list-off}
 use Rattle.learning.proofs.Certificate.{Certified, certificate}
-use Rattle.model.specs.Basics.{choose, member}
+use Rattle.model.specs.Basics.{choose}
 use Rattle.model.specs.Floor.{Floor, size, Sized, free, price, ahead, allowed}
 use Rattle.model.specs.Grounds.{groundOf, isGoal, price-high, price-same, price-free, free-inside}
 use Rattle.model.proofs.Accepted.{never}
 use Rattle.model.proofs.Cells.{cells-le}
 use Rattle.model.proofs.Moves.{is-true, ahead-lt, allowed-inside, price-move, allowed-some}
+use Rattle.model.proofs.Meaning.{goal-means, goal-is}
 use Rattle.floor.specs.Moves.{stepOf}
 use Rattle.floor.specs.declared.Step.{Step}
 use Rattle.floor.specs.declared.Step.the-variants.{To, Wall}
@@ -227,24 +227,12 @@ module _ (f : Floor) (goal : ℕ) (inside : goal < size f) where
       by y (yes h) = omega (arith, list-off (size f) (λ x. far) y 0 h)
       by y (no h) = omega (arith, list-at (size f) (λ x. far) y 0 (omega arith))
 
-  goal-is : T (isGoal f (goal ∷ []) goal)
-  unfolding member
-  goal-is = subst (λ b. T (b && (eqb goal goal || false))) (sym (lt-ltb goal (size f) inside)) (subst (λ b. T (b || false)) (sym (eq-eqb goal goal refl)) tt)
-
-  goal-one : (z : ℕ) → T (isGoal f (goal ∷ []) z) → z ≡ goal
-  unfolding member
-  goal-one z t = by (eqb z goal) refl (second-true (ltb z (size f)) (eqb z goal || false) t)
-    where
-      by : (b : Bool) → eqb z goal ≡ b → T (b || false) → z ≡ goal
-      by true q t = eqb-true z goal q
-      by false q t = absurd t
-
   start-going : Going f (goal ∷ []) start
   start-going = record {
-    zeros = λ z t. omega (arith, ap (λ y. getD start y 0) (goal-one z t), getD-set-same blank goal 0 0 on);
+    zeros = λ z t. omega (arith, ap (λ y. getD start y 0) (goal-means f goal z t), getD-set-same blank goal 0 0 on);
     met =
         after-set (λ y v. y < size f → v < far → Arrives (netOf (groundOf f (goal ∷ []))) (Goal (groundOf f (goal ∷ []))) y v) blank goal 0 on
-        (λ i near. (goal, goal-is, (0, stop tt))) (λ y i near. absurd (omega (arith, list-at (size f) (λ x. far) y 0 i)));
+        (λ i near. (goal, goal-is f goal inside, (0, stop tt))) (λ y i near. absurd (omega (arith, list-at (size f) (λ x. far) y 0 i)));
   }
 
   -- from there, a search that has settled has found the true distances

@@ -17,11 +17,12 @@ use Rattle.answers.specs.declared.Verdict.the-variants as Vd
 use Rattle.answers.specs.declared.Tried.the-variants as Td
 use Rattle.answers.specs.Says.{saysTried}
 use Rattle.model.specs.Checks.{floorOf}
-use Rattle.model.specs.Grounds.{free-inside}
 use Rattle.model.specs.Opening.{openTrial}
 use Rattle.model.specs.Decision.{atGoal, judge, act}
 use Rattle.model.specs.Ride as model
 use Rattle.model.specs.Ride.{Ride, begun, next, learningJob, ride, trialOf, trial}
+use Rattle.model.proofs.Moves.{is-true}
+use Rattle.model.proofs.Held.{free-below}
 use Rattle.model.proofs.Demand.{trial-is-made}
 use Rattle.model.proofs.Openings as openings
 use Rattle.model.proofs.Meaning.{goal-means, goal-is}
@@ -90,7 +91,7 @@ module _ (j : Job) (bytes : List ℕ) (start : ℕ) (table₀ path₀ : List ℕ
     pub over : s .current ≡ j .goal → g .at ≡ ride j bytes start table₀ path₀
     over e =
         let there : atGoal j bytes (g .at .state .current) ≡ true =
-        ap (λ x. atGoal j bytes x) (ap (λ u. u .current) (g .state-is) ∙ e) ∙ goal-is j bytes (free-inside (floorOf j bytes) (j .goal) (subst T (sym (R .opened .held .bench)) tt)) in
+        ap (λ x. atGoal j bytes x) (ap (λ u. u .current) (g .state-is) ∙ e) ∙ is-true _ (goal-is (floorOf j bytes) (j .goal) (free-below _ _ (R .opened .held .bench))) in
         sym (ride-there j bytes _ (g .at) there) ∙ g .comes
 
     module _ (aside : s .current ≡ j .goal → ⊥) where
@@ -98,7 +99,7 @@ module _ (j : Job) (bytes : List ℕ) (start : ℕ) (table₀ path₀ : List ℕ
       off = by (atGoal j bytes (g .at .state .current)) refl
         where
           by : (b : Bool) → atGoal j bytes (g .at .state .current) ≡ b → b ≡ false
-          by true e = absurd (aside (sym (ap (λ u. u .current) (g .state-is)) ∙ goal-means j bytes (g .at .state .current) e))
+          by true e = absurd (aside (sym (ap (λ u. u .current) (g .state-is)) ∙ goal-means (floorOf j bytes) (j .goal) (g .at .state .current) (subst T (sym e) tt)))
           by false e = refl
 
       same : act j bytes (g .at .state) (g .at .table) (g .at .path) ≡ act j bytes s table path

@@ -19,10 +19,10 @@ use Rattle.answers.specs.declared.Job.{Job}
 use Rattle.answers.specs.declared.State.{State}
 use Rattle.model.specs.Floor.{size}
 use Rattle.model.specs.Checks.{floorOf, groundIn}
-use Rattle.model.specs.Lookahead.{seen, ring}
-use Rattle.model.specs.Grounds.{free-inside}
+use Rattle.model.specs.Lookahead.{seen}
 use Rattle.model.specs.Decision.{atGoal, onPath}
 use Rattle.model.specs.Ride.{learningJob}
+use Rattle.model.proofs.Held.{free-below}
 use Rattle.model.proofs.Openings.{Held}
 use Rattle.model.proofs.Meaning.{goal-is}
 use Rattle.model.proofs.Rings.{empty-none}
@@ -50,7 +50,7 @@ module _ (j : Job) (bytes : List ℕ) (H : Held j bytes) where
       sized = H .sized;
       start = reach-free j bytes H s r;
       bench = H .bench;
-      apart = λ same. off (subst T (sym (ap (atGoal j bytes) same ∙ goal-is j bytes (free-inside (floorOf j bytes) (j .goal) (subst T (sym (H .bench)) tt)))) tt);
+      apart = λ same. off (subst (λ y. T (atGoal j bytes y)) (sym same) (goal-is (floorOf j bytes) (j .goal) (free-below _ _ (H .bench))));
       shallow = H .settings .deep;
       deep = H .settings .shallow;
     };

@@ -11,7 +11,7 @@ use Rattle.answers.specs.declared.Tried.the-variants as Td
 use Rattle.answers.specs.declared.Verdict.the-variants as Vd
 use Rattle.answers.proofs.One.{tried-one}
 use Rattle.model.specs.Opening.{openRun}
-use Rattle.model.specs.Ride.{report, ride, trial, courseFrom, run}
+use Rattle.model.specs.Ride.{report, ride, trial, courseFrom}
 use Rattle.model.proofs.Demand.{K, R, can, trueOf, distance, made-is-accepted, trial-is-made, trial-is-promised, EachPromised, run-trials-are-promised}
 use Rattle.run.specs.Trials.{IsTrial}
 
