@@ -1,6 +1,16 @@
-// Nanoseconds for a whole lookahead (window, new figure, target, route): the proved one beside plain Rust, in one run.
+// Nanoseconds for a whole lookahead (window, new figure, target, route): the proved one beside the second program's own, in one run.
 // Build and run: bench/lookahead/run
 use std::time::Instant;
+
+#[allow(dead_code)]
+#[path = "../../second/src/floor.rs"]
+mod floor;
+#[allow(dead_code)]
+#[path = "../../second/src/lookahead.rs"]
+mod lookahead;
+
+use floor::Floor;
+use lookahead::{Window, MOST_MOVES};
 
 extern "C" {
     fn probe_plan(
@@ -11,143 +21,77 @@ extern "C" {
     ) -> usize;
 }
 
-const EAST: [isize; 8] = [0, 1, 1, 1, 0, -1, -1, -1];
-const SOUTH: [isize; 8] = [-1, -1, 0, 1, 1, 1, 0, -1];
-const COST: [u16; 8] = [10, 14, 10, 14, 10, 14, 10, 14];
+// How long the lists are that the proved lookahead is lent: those with a place a cell, and the list of the window's cells.
+const PLACES: usize = 4096;
+const LISTED: usize = PLACES;
 
-struct Scratch {
+struct Job<'a> {
+    side: usize,
+    goal: usize,
+    depth: usize,
+    p: usize,
+    bytes: &'a [u8],
+    table: &'a [u32],
+}
+
+// Both answer the new figure, the target and the number of moves in one number, as `probe_plan` does; 0 where a ring is empty.
+fn packed(figure: usize, target: usize, moves: usize) -> usize {
+    figure % 1048576 * 1048576 + target % 4096 * 256 + moves % 256
+}
+
+// The second program's lookahead, with what it keeps from one lookahead to the next.
+struct Plain<'a> {
+    floor: &'a Floor,
+    window: Window,
+    out: [u8; MOST_MOVES],
+}
+
+impl Plain<'_> {
+    fn look(&mut self, j: &Job, s: usize) -> usize {
+        if !self.window.look(self.floor, s, j.goal, j.depth) {
+            return 0;
+        }
+        let best = self.window.best(j.table, j.p as u32);
+        let moves = self.window.route(self.floor, best.target, &mut self.out);
+        packed(best.figure as usize, best.target, moves)
+    }
+}
+
+// The proved lookahead, with the lists that it is lent and that are never cleared.
+struct Proved {
     base: u32,
     mark: Vec<u32>,
     cost: Vec<u16>,
     list: Vec<u16>,
-    out: Vec<u8>,
+    out: [u8; MOST_MOVES],
 }
 
-fn scratch() -> Scratch {
-    Scratch { base: 1, mark: vec![0; 4096], cost: vec![0; 4096], list: vec![0; 4096], out: vec![0; 288] }
-}
-
-struct Job<'a> {
-    width: usize,
-    height: usize,
-    goal: usize,
-    depth: usize,
-    p: usize,
-    floor: &'a [u8],
-    table: &'a [u32],
-}
-
-fn step(j: &Job, col: usize, row: usize, m: usize) -> Option<usize> {
-    let x = col as isize + EAST[m];
-    let y = row as isize + SOUTH[m];
-    if x < 0 || y < 0 || x >= j.width as isize || y >= j.height as isize {
-        return None;
-    }
-    let c = y as usize * j.width + x as usize;
-    if j.floor[c] == 0 { Some(c) } else { None }
-}
-
-// The same lookahead as one would write it in Rust.
-fn plain(j: &Job, s: usize, k: &mut Scratch) -> usize {
-    let base = k.base;
-    k.mark[s] = base;
-    k.cost[s] = 0;
-    k.list[0] = s as u16;
-    let (mut from, mut to, mut last) = (0, 1, 0);
-    while last < j.depth {
-        let mut end = to;
-        for i in from..to {
-            let c = k.list[i] as usize;
-            let (col, row) = (c % j.width, c / j.width);
-            for m in 0..8 {
-                if let Some(d) = step(j, col, row, m) {
-                    if k.mark[d] < base {
-                        k.mark[d] = base + last as u32 + 1;
-                        k.cost[d] = k.cost[c] + COST[m];
-                        k.list[end] = d as u16;
-                        end += 1;
-                    }
-                }
-            }
-        }
-        last += 1;
-        if end == to {
-            return 0;
-        }
-        from = to;
-        to = end;
-        if k.mark[j.goal] >= base {
-            break;
-        }
-    }
-    loop {
-        let mut any = false;
-        for i in 0..to {
-            let c = k.list[i] as usize;
-            let (col, row) = (c % j.width, c / j.width);
-            for m in 0..8 {
-                if let Some(d) = step(j, col, row, m) {
-                    let v = k.cost[c] + COST[m];
-                    if k.mark[d] >= base && v < k.cost[d] {
-                        k.cost[d] = v;
-                        any = true;
-                    }
-                }
-            }
-        }
-        if !any {
-            break;
-        }
-    }
-    let mut best = [(usize::MAX, 0usize); 9];
-    for i in 0..to {
-        let c = k.list[i] as usize;
-        let r = (k.mark[c] - base) as usize;
-        best[r] = best[r].min((j.p * k.cost[c] as usize + j.table[c] as usize, c));
-    }
-    let figure = best[1..=last].iter().map(|b| b.0).max().unwrap();
-    let target = best[last].1;
-    let mut moves = 0;
-    let mut x = target;
-    while x != s {
-        let (col, row) = (x % j.width, x / j.width);
-        let mut b = (usize::MAX, 0);
-        for m in 0..8 {
-            if let Some(y) = step(j, col, row, m) {
-                if k.mark[y] >= base && k.cost[y] + COST[m] == k.cost[x] && y < b.0 {
-                    b = (y, (m + 4) % 8);
-                }
-            }
-        }
-        k.out[moves] = b.1 as u8;
-        moves += 1;
-        x = b.0;
-    }
-    k.out[..moves].reverse();
-    figure % 1048576 * 1048576 + target % 4096 * 256 + moves % 256
-}
-
-fn proved(j: &Job, s: usize, k: &mut Scratch) -> usize {
-    unsafe {
-        probe_plan(
-            j.width, j.height, j.goal, j.depth, j.p, j.floor.as_ptr(), j.floor.len(), s, j.table.as_ptr(), j.table.len(),
-            k.base, k.mark.as_mut_ptr(), 4096, k.cost.as_mut_ptr(), 4096, k.list.as_mut_ptr(), 4096, k.out.as_mut_ptr(), 288,
-        )
+impl Proved {
+    fn look(&mut self, j: &Job, s: usize) -> usize {
+        let answer = unsafe {
+            probe_plan(
+                j.side, j.side, j.goal, j.depth, j.p, j.bytes.as_ptr(), j.bytes.len(), s, j.table.as_ptr(), j.table.len(),
+                self.base, self.mark.as_mut_ptr(), self.mark.len(), self.cost.as_mut_ptr(), self.cost.len(),
+                self.list.as_mut_ptr(), self.list.len(), self.out.as_mut_ptr(), self.out.len(),
+            )
+        };
+        self.base += 16;
+        answer
     }
 }
 
-fn time(run: fn(&Job, usize, &mut Scratch) -> usize, j: &Job, cells: &[usize], k: &mut Scratch) -> f64 {
-    let rounds = 1 + 40000 / (cells.len() * j.depth * j.depth);
-    let start = Instant::now();
+// The mean time of a lookahead, over all the starts.
+fn time(mut look: impl FnMut(usize) -> usize, depth: usize, starts: &[usize]) -> f64 {
+    let rounds = 1 + 40000 / (starts.len() * depth * depth);
+    let begun = Instant::now();
     let mut sum = 0usize;
     for _ in 0..rounds {
-        for &s in cells {
-            sum = sum.wrapping_add(run(j, s, k));
-            k.base += 16;
+        for &s in starts {
+            sum = sum.wrapping_add(look(s));
         }
     }
     std::hint::black_box(sum);
-    start.elapsed().as_nanos() as f64 / (rounds * cells.len()) as f64
+    begun.elapsed().as_nanos() as f64 / (rounds * starts.len()) as f64
 }
 
 fn main() {
@@ -156,42 +100,45 @@ fn main() {
         seed = seed.wrapping_mul(6364136223846793005).wrapping_add(1442695040888963407);
         (seed >> 33) as usize
     };
+    let small = vec![0u8; 64];
     let open = vec![0u8; 4096];
     let racks: Vec<u8> = (0..4096).map(|c| (c % 64 % 3 == 1 && c / 64 % 8 != 0) as u8).collect();
     let mixed: Vec<u8> = (0..4096).map(|_| (random() % 3 == 0) as u8).collect();
-    let small = vec![0u8; 64];
-    println!("{:8} {:>5} {:>10} {:>10} {:>6}", "floor", "depth", "proved ns", "plain ns", "ratio");
-    for (name, side, floor) in [("open 8", 8, &small), ("open", 64, &open), ("racks", 64, &racks), ("random", 64, &mixed)] {
+    println!("{:31} {:>5} {:>10} {:>10} {:>6}", "floor", "depth", "proved ns", "plain ns", "ratio");
+    for (name, side, bytes, depths) in [
+        ("open 8 x 8", 8, &small, &[1][..]),
+        ("open 64 x 64", 64, &open, &[1, 4, 8]),
+        ("racks 64 x 64", 64, &racks, &[1, 4, 8]),
+        ("random 64 x 64, a third blocked", 64, &mixed, &[1, 4, 8]),
+    ] {
         let cells = side * side;
-        let goal = (0..cells).rev().find(|&c| floor[c] == 0).unwrap();
+        let goal = (0..cells).rev().find(|&c| bytes[c] == 0).unwrap();
         let table: Vec<u32> = (0..cells).map(|c: usize| {
             let (dx, dy) = ((c % side).abs_diff(goal % side), (c / side).abs_diff(goal / side));
             (16 * (14 * dx.min(dy) + 10 * dx.abs_diff(dy))) as u32
         }).collect();
-        for depth in [1, 4, 8] {
-            let j = Job { width: side, height: side, goal, depth, p: 16, floor, table: &table };
-            let (mut a, mut b) = (scratch(), scratch());
+        // The list of exits is made once for a floor, as the second program does.
+        let floor = Floor::new(side, side, bytes);
+        for &depth in depths {
+            let j = Job { side, goal, depth, p: 16, bytes, table: &table };
+            let mut ours =
+                Proved { base: 1, mark: vec![0; PLACES], cost: vec![0; PLACES], list: vec![0; LISTED], out: [0; MOST_MOVES] };
+            let mut plain = Plain { floor: &floor, window: Window::new(), out: [0; MOST_MOVES] };
             let mut starts = vec![];
-            for s in 0..cells {
-                if floor[s] != 0 || s == goal {
-                    continue;
-                }
-                a.out.fill(0);
-                b.out.fill(0);
-                let (x, y) = (proved(&j, s, &mut a), plain(&j, s, &mut b));
-                a.base += 16;
-                b.base += 16;
-                assert!(x == y && a.out == b.out, "{name} {depth} {s}: {x} {y}");
+            for s in (0..cells).filter(|&s| bytes[s] == 0 && s != goal) {
+                let (x, y) = (ours.look(&j, s), plain.look(&j, s));
+                let moves = x % 256;
+                assert!(x == y && ours.out[..moves] == plain.out[..moves], "{name} {depth} {s}: {x} {y}");
                 if x != 0 {
                     starts.push(s);
                 }
             }
             let (mut p, mut q) = (f64::MAX, f64::MAX);
             for _ in 0..5 {
-                p = p.min(time(proved, &j, &starts, &mut a));
-                q = q.min(time(plain, &j, &starts, &mut b));
+                p = p.min(time(|s| ours.look(&j, s), depth, &starts));
+                q = q.min(time(|s| plain.look(&j, s), depth, &starts));
             }
-            println!("{name:8} {depth:5} {p:10.0} {q:10.0} {:6.2}", p / q);
+            println!("{name:31} {depth:5} {p:10.0} {q:10.0} {:6.2}", p / q);
         }
     }
 }

@@ -74,6 +74,8 @@ pub record PinsDecision : Type 0 where
   -- w may use more moves than x's ring: six moves, four diagonal (76), lose to seven, one diagonal (74)
   pub more-moves : decide (record { width = 5; height = 5; goal = 24; depth = 6; p = 1; q = 1; quota = 1000 }) bend (state 0 0 0) (set (replicate 25 0) 23 90) (replicate 25 77) buffer 0
       ≡ leaves (A.Forward 24 74 7) (state 24 74 1) (set (set (replicate 25 0) 23 90) 0 74) (0 ∷ replicate 24 77) (4 ∷ 4 ∷ 4 ∷ 3 ∷ 2 ∷ 2 ∷ 2 ∷ replicate 283 9)
+  -- Where 003 heads straight for a goal it sees, this rule still decides: a cell of the goal's ring with less than it is the target
+  pub goal-passed-by : clear 2 2 3 1 0 (0 ∷ 0 ∷ 9 ∷ 0 ∷ []) .answer ≡ A.Forward 1 10 1
   -- The new figure is the greatest of the m bests, the target the best of ring m alone
   pub greatest : clear 4 1 3 2 0 (0 ∷ 50 ∷ 0 ∷ 0 ∷ []) .answer ≡ A.Forward 2 60 2
   -- p × w(x) + figure(x), p and q apart
@@ -126,6 +128,7 @@ pinsDecision = record {
   ring-2-empty = refl;
   ring-1-full = refl;
   more-moves = refl;
+  goal-passed-by = refl;
   greatest = refl;
   weight = refl;
   lowest = refl;

@@ -4,7 +4,7 @@ use Prim.Native.Nat.{ℕ, _*_}
 use mathlib.Core.Path.{_≡_, refl}
 use mathlib.Core.Bool.{true, false}
 use mathlib.Core.List.{List, [], _∷_}
-use lib.ListN.{set, replicate, take}
+use lib.ListN.{length, set, replicate, take}
 use Rattle.answers.specs.declared.Job.{Job}
 use Rattle.answers.specs.declared.Place.{Place}
 use Rattle.answers.specs.declared.Place.the-variants as P
@@ -23,6 +23,12 @@ use Rattle.worked.proofs.Hall.{hall, job, openingOf, figures, fresh, no
 -- filling the table of a free floor
 abbrev fills : (width height bytes table : ℕ) → Verdict
 fills width height bytes table = openTable (record { width = width; height = height; bytes = replicate bytes 0 }) 1 (0 ∷ []) table
+
+-- what filling a table of the worked floor answers, and the table after
+abbrev filling : (q goal : ℕ) → (table : List ℕ) → Verdict × List ℕ
+filling q goal table =
+    let v = openTable (record { width = 3; height = 3; bytes = hall }) q (goal ∷ []) (length table) in
+    (v, filled v (record { width = 3; height = 3; bytes = hall }) q (goal ∷ []) table)
 
 -- opening a job by its settings on one free cell, the goal
 abbrev sets : (depth p q quota : ℕ) → Verdict
@@ -114,7 +120,11 @@ pub record PinsOpening : Type 0 where
   pub fill-off : openTable (record { width = 3; height = 3; bytes = hall }) 1 (9 ∷ []) 9 ≡ no 4 P.Nowhere
   -- 14 × the smaller + 10 × the difference, on a floor wider than high
   pub fill : filled Vd.Done (record { width = 4; height = 2; bytes = replicate 8 0 }) 3 (5 ∷ []) (replicate 8 9) ≡ 42 ∷ 30 ∷ 42 ∷ 72 ∷ 30 ∷ 0 ∷ 30 ∷ 60 ∷ []
-  pub fill-refused : filled (no 4 P.Nowhere) (record { width = 2; height = 1; bytes = replicate 2 0 }) 1 (0 ∷ []) (8 ∷ 9 ∷ []) ≡ 8 ∷ 9 ∷ []
+  pub fill-all : filling 1 0 (replicate 9 5) ≡ (Vd.Done, figures)
+  -- a refused table stays as lent
+  pub fill-short : filling 1 0 (replicate 8 5) ≡ (no 1 P.Nowhere, replicate 8 5)
+  pub fill-scale : filling 17 0 (replicate 9 5) ≡ (no 3 P.Nowhere, replicate 9 5)
+  pub fill-refused : filling 1 4 (replicate 9 5) ≡ (no 4 P.Nowhere, replicate 9 5)
 
 pub pinsOpening : PinsOpening
 unfolding compute
@@ -176,5 +186,8 @@ pinsOpening = record {
   fill-blocked = refl;
   fill-off = refl;
   fill = refl;
+  fill-all = refl;
+  fill-short = refl;
+  fill-scale = refl;
   fill-refused = refl;
 }

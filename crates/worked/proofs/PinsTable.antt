@@ -72,6 +72,9 @@ pub record PinsTable : Type 0 where
   pub found : findRecords (9 ∷ 8 ∷ workedFile) ≡ entry 6 48 ++ entry 7 38
   pub found-none : findRecords (entry 6 48 ++ ending 0 16) ≡ []
   pub found-faulty : findRecords (set workedFile 27 85) ≡ []
+  -- the trailer's check tells that apart from a count of 0
+  pub check-none : checkTrailer (ending 0 16) ≡ Vd.Done
+  pub check-faulty : checkTrailer (set workedFile 27 85) ≡ no 13 P.Nowhere
   -- 13: under 16 bytes
   pub short : map reads ([] ∷ drop 1 (ending 0 16) ∷ []) ≡ no 13 P.Nowhere ∷ no 13 P.Nowhere ∷ []
   -- letters
@@ -84,6 +87,7 @@ pub record PinsTable : Type 0 where
   pub count-both : checkTrailer (replicate 1536 0 ++ (3 ∷ 3 ∷ 0 ∷ 0 ∷ 1 ∷ 1 ∷ 1 ∷ 0 ∷ 0 ∷ 0 ∷ 6 ∷ 16 ∷ 80 ∷ 68 ∷ 76 ∷ 84 ∷ [])) ≡ Vd.Done
   -- or `back` past the file's start
   pub past-start : reads (drop 1 workedFile) ≡ no 13 P.Nowhere
+  pub check-past : checkTrailer (drop 1 workedFile) ≡ no 13 P.Nowhere
   -- 14: width, height, goal or q not this job's; after 13 and before 15
   pub thirteen-first : Unread floor 2 0 (set workedFile 27 85) (replicate 9 5) 13 P.Nowhere
   pub width-other : map (with 0) (2 ∷ 4 ∷ []) ≡ no 14 P.Nowhere ∷ no 14 P.Nowhere ∷ []
@@ -145,6 +149,8 @@ pinsTable = record {
   found = refl;
   found-none = refl;
   found-faulty = refl;
+  check-none = refl;
+  check-faulty = refl;
   short = refl;
   letters = refl;
   edition = refl;
@@ -152,6 +158,7 @@ pinsTable = record {
   count = refl;
   count-both = refl;
   past-start = refl;
+  check-past = refl;
   thirteen-first = refl;
   width-other = refl;
   height-other = refl;
