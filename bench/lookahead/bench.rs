@@ -23,7 +23,7 @@ extern "C" {
 
 // How long the lists are that the proved lookahead is lent: those with a place a cell, and the list of the window's cells.
 const PLACES: usize = 4096;
-const LISTED: usize = PLACES;
+const LISTED: usize = 2 * PLACES;
 
 struct Job<'a> {
     side: usize,
