@@ -5,7 +5,6 @@ use lib.ListN.{set, replicate}
 use Rattle.answers.specs.declared.Job.{Job}
 use Rattle.answers.specs.declared.State.{State}
 use Rattle.answers.specs.declared.Place.{Place}
-use Rattle.answers.specs.declared.Place.the-variants as P
 use Rattle.answers.specs.declared.Answer.{Answer}
 use Rattle.answers.specs.declared.Answer.the-variants as A
 use Rattle.answers.specs.declared.Verdict.{Verdict}

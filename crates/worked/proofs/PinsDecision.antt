@@ -7,7 +7,6 @@ use lib.ListN.{set, replicate, take}
 use Rattle.answers.specs.declared.Job.{Job}
 use Rattle.answers.specs.declared.State.{State}
 use Rattle.answers.specs.declared.Place.the-variants as P
-use Rattle.answers.specs.declared.Answer.{Answer}
 use Rattle.answers.specs.declared.Answer.the-variants as A
 use Rattle.model.specs.Floor.{allowed}
 use Rattle.model.specs.Decision.{Outcome, decide}

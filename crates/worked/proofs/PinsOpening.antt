@@ -1,8 +1,7 @@
 -- What opening a job, a trial and a run judge, 1 to 7, and filling a table: each limit on both sides, each fault alone, and the lower number first.
 -- Limits that several calls share are tried on one of them.
-use Prim.Native.Nat.{ℕ, _*_}
+use Prim.Native.Nat.{ℕ}
 use mathlib.Core.Path.{_≡_, refl}
-use mathlib.Core.Bool.{true, false}
 use mathlib.Core.List.{List, [], _∷_}
 use lib.ListN.{length, set, replicate, take}
 use Rattle.answers.specs.declared.Job.{Job}
@@ -13,10 +12,8 @@ use Rattle.answers.specs.declared.Verdict.the-variants as Vd
 use Rattle.answers.specs.declared.Report.{Report}
 use Rattle.answers.specs.declared.Tried.the-variants as Td
 use Rattle.answers.specs.declared.Ran.the-variants as Rn
-use Rattle.model.specs.Floor.{Floor}
-use Rattle.model.specs.Checks.{floorOf}
-use Rattle.model.specs.Opening.{openJob, openTrial, openRun, openTable, filled}
-use Rattle.model.specs.Ride.{TrialOutcome, RunOutcome, trial, run}
+use Rattle.model.specs.Opening.{openJob, openRun, openTable, filled}
+use Rattle.model.specs.Ride.{trial, run}
 use Rattle.model.specs.Compute.{compute}
 use Rattle.worked.proofs.Hall.{hall, job, openingOf, figures, fresh, no, shut, blank}
 

@@ -2,7 +2,7 @@
 use mathlib.Core.Path.{_≡_, refl}
 use mathlib.Core.Bool.{true, false}
 use mathlib.Core.List.{[], _∷_, map}
-use Rattle.answers.specs.Says.{Said, saysAnswer, saysVerdict, saysTried, saysRan, saysFloorRead, saysWritten}
+use Rattle.answers.specs.Says.{saysAnswer, saysVerdict, saysTried, saysRan, saysFloorRead, saysWritten}
 use Rattle.answers.specs.declared.Place.the-variants as P
 use Rattle.answers.specs.declared.Refusal.{Refusal}
 use Rattle.answers.specs.declared.Answer.the-variants as A

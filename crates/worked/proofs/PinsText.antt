@@ -3,13 +3,12 @@ use Prim.Native.Nat.{ℕ}
 use Prim.Native.String.{String}
 use mathlib.Core.Path.{_≡_, refl}
 use mathlib.Core.List.{List, [], _∷_, _++_, map}
-use lib.ListN.{set, replicate, drop}
+use lib.ListN.{set, replicate}
 use Rattle.learning.specs.Ground.{listOf}
 use Rattle.answers.specs.declared.Place.{Place}
 use Rattle.answers.specs.declared.Place.the-variants as P
 use Rattle.answers.specs.declared.Verdict.{Verdict}
 use Rattle.answers.specs.declared.Verdict.the-variants as Vd
-use Rattle.answers.specs.declared.FloorRead.{FloorRead}
 use Rattle.answers.specs.declared.FloorRead.the-variants as Fr
 use Rattle.model.specs.FloorText.{FloorOutcome, readFloor, floorVerdict}
 use Rattle.model.specs.Compute.{compute}

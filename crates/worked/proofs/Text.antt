@@ -1,6 +1,6 @@
 -- Texts as bytes, so that a case shows its text in letters.
 use Prim.Native.Nat.{ℕ, zero, suc}
-use Prim.Native.Char.{Char, code}
+use Prim.Native.Char.{code}
 use Prim.Native.String.{String}
 use Prim.Native.String as S
 use mathlib.Core.List.{List, [], _∷_, _++_}
