@@ -136,11 +136,11 @@ module _ (f : Floor) (x m : ℕ) where
   unfolding ahead
   ahead-row i = row-at (f .width) (column f x + east m - 1) (row f x + south m - 1) (omega (arith, i .west, i .east))
 
--- ---- the price: here alone it is unfolded, and nowhere is it asked which cells must be free for it
+-- ---- the price: here and in `Grounds` alone it is unfolded, and nowhere else is it asked which cells must be free for it
 
 -- of a clear way
-fare-clear : (t : Bool) (dx dy : ℕ) → t ≡ true → dx ≤ 1 → dy ≤ 1 → fare t dx dy ≡ tariff (dx + dy)
-fare-clear t dx dy e p q = ap (λ s. pick s (tariff (dx + dy)) 0) (both-of (t && leb dx 1) (leb dy 1) (both-of t (leb dx 1) e (le-leb dx 1 p)) (le-leb dy 1 q))
+clear-fare : (t : Bool) (dx dy : ℕ) → t ≡ true → dx ≤ 1 → dy ≤ 1 → fare t dx dy ≡ tariff (dx + dy)
+clear-fare t dx dy e p q = ap (λ s. pick s (tariff (dx + dy)) 0) (both-of (t && leb dx 1) (leb dy 1) (both-of t (leb dx 1) e (le-leb dx 1 p)) (le-leb dy 1 q))
 
 some-tariff : (n : ℕ) → 1 ≤ tariff n → 1 ≤ n
 some-tariff zero h = h
@@ -164,9 +164,9 @@ module _ (f : Floor) (a b : ℕ) where
   abbrev dy : ℕ
   dy = apart (row f a) (row f b)
 
-  price-clear : clear f a b ≡ true → dx ≤ 1 → dy ≤ 1 → price f a b ≡ tariff (dx + dy)
+  clear-price : clear f a b ≡ true → dx ≤ 1 → dy ≤ 1 → price f a b ≡ tariff (dx + dy)
   unfolding price
-  price-clear = fare-clear (clear f a b) dx dy
+  clear-price = clear-fare (clear f a b) dx dy
 
   pub priced : 1 ≤ price f a b → Priced f a b
   unfolding price
@@ -176,7 +176,7 @@ module _ (f : Floor) (a b : ℕ) where
       let r = both (clear f a b) (leb dx 1) (q .0) in
       let x = leb-true dx 1 (r .1) in
       let y = leb-true dy 1 (q .1) in
-      record { columns = x; rows = y; some = some-tariff (dx + dy) (p .1); cost = price-clear (r .0) x y }
+      record { columns = x; rows = y; some = some-tariff (dx + dy) (p .1); cost = clear-price (r .0) x y }
 
 near-one : (x e : ℕ) → 1 ≤ x + e → apart x (x + e - 1) ≡ apart 1 e
 near-one x e h = omega arith
@@ -213,7 +213,7 @@ module _ (f : Floor) (z : Sized f) where
 
   pub price-ahead : (x m : ℕ) → m < 8 → Inside f x m → clear f x (ahead f x m) ≡ true → price f x (ahead f x m) ≡ toll m
   price-ahead x m l i q =
-      price-clear f x (ahead f x m) q (omega (arith, ahead-columns x m i, near-le (east m) (east-le m l))) (omega (arith, ahead-rows x m i, near-le (south m) (south-le m l)))
+      clear-price f x (ahead f x m) q (omega (arith, ahead-columns x m i, near-le (east m) (east-le m l))) (omega (arith, ahead-rows x m i, near-le (south m) (south-le m l)))
       ∙ ahead-toll x m l i
 
   -- a move is allowed just where it stays on the floor and has a price

@@ -88,9 +88,12 @@ price-same f a b =
     ap (λ t. fare t (apart (column f a) (column f b)) (apart (row f a) (row f b))) (clear-same f a b)
     ∙ ap₂ (fare (clear f b a)) (apart-comm (column f a) (column f b)) (apart-comm (row f a) (row f b))
 
-pub price-free : (f : Floor) (a b : ℕ) → 1 ≤ price f a b → T (free f a)
+pub price-clear : (f : Floor) (a b : ℕ) → 1 ≤ price f a b → T (clear f a b)
 unfolding price
-price-free f a b h = clear-free f a b (fare-clear (clear f a b) (apart (column f a) (column f b)) (apart (row f a) (row f b)) h)
+price-clear f a b = fare-clear (clear f a b) (apart (column f a) (column f b)) (apart (row f a) (row f b))
+
+pub price-free : (f : Floor) (a b : ℕ) → 1 ≤ price f a b → T (free f a)
+price-free f a b h = clear-free f a b (price-clear f a b h)
 
 -- the goals are those cells of the list that are on the floor
 abbrev pub isGoal : Floor → List ℕ → ℕ → Bool
