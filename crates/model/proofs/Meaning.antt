@@ -22,16 +22,16 @@ use Rattle.learning.proofs.Look.{answer-if}
 use Rattle.learning.proofs.Routes.{route-chain, route-self, route-back, prior-least}
 use Rattle.answers.specs.declared.Job.{Job}
 use Rattle.model.specs.Basics.{member}
-use Rattle.model.specs.Floor.{Floor, size, Sized, free, price, ahead, allowed}
+use Rattle.model.specs.Floor.{Floor, size, Sized, price, ahead, allowed}
 use Rattle.model.specs.Checks.{floorOf, groundIn}
 use Rattle.model.specs.Lookahead.{seen, ring, w, emptyRing, newFigure, target, route}
 use Rattle.model.specs.Opening.{distances, reaches}
 use Rattle.model.specs.Decision.{atGoal}
-use Rattle.model.proofs.Moves.{toll, price-move, price-ahead, allowed-inside, allowed-free, is-true}
+use Rattle.model.proofs.Moves.{both, toll, price-move, price-toll, allowed-inside, allowed-some, is-true}
 use Rattle.model.proofs.Held.{or-false}
 use Rattle.model.proofs.Openings.{reaches-of, reaches-means}
 use Rattle.model.proofs.Rings.{Bare, empty-some, empty-full, empty-of}
-use Rattle.model.specs.Grounds.{price-free, groundOf}
+use Rattle.model.specs.Grounds.{groundOf}
 
 -- ---- "A move is allowed when the cell moved into is on the floor and free. A straight move costs 10, a diagonal one 14."
 
@@ -39,8 +39,7 @@ use Rattle.model.specs.Grounds.{price-free, groundOf}
 pub price-means : (f : Floor) → Sized f → (x y : ℕ) → 1 ≤ price f x y → (m : ℕ) × (m < 8) × (allowed f x m ≡ true) × (ahead f x m ≡ y) × (price f x y ≡ toll m)
 price-means f z x y h =
     let (m, l, a, e) = price-move f z x y h in
-    let here = is-true (free f x) (price-free f x y h) in
-    (m, l, a, e, subst (λ c. price f x c ≡ toll m) e (price-ahead f z x m l here (allowed-inside f z x m a) (allowed-free f z x m a)))
+    (m, l, a, e, subst (λ c. price f x c ≡ toll m) e (price-toll f z x m l (allowed-inside f z x m a) (allowed-some f z x m a)))
 
 -- ---- the goal
 

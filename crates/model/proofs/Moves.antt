@@ -12,7 +12,7 @@ use borrow.Author.Tests.{leb-true, eqb-true, le-leb, eq-eqb}
 use Rattle.learning.specs.Ground.{pick}
 use Rattle.learning.specs.Look.{lowest}
 use Rattle.learning.proofs.Look.{lowest-low, lowest-met}
-use Rattle.model.specs.Floor.{Floor, Sized, size, column, row, free, apart, tariff, fare, price, east, south, ahead, inside, allowed, heading, opposite}
+use Rattle.model.specs.Floor.{Floor, Sized, size, column, row, free, apart, tariff, fare, clear, price, east, south, ahead, inside, allowed, heading, opposite}
 use Rattle.model.specs.Grounds.{price-same, price-free, free-inside}
 use Rattle.model.proofs.Cells.{cell-lt, row-lt, col-at, row-at, cell-at}
 
@@ -136,16 +136,11 @@ module _ (f : Floor) (x m : ℕ) where
   unfolding ahead
   ahead-row i = row-at (f .width) (column f x + east m - 1) (row f x + south m - 1) (omega (arith, i .west, i .east))
 
--- the price of a move between two free cells
-fare-free : (dx dy : ℕ) → dx ≤ 1 → dy ≤ 1 → fare true true dx dy ≡ tariff (dx + dy)
-fare-free dx dy p q = ap (λ t. pick t (tariff (dx + dy)) 0) (both-of (leb dx 1) (leb dy 1) (le-leb dx 1 p) (le-leb dy 1 q))
+-- ---- the price: here and in `Grounds` alone it is unfolded, and nowhere else is it asked which cells must be free for it
 
--- what a price says
-record Fared (a b : Bool) (dx dy : ℕ) : Type 0 where
-  other : b ≡ true
-  columns : dx ≤ 1
-  rows : dy ≤ 1
-  apart : 1 ≤ dx + dy
+-- of a clear way
+clear-fare : (t : Bool) (dx dy : ℕ) → t ≡ true → dx ≤ 1 → dy ≤ 1 → fare t dx dy ≡ tariff (dx + dy)
+clear-fare t dx dy e p q = ap (λ s. pick s (tariff (dx + dy)) 0) (both-of (t && leb dx 1) (leb dy 1) (both-of t (leb dx 1) e (le-leb dx 1 p)) (le-leb dy 1 q))
 
 some-tariff : (n : ℕ) → 1 ≤ tariff n → 1 ≤ n
 some-tariff zero h = h
@@ -155,12 +150,33 @@ picked : (t : Bool) (n : ℕ) → 1 ≤ pick t n 0 → (t ≡ true) × (1 ≤ n)
 picked true n h = (refl, h)
 picked false n h = absurd (omega arith)
 
-fared : (a b : Bool) (dx dy : ℕ) → 1 ≤ fare a b dx dy → Fared a b dx dy
-fared s t dx dy h =
-    let p = picked (s && t && leb dx 1 && leb dy 1) (tariff (dx + dy)) h in
-    let q = both (s && t && leb dx 1) (leb dy 1) (p .0) in
-    let r = both (s && t) (leb dx 1) (q .0) in
-    record { other = both s t (r .0) .1; columns = leb-true dx 1 (r .1); rows = leb-true dy 1 (q .1); apart = some-tariff (dx + dy) (p .1) }
+-- what a price says: the cells are a column and a row apart at most, and it is the tariff of that
+pub record Priced (f : Floor) (a b : ℕ) : Type 0 where
+  pub columns : apart (column f a) (column f b) ≤ 1
+  pub rows : apart (row f a) (row f b) ≤ 1
+  pub some : 1 ≤ apart (column f a) (column f b) + apart (row f a) (row f b)
+  pub cost : price f a b ≡ tariff (apart (column f a) (column f b) + apart (row f a) (row f b))
+
+module _ (f : Floor) (a b : ℕ) where
+  abbrev dx : ℕ
+  dx = apart (column f a) (column f b)
+
+  abbrev dy : ℕ
+  dy = apart (row f a) (row f b)
+
+  clear-price : clear f a b ≡ true → dx ≤ 1 → dy ≤ 1 → price f a b ≡ tariff (dx + dy)
+  unfolding price
+  clear-price = clear-fare (clear f a b) dx dy
+
+  pub priced : 1 ≤ price f a b → Priced f a b
+  unfolding price
+  priced h =
+      let p = picked (clear f a b && leb dx 1 && leb dy 1) (tariff (dx + dy)) h in
+      let q = both (clear f a b && leb dx 1) (leb dy 1) (p .0) in
+      let r = both (clear f a b) (leb dx 1) (q .0) in
+      let x = leb-true dx 1 (r .1) in
+      let y = leb-true dy 1 (q .1) in
+      record { columns = x; rows = y; some = some-tariff (dx + dy) (p .1); cost = clear-price (r .0) x y }
 
 near-one : (x e : ℕ) → 1 ≤ x + e → apart x (x + e - 1) ≡ apart 1 e
 near-one x e h = omega arith
@@ -182,22 +198,31 @@ near-le : (e : ℕ) → e ≤ 2 → apart 1 e ≤ 1
 near-le e h = omega arith
 
 module _ (f : Floor) (z : Sized f) where
-  -- the price of a move to a free cell
-  pub price-ahead : (x m : ℕ) → m < 8 → free f x ≡ true → Inside f x m → free f (ahead f x m) ≡ true → price f x (ahead f x m) ≡ toll m
-  unfolding price
-  price-ahead x m l p i q =
-      let dx : apart (column f x) (column f (ahead f x m)) ≡ apart 1 (east m) = ap (apart (column f x)) (ahead-column f x m i) ∙ near-one (column f x) (east m) (i .west) in
-      let dy : apart (row f x) (row f (ahead f x m)) ≡ apart 1 (south m) = ap (apart (row f x)) (ahead-row f x m i) ∙ near-one (row f x) (south m) (i .north) in
-      ap₂ (λ s t. fare s t (apart (column f x) (column f (ahead f x m))) (apart (row f x) (row f (ahead f x m)))) p q
-      ∙ ap₂ (fare true true) dx dy
-      ∙ fare-free (apart 1 (east m)) (apart 1 (south m)) (near-le (east m) (east-le m l)) (near-le (south m) (south-le m l))
-      ∙ toll-tariff m l
+  -- the price of a move is its toll, where the way is clear
+  ahead-columns : (x m : ℕ) → Inside f x m → apart (column f x) (column f (ahead f x m)) ≡ apart 1 (east m)
+  ahead-columns x m i = ap (apart (column f x)) (ahead-column f x m i) ∙ near-one (column f x) (east m) (i .west)
 
-  -- a move is allowed just where it leads to a free cell
-  pub allowed-true : (x m : ℕ) → m < 8 → free f x ≡ true → Inside f x m → free f (ahead f x m) ≡ true → allowed f x m ≡ true
+  ahead-rows : (x m : ℕ) → Inside f x m → apart (row f x) (row f (ahead f x m)) ≡ apart 1 (south m)
+  ahead-rows x m i = ap (apart (row f x)) (ahead-row f x m i) ∙ near-one (row f x) (south m) (i .north)
+
+  ahead-toll : (x m : ℕ) → m < 8 → Inside f x m → tariff (apart (column f x) (column f (ahead f x m)) + apart (row f x) (row f (ahead f x m))) ≡ toll m
+  ahead-toll x m l i = ap₂ (λ dx dy. tariff (dx + dy)) (ahead-columns x m i) (ahead-rows x m i) ∙ toll-tariff m l
+
+  pub price-toll : (x m : ℕ) → m < 8 → Inside f x m → 1 ≤ price f x (ahead f x m) → price f x (ahead f x m) ≡ toll m
+  price-toll x m l i h = priced f x (ahead f x m) h .cost ∙ ahead-toll x m l i
+
+  pub price-ahead : (x m : ℕ) → m < 8 → Inside f x m → clear f x (ahead f x m) ≡ true → price f x (ahead f x m) ≡ toll m
+  price-ahead x m l i q =
+      clear-price f x (ahead f x m) q (omega (arith, ahead-columns x m i, near-le (east m) (east-le m l))) (omega (arith, ahead-rows x m i, near-le (south m) (south-le m l)))
+      ∙ ahead-toll x m l i
+
+  -- a move is allowed just where it stays on the floor and has a price
+  pub some-allowed : (x m : ℕ) → Inside f x m → 1 ≤ price f x (ahead f x m) → allowed f x m ≡ true
   unfolding allowed
-  allowed-true x m l p i q =
-      both-of (inside f x m) (leb 1 (price f x (ahead f x m))) (inside-true f x m i) (le-leb 1 (price f x (ahead f x m)) (omega (arith, price-ahead x m l p i q, toll-some m l)))
+  some-allowed x m i h = both-of (inside f x m) (leb 1 (price f x (ahead f x m))) (inside-true f x m i) (le-leb 1 (price f x (ahead f x m)) h)
+
+  pub allowed-true : (x m : ℕ) → m < 8 → Inside f x m → clear f x (ahead f x m) ≡ true → allowed f x m ≡ true
+  allowed-true x m l i q = some-allowed x m i (omega (arith, price-ahead x m l i q, toll-some m l))
 
   pub allowed-inside : (x m : ℕ) → allowed f x m ≡ true → Inside f x m
   unfolding allowed
@@ -251,7 +276,7 @@ module _ (f : Floor) (z : Sized f) where
     opposite-ahead = back-ahead
 
     pub opposite-allowed : allowed f (ahead f x m) (opposite m) ≡ true
-    opposite-allowed = allowed-true y (opposite m) (opposite-lt m l) (allowed-free x m e) back-inside (ap (free f) back-ahead ∙ here)
+    opposite-allowed = some-allowed y (opposite m) back-inside (omega (arith, ap (price f y) back-ahead, price-same f x y, allowed-some x m e))
 
   -- different moves lead to different cells
   pub ahead-one : (x m m′ : ℕ) → m < 8 → m′ < 8 → allowed f x m ≡ true → allowed f x m′ ≡ true → ahead f x m ≡ ahead f x m′ → m ≡ m′
@@ -263,30 +288,28 @@ module _ (f : Floor) (z : Sized f) where
       sym (moved m l) ∙ ap₂ moveOf p q ∙ moved m′ l′
 
   -- each price is a move's
-  arrive : (x y m : ℕ) → m < 8 → free f x ≡ true → free f y ≡ true → column f y < f .width → row f y < f .height → column f x + east m ≡ column f y + 1
-      → row f x + south m ≡ row f y + 1 → (m : ℕ) × (m < 8) × (allowed f x m ≡ true) × (ahead f x m ≡ y)
+  arrive : (x y m : ℕ) → m < 8 → 1 ≤ price f x y → column f y < f .width → row f y < f .height → column f x + east m ≡ column f y + 1 → row f x + south m ≡ row f y + 1
+      → (m : ℕ) × (m < 8) × (allowed f x m ≡ true) × (ahead f x m ≡ y)
   unfolding ahead
-  arrive x y m l u v cx ry p q =
+  arrive x y m l h cx ry p q =
       let p′ : column f x + east m - 1 ≡ column f y = omega (arith, p) in
       let q′ : row f x + south m - 1 ≡ row f y = omega (arith, q) in
       let same : ahead f x m ≡ y = ap₂ (λ r c. r * f .width + c) q′ p′ ∙ cell-at (f .width) y in
       let i : Inside f x m = record { west = omega (arith, p); east = omega (arith, p, cx); north = omega (arith, q); south = omega (arith, q, ry) } in
-      (m, l, allowed-true x m l u i (ap (free f) same ∙ v), same)
+      (m, l, some-allowed x m i (omega (arith, ap (price f x) same)), same)
 
   pub price-move : (x y : ℕ) → 1 ≤ price f x y → (m : ℕ) × (m < 8) × (allowed f x m ≡ true) × (ahead f x m ≡ y)
-  unfolding price
   price-move x y h =
-      let free-x : free f x ≡ true = is-true (free f x) (price-free f x y h) in
-      let t = fared (free f x) (free f y) (apart (column f x) (column f y)) (apart (row f x) (row f y)) h in
+      let t = priced f x y h in
       let cx : column f y < f .width = mod-lt y (z .wide) in
-      let ry : row f y < f .height = row-lt (f .width) (f .height) y (z .wide) (free-lt y (t .other)) in
+      let ry : row f y < f .height = row-lt (f .width) (f .height) y (z .wide) (free-lt y (is-true (free f y) (price-free f y x (omega (arith, price-same f x y))))) in
       let dx = way-apart (column f x) (column f y) (t .columns) in
       let dy = way-apart (row f x) (row f y) (t .rows) in
       let (m, l, p, q) =
-      moveFor (way (column f x) (column f y)) (way (row f x) (row f y)) (way-le (column f x) (column f y) (t .columns)) (way-le (row f x) (row f y) (t .rows)) (subst (λ k. 1 ≤ k) (sym (ap₂ _+_ dx dy)) (t .apart)) in
+      moveFor (way (column f x) (column f y)) (way (row f x) (row f y)) (way-le (column f x) (column f y) (t .columns)) (way-le (row f x) (row f y) (t .rows)) (subst (λ k. 1 ≤ k) (sym (ap₂ _+_ dx dy)) (t .some)) in
       let p′ : column f x + east m ≡ column f y + 1 = ap (λ k. column f x + k) p ∙ way-to (column f x) (column f y) (t .columns) in
       let q′ : row f x + south m ≡ row f y + 1 = ap (λ k. row f x + k) q ∙ way-to (row f x) (row f y) (t .rows) in
-      arrive x y m l free-x (t .other) cx ry p′ q′
+      arrive x y m l h cx ry p′ q′
 
   -- the move that leads from a cell to another is the heading
   pub heading-is : (x m : ℕ) → m < 8 → allowed f x m ≡ true → heading f x (ahead f x m) ≡ m

@@ -2,29 +2,29 @@
 -- And they are small, so no table of opening figures is refused by 5 or by 7. Assumes nothing.
 use Prim.Native.Nat.{ℕ, zero, suc, _+_, _*_, _≤_, _<_, min}
 use mathlib.Core.Path.{_≡_, refl, sym, ap, ap₂, _∙_, subst}
-use mathlib.Core.Bool.{Bool, true, false, _&&_, _||_}
+use mathlib.Core.Bool.{Bool, true, false, _||_}
 use mathlib.Core.Logic.{_⊎_, inl, inr}
 use mathlib.Core.List.{List, [], _∷_}
 use native.Mathlib.Nat.{mul-le-mul, mul-le-mul-left, mod-lt, min-eq-left, min-eq-right}
 use native.Mathlib.Omega.{arith}
 use native.Mathlib.Decide.{decLe}
-use borrow.Author.Tests.{eqb-true, leb-true, le-ltb}
-use lib.Dec.{T, ltb, eqb, leb}
+use borrow.Author.Tests.{eqb-true, le-ltb}
+use lib.Dec.{T, ltb, eqb}
 use lib.ListN.{getD}
 use Rattle.learning.specs.Walk.{Any, Reaches}
-use Rattle.learning.specs.Ground.{Goal, netOf, pick, distOf}
+use Rattle.learning.specs.Ground.{Goal, netOf, distOf}
 use Rattle.learning.proofs.Route.{closed-low}
 use Rattle.learning.proofs.Spread.{list-at, second-true}
 use Rattle.learning.proofs.Ground.{on-floor, dist-least}
 use Rattle.answers.specs.declared.Job.{Job}
 use Rattle.answers.specs.declared.Verdict.the-variants as Vd
 use Rattle.model.specs.Basics.{member, then}
-use Rattle.model.specs.Floor.{Floor, size, Sized, column, row, free, apart, tariff, fare, price, octile, opening, openingTable}
+use Rattle.model.specs.Floor.{Floor, size, Sized, column, row, free, apart, tariff, price, octile, opening, openingTable}
 use Rattle.model.specs.Grounds.{groundOf}
 use Rattle.model.specs.Checks.{ceiling, floorOf, goals, groundIn, figures}
 use Rattle.model.specs.Opening.{soundness, accepts}
 use Rattle.model.proofs.Cells.{row-lt}
-use Rattle.model.proofs.Moves.{both, free-lt}
+use Rattle.model.proofs.Moves.{priced, free-lt}
 use Rattle.model.proofs.Accepted.{then-next, figures-done, places-judges}
 use Rattle.model.proofs.Soundness.{CanReach, Above, sound}
 
@@ -59,7 +59,7 @@ span-step : (x y : ℕ) → (span (x + 1) y ≤ 10 + span x y) × (span x (y + 1
 unfolding span
 span-step x y = (omega arith, omega arith, omega arith)
 
-span-tariff : (e f x y x′ y′ : ℕ) → e ≤ 1 → f ≤ 1 → 1 ≤ tariff (e + f) → x ≤ x′ + e → y ≤ y′ + f → span x y ≤ tariff (e + f) + span x′ y′
+span-tariff : (e f x y x′ y′ : ℕ) → e ≤ 1 → f ≤ 1 → 1 ≤ e + f → x ≤ x′ + e → y ≤ y′ + f → span x y ≤ tariff (e + f) + span x′ y′
 span-tariff zero zero x y x′ y′ he hf some hx hy = absurd (omega arith)
 span-tariff (suc zero) zero x y x′ y′ he hf some hx hy = omega (arith, span-mono x y (x′ + 1) y′ (omega arith) (omega arith), span-step x′ y′ .0)
 span-tariff zero (suc zero) x y x′ y′ he hf some hx hy = omega (arith, span-mono x y x′ (y′ + 1) (omega arith) (omega arith), span-step x′ y′ .1)
@@ -67,17 +67,6 @@ span-tariff (suc zero) (suc zero) x y x′ y′ he hf some hx hy = omega (arith,
 span-tariff (suc (suc e)) f x y x′ y′ he hf some hx hy = absurd (omega arith)
 span-tariff zero (suc (suc f)) x y x′ y′ he hf some hx hy = absurd (omega arith)
 span-tariff (suc zero) (suc (suc f)) x y x′ y′ he hf some hx hy = absurd (omega arith)
-
-picked : (b : Bool) (n : ℕ) → 1 ≤ pick b n 0 → (b ≡ true) × (pick b n 0 ≡ n)
-picked true n h = (refl, refl)
-picked false n h = absurd (omega arith)
-
-span-fare : (a b : Bool) (e f x y x′ y′ : ℕ) → 1 ≤ fare a b e f → x ≤ x′ + e → y ≤ y′ + f → span x y ≤ fare a b e f + span x′ y′
-span-fare a b e f x y x′ y′ h hx hy =
-    let (t, k) = picked (a && b && leb e 1 && leb f 1) (tariff (e + f)) h in
-    let p = both (a && b && leb e 1) (leb f 1) t in
-    let le : e ≤ 1 = leb-true e 1 (both (a && b) (leb e 1) (p .0) .1) in
-    omega (arith, span-tariff e f x y x′ y′ le (leb-true f 1 (p .1)) (omega (arith, k)) hx hy, k)
 
 triangle : (a b g : ℕ) → apart a g ≤ apart b g + apart a b
 triangle a b g = omega arith
@@ -106,12 +95,14 @@ module _ (f : Floor) where
   opening-scale q (g ∷ h ∷ gs) x = ap₂ min (octile-scale q g x) (opening-scale q (h ∷ gs) x) ∙ min-scale q (octile f 1 g x) (opening f 1 (h ∷ gs) x)
 
   octile-covers : (g a b : ℕ) → 1 ≤ price f a b → octile f 1 g a ≤ price f a b + octile f 1 g b
-  unfolding octile price span
+  unfolding octile span
   octile-covers g a b h =
+      let p = priced f a b h in
       omega (
         arith,
-        span-fare (free f a) (free f b) (apart (column f a) (column f b)) (apart (row f a) (row f b)) (apart (column f a) (column f g)) (apart (row f a) (row f g))
-            (apart (column f b) (column f g)) (apart (row f b) (row f g)) h (triangle (column f a) (column f b) (column f g)) (triangle (row f a) (row f b) (row f g)),
+        p .cost,
+        span-tariff (apart (column f a) (column f b)) (apart (row f a) (row f b)) (apart (column f a) (column f g)) (apart (row f a) (row f g)) (apart (column f b) (column f g))
+            (apart (row f b) (row f g)) (p .columns) (p .rows) (p .some) (triangle (column f a) (column f b) (column f g)) (triangle (row f a) (row f b) (row f g)),
       )
 
   covers : (gs : List ℕ) (a b : ℕ) → 1 ≤ price f a b → opening f 1 gs a ≤ price f a b + opening f 1 gs b

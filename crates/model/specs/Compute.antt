@@ -4,7 +4,7 @@ use Rattle.learning.specs.Ground.{settle, spread, distsOf, reachOf, distOf, vie
 use Rattle.learning.specs.Look.{bestOn, newOver, targetOver, newIn, targetIn}
 use Rattle.learning.specs.Route.{priorIn, routeFrom, routeIn}
 use Rattle.model.specs.Basics.{every, member, distinct, naming}
-use Rattle.model.specs.Floor.{free, price, ahead, inside, allowed, heading, octile, opening, openingTable}
+use Rattle.model.specs.Floor.{free, clear, price, ahead, inside, allowed, heading, octile, opening, openingTable}
 use Rattle.model.specs.Checks.{sizes, pathRoom, settings, scale, benches, places, figures}
 use Rattle.model.specs.Lookahead.{emptyRing, movesAlong}
 use Rattle.model.specs.Decision.{movesRoom, stateHolds, judge, forward, backOut, stay, goBack, learn, act, decide}
@@ -19,7 +19,7 @@ unfolding decLe ℕ-discrete
     settle spread distsOf reachOf distOf viewOf ringOf lastOf legOf
     bestOn newOver targetOver newIn targetIn priorIn routeFrom routeIn
     every member distinct naming
-    free price ahead inside allowed heading octile opening openingTable
+    free clear price ahead inside allowed heading octile opening openingTable
     sizes pathRoom settings scale benches places figures
     emptyRing movesAlong
     movesRoom stateHolds judge forward backOut stay goBack learn act decide

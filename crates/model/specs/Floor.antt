@@ -7,7 +7,6 @@ use lib.Dec.{ltb, leb, eqb}
 use lib.ListN.{length, getD}
 use Rattle.learning.specs.Ground.{pick, listOf}
 use Rattle.learning.specs.Look.{lowest}
-use Rattle.model.specs.Basics.{choose}
 
 pub record Floor : Type 0 where
   pub width : ℕ
@@ -47,13 +46,17 @@ tariff (suc zero) = 10
 tariff (suc (suc zero)) = 14
 tariff (suc (suc (suc n))) = 0
 
--- of two cells dx columns and dy rows apart, one free and the other: the cost of the move from one to the other, and 0 where there is none
-abbrev pub fare : Bool → Bool → ℕ → ℕ → ℕ
-fare a b dx dy = pick (a && b && leb dx 1 && leb dy 1) (tariff (dx + dy)) 0
+-- of two cells dx columns and dy rows apart: the cost of the move from one to the other where the way is clear, and 0 where there is none
+abbrev pub fare : Bool → ℕ → ℕ → ℕ
+fare clear dx dy = pick (clear && leb dx 1 && leb dy 1) (tariff (dx + dy)) 0
+
+-- whether the cells are free that a move between a and b needs free
+unfoldable pub clear : Floor → ℕ → ℕ → Bool
+clear f a b = free f a && free f b
 
 -- the cost of the move from a to b, and 0 where no move from a leads to b: THE definition of movement, all else follows it
 unfoldable pub price : Floor → ℕ → ℕ → ℕ
-price f a b = fare (free f a) (free f b) (apart (column f a) (column f b)) (apart (row f a) (row f b))
+price f a b = fare (clear f a b) (apart (column f a) (column f b)) (apart (row f a) (row f b))
 
 -- the eight moves, 0 N, 1 NE, 2 E, 3 SE, 4 S, 5 SW, 6 W, 7 NW: how far each goes east and south, counted so that 1 is not at all
 abbrev pub east : ℕ → ℕ

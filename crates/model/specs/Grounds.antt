@@ -1,15 +1,15 @@
 -- A floor with its goals is a ground: moves go both ways at one price, at least 10 and at most 14.
 -- So rings, w, true distances, routes and trials are those that `learning` computes and proves, over `price`.
 use Prim.Native.Nat.{ℕ, zero, suc, _+_, _-_, _≤_, _<_}
-use mathlib.Core.Path.{_≡_, refl, ap₂, _∙_}
+use mathlib.Core.Path.{_≡_, refl, ap, ap₂, _∙_}
 use mathlib.Core.Bool.{Bool, true, false, _&&_}
 use mathlib.Core.List.{List}
 use native.Mathlib.Nat.{add-comm}
 use native.Mathlib.Omega.{arith}
-use lib.Dec.{T, leb, eqb, ltb, ltb→lt}
+use lib.Dec.{T, leb, ltb, ltb→lt}
 use Rattle.learning.specs.Ground.{Ground, pick}
 use Rattle.model.specs.Basics.{member}
-use Rattle.model.specs.Floor.{Floor, size, column, row, free, apart, tariff, fare, price}
+use Rattle.model.specs.Floor.{Floor, size, column, row, free, apart, tariff, fare, clear, price}
 
 tariff-low : (n : ℕ) → 1 ≤ tariff n → 10 ≤ tariff n
 tariff-low zero h = absurd (omega arith)
@@ -31,21 +31,15 @@ pick-high : (b : Bool) (n : ℕ) → pick b (tariff n) 0 ≤ 14
 pick-high true n = tariff-high n
 pick-high false n = omega arith
 
-fare-low : (a b : Bool) (dx dy : ℕ) → 1 ≤ fare a b dx dy → 10 ≤ fare a b dx dy
-fare-low a b dx dy = pick-low (a && b && leb dx 1 && leb dy 1) (dx + dy)
+fare-low : (t : Bool) (dx dy : ℕ) → 1 ≤ fare t dx dy → 10 ≤ fare t dx dy
+fare-low t dx dy = pick-low (t && leb dx 1 && leb dy 1) (dx + dy)
 
-fare-high : (a b : Bool) (dx dy : ℕ) → fare a b dx dy ≤ 14
-fare-high a b dx dy = pick-high (a && b && leb dx 1 && leb dy 1) (dx + dy)
+fare-high : (t : Bool) (dx dy : ℕ) → fare t dx dy ≤ 14
+fare-high t dx dy = pick-high (t && leb dx 1 && leb dy 1) (dx + dy)
 
-fare-comm : (a b : Bool) (dx dy : ℕ) → fare a b dx dy ≡ fare b a dx dy
-fare-comm true true dx dy = refl
-fare-comm true false dx dy = refl
-fare-comm false true dx dy = refl
-fare-comm false false dx dy = refl
-
-fare-free : (a b : Bool) (dx dy : ℕ) → 1 ≤ fare a b dx dy → T a
-fare-free true b dx dy h = tt
-fare-free false b dx dy h = absurd (omega arith)
+fare-clear : (t : Bool) (dx dy : ℕ) → 1 ≤ fare t dx dy → T t
+fare-clear true dx dy h = tt
+fare-clear false dx dy h = absurd (omega arith)
 
 pub apart-comm : (a b : ℕ) → apart a b ≡ apart b a
 apart-comm a b = add-comm (a - b) (b - a)
@@ -58,23 +52,48 @@ pub free-inside : (f : Floor) (x : ℕ) → T (free f x) → x < size f
 unfolding free
 free-inside f x h = ltb→lt x (size f) (both-first (ltb x (size f)) _ h)
 
+-- ---- the cells that must be free: all that is known of `clear`
+
+both-comm : (a b : Bool) → (a && b) ≡ (b && a)
+both-comm true true = refl
+both-comm true false = refl
+both-comm false true = refl
+both-comm false false = refl
+
+clear-same : (f : Floor) (a b : ℕ) → clear f a b ≡ clear f b a
+unfolding clear
+clear-same f a b = both-comm (free f a) (free f b)
+
+clear-free : (f : Floor) (a b : ℕ) → T (clear f a b) → T (free f a)
+unfolding clear
+clear-free f a b = both-first (free f a) (free f b)
+
+pub clear-true : (f : Floor) (a b : ℕ) → free f a ≡ true → free f b ≡ true → clear f a b ≡ true
+unfolding clear
+clear-true f a b = ap₂ _&&_
+
+-- ---- the price
+
 pub price-low : (f : Floor) (a b : ℕ) → 1 ≤ price f a b → 10 ≤ price f a b
 unfolding price
-price-low f a b = fare-low (free f a) (free f b) (apart (column f a) (column f b)) (apart (row f a) (row f b))
+price-low f a b = fare-low (clear f a b) (apart (column f a) (column f b)) (apart (row f a) (row f b))
 
 pub price-high : (f : Floor) (a b : ℕ) → price f a b ≤ 14
 unfolding price
-price-high f a b = fare-high (free f a) (free f b) (apart (column f a) (column f b)) (apart (row f a) (row f b))
+price-high f a b = fare-high (clear f a b) (apart (column f a) (column f b)) (apart (row f a) (row f b))
 
 pub price-same : (f : Floor) (a b : ℕ) → price f a b ≡ price f b a
 unfolding price
 price-same f a b =
-    fare-comm (free f a) (free f b) (apart (column f a) (column f b)) (apart (row f a) (row f b))
-    ∙ ap₂ (fare (free f b) (free f a)) (apart-comm (column f a) (column f b)) (apart-comm (row f a) (row f b))
+    ap (λ t. fare t (apart (column f a) (column f b)) (apart (row f a) (row f b))) (clear-same f a b)
+    ∙ ap₂ (fare (clear f b a)) (apart-comm (column f a) (column f b)) (apart-comm (row f a) (row f b))
+
+pub price-clear : (f : Floor) (a b : ℕ) → 1 ≤ price f a b → T (clear f a b)
+unfolding price
+price-clear f a b = fare-clear (clear f a b) (apart (column f a) (column f b)) (apart (row f a) (row f b))
 
 pub price-free : (f : Floor) (a b : ℕ) → 1 ≤ price f a b → T (free f a)
-unfolding price
-price-free f a b = fare-free (free f a) (free f b) (apart (column f a) (column f b)) (apart (row f a) (row f b))
+price-free f a b h = clear-free f a b (price-clear f a b h)
 
 -- the goals are those cells of the list that are on the floor
 abbrev pub isGoal : Floor → List ℕ → ℕ → Bool

@@ -10,7 +10,8 @@ use borrow.Author.Tests.{lt-ltb, eq-eqb, eqb-true}
 use lib.Dec.{eqb, ltb}
 use lib.ListN.{getD}
 use Rattle.model.specs.Basics.{choose}
-use Rattle.model.specs.Floor.{Floor, Sized, size, column, row, free, price, ahead, allowed, east, south}
+use Rattle.model.specs.Floor.{Floor, Sized, size, column, row, free, clear, price, ahead, allowed, east, south}
+use Rattle.model.specs.Grounds.{clear-true}
 use Rattle.model.proofs.Cells.{cells-le, row-lt}
 use Rattle.model.proofs.Moves.{east-le, south-le, toll, Inside, both, free-lt, both-of, ahead-lt, allowed-inside, allowed-free, allowed-true, price-ahead}
 use Rattle.floor.specs.declared.Step.the-variants.{To, Wall}
@@ -30,13 +31,11 @@ wall f x m n = go (allowed f x m) n
     go true n = absurd (n refl)
     go false n = refl
 
-to : (f : Floor) → Sized f → (x m d : ℕ) → m < 8 → free f x ≡ true → Inside f x m → ahead f x m ≡ d → free f d ≡ true → To d (toll m) ≡ stepOf f x m
+to : (f : Floor) → Sized f → (x m d : ℕ) → m < 8 → Inside f x m → ahead f x m ≡ d → clear f x d ≡ true → To d (toll m) ≡ stepOf f x m
 unfolding stepOf
-to f z x m d l p i e q =
-    let o : free f (ahead f x m) ≡ true = ap (free f) e ∙ q in
-    sym
-    (ap (λ t. choose t (To (ahead f x m) (price f x (ahead f x m))) Wall) (allowed-true f z x m l p i o)
-    ∙ ap₂ To e (price-ahead f z x m l p i o))
+to f z x m d l i e q =
+    let o : clear f x (ahead f x m) ≡ true = ap (clear f x) e ∙ q in
+    sym (ap (λ t. choose t (To (ahead f x m) (price f x (ahead f x m))) Wall) (allowed-true f z x m l i o) ∙ ap₂ To e (price-ahead f z x m l i o))
 
 -- the byte of a free cell
 byte-free : (f : Floor) (x : ℕ) → free f x ≡ true → getD (f .bytes) x 0 ≡ 0
@@ -146,8 +145,8 @@ array-read-t26 c = search needs
 returns-6 : tie.Need-returns-6
 returns-6 c =
     let a = c .before .before .before .before .before .before in
-    to (floorAt a) (a .pre .0) (a .args .cell) (a .args .m) (cellOf a) (a .pre .1 .1) (a .pre .1 .0 .free) (inner (c .before .before)) (ahead-is a)
-    (free-byte (floorAt a) (cellOf a) (cell-lt (c .before .before)) (c .if5 .left))
+    to (floorAt a) (a .pre .0) (a .args .cell) (a .args .m) (cellOf a) (a .pre .1 .1) (inner (c .before .before)) (ahead-is a)
+    (clear-true (floorAt a) (a .args .cell) (cellOf a) (a .pre .1 .0 .free) (free-byte (floorAt a) (cellOf a) (cell-lt (c .before .before)) (c .if5 .left)))
 
 pub step-from-spec : {M : Type 1} → statement M
 step-from-spec =
