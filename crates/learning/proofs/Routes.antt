@@ -107,7 +107,7 @@ module _ (G : Ground) (d s : ℕ) (deep : 1 ≤ d) (floor : s < G .cells) (g : �
   unfolding routeIn legOf
   route-chain x l = from-chain (suc (legOf G d s x)) (eqb x s) x refl (omega arith) l
 
-  -- the route to s is empty; to any other cell it is the route to the cell before it, and then the cell
+  -- more fuel than the cost changes nothing
   enough : (n m : ℕ) (b : Bool) (x : ℕ) → eqb x s ≡ b → legOf G d s x < n → legOf G d s x < m → ringOf G d s x ≤ lastOf G d s
       → routeFrom G d s (viewOf G d s) n b x ≡ routeFrom G d s (viewOf G d s) m b x
   unfolding routeFrom prior prior-before
@@ -117,24 +117,6 @@ module _ (G : Ground) (d s : ℕ) (deep : 1 ≤ d) (floor : s < G .cells) (g : �
   enough (suc n) (suc m) false x e h k l =
       let y = prior-before x l (λ q. subst T e (eqb-of x s q)) in
       ap (λ xs. xs ++ x ∷ []) (enough n m (eqb (prior x) s) (prior x) refl (omega (arith, y .exact, y .edge .0)) (omega (arith, y .exact, y .edge .0)) (y .near))
-
-  pub route-self : routeOf G d s s ≡ []
-  unfolding routeIn routeFrom legOf
-  route-self = by (eqb s s) (eqb-refl s)
-    where
-      by : (b : Bool) → T b → routeFrom G d s (viewOf G d s) (suc (legOf G d s s)) b s ≡ []
-      by true t = refl
-      by false t = absurd t
-
-  pub route-back : (x : ℕ) → ringOf G d s x ≤ lastOf G d s → x ≢ s → routeOf G d s x ≡ routeOf G d s (priorIn G d s (viewOf G d s) x) ++ x ∷ []
-  unfolding routeIn routeFrom prior prior-before legOf
-  route-back x l o = by (eqb x s) refl
-    where
-      by : (b : Bool) → eqb x s ≡ b → routeFrom G d s (viewOf G d s) (suc (legOf G d s x)) b x ≡ routeOf G d s (prior x) ++ x ∷ []
-      by true e = absurd (o (eqb→eq x s (subst T (sym e) tt)))
-      by false e =
-          let y = prior-before x l o in
-          ap (λ xs. xs ++ x ∷ []) (enough (legOf G d s x) (suc (legOf G d s (prior x))) (eqb (prior x) s) (prior x) refl (omega (arith, y .exact, y .edge .0)) (omega arith) (y .near))
 
   -- its number of moves
   pub route-short : (x : ℕ) → ringOf G d s x ≤ lastOf G d s → length (routeOf G d s x) * G .least ≤ G .dearest * d
@@ -163,19 +145,7 @@ module _ (G : Ground) (d s : ℕ) (deep : 1 ≤ d) (floor : s < G .cells) (g : �
       (low b (leb→le (ringOf G d s b) (lastOf G d s) (first-true (near b) (priced x b && exact x b) k)) (leb→le 1 (G .price b x) (first-true (priced x b) (exact x b) u))
       (eqb→eq (legOf G d s b + G .price b x) (legOf G d s x) (second-true (priced x b) (exact x b) u)))
 
-  -- more fuel than the cost changes nothing
-  fuel-free : (fuel fuel′ : ℕ) (b : Bool) (x : ℕ) → eqb x s ≡ b → legOf G d s x < fuel → legOf G d s x < fuel′ → ringOf G d s x ≤ lastOf G d s
-      → routeFrom G d s (viewOf G d s) fuel b x ≡ routeFrom G d s (viewOf G d s) fuel′ b x
-  unfolding routeFrom prior prior-before
-  fuel-free zero fuel′ b x e h h′ l = absurd (omega arith)
-  fuel-free (suc fuel) zero b x e h h′ l = absurd (omega arith)
-  fuel-free (suc fuel) (suc fuel′) true x e h h′ l = refl
-  fuel-free (suc fuel) (suc fuel′) false x e h h′ l =
-      let y = prior-before x l (λ q. subst T e (eqb-of x s q)) in
-      ap (λ xs. xs ++ x ∷ [])
-      (fuel-free fuel fuel′ (eqb (prior x) s) (prior x) refl (omega (arith, y .exact, y .edge .0)) (omega (arith, y .exact, y .edge .0)) (y .near))
-
-  -- the route to s, and to any other cell of the window by the cell before it
+  -- the route to s is empty; to any other cell of the window it is the route to the cell before it, and then the cell
   pub route-none : routeOf G d s s ≡ []
   unfolding routeIn routeFrom
   route-none = go (eqb s s) (eqb-refl s)
@@ -193,5 +163,5 @@ module _ (G : Ground) (d s : ℕ) (deep : 1 ≤ d) (floor : s < G .cells) (g : �
       go false q =
           let z = prior-before x l o in
           ap (λ xs. xs ++ x ∷ [])
-          (fuel-free (legOf G d s x) (suc (legOf G d s (prior x))) (eqb (prior x) s) (prior x) refl (omega (arith, z .exact, z .edge .0)) (omega arith) (z .near)
+          (enough (legOf G d s x) (suc (legOf G d s (prior x))) (eqb (prior x) s) (prior x) refl (omega (arith, z .exact, z .edge .0)) (omega arith) (z .near)
           ∙ ap (λ b. routeOf G d s b) e)
