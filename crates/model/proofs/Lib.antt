@@ -6,10 +6,9 @@ pub mod Parts
 -- What each check says and gives; the path that a decision is handed; an accepted job; 6 and 7 by walks.
 pub mod Accepted
 pub mod Held
+pub mod Soundness
 pub mod Openings
 pub mod Refusals
-pub mod Soundness
-pub mod Figures
 pub mod OpeningSound
 -- The lookahead: empty rings; what the definitions mean, in document 01's words.
 pub mod Rings

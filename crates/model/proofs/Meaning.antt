@@ -30,7 +30,7 @@ use Rattle.model.specs.Opening.{distances, reaches}
 use Rattle.model.specs.Decision.{atGoal}
 use Rattle.model.proofs.Moves.{toll, price-move, price-ahead, allowed-inside, allowed-free, is-true}
 use Rattle.model.proofs.Held.{or-false}
-use Rattle.model.proofs.Openings.{reaches-of, reaches-means}
+use Rattle.model.proofs.Soundness.{reaches-of, reaches-means}
 use Rattle.model.proofs.Rings.{Bare, empty-none, empty-some, empty-full, empty-of}
 use Rattle.model.specs.Grounds.{price-free, groundOf}
 
