@@ -58,7 +58,7 @@ pub fn trials(trials: u64) -> Result<(), Refusal> {
 }
 
 /// 3 for the calls that take q alone.
-pub fn q_alone(q: u64) -> Result<(), Refusal> {
+fn q_alone(q: u64) -> Result<(), Refusal> {
     if (1..=MOST_Q).contains(&q) {
         Ok(())
     } else {
@@ -73,6 +73,20 @@ pub fn free_cell(floor: &[u8], cell: u64) -> Result<usize, Refusal> {
         Some(0) => Ok(index),
         _ => Err(Refusal::plain(4)),
     }
+}
+
+/// 1, 3 and 4 as the table calls judge them. Answers the goal's cell.
+pub fn table_job(
+    width: u64,
+    height: u64,
+    goal: u64,
+    q: u64,
+    floor: &[u8],
+    table: &[u32],
+) -> Result<usize, Refusal> {
+    sizes(width, height, floor, table)?;
+    q_alone(q)?;
+    free_cell(floor, goal)
 }
 
 /// 5: no figure is above the ceiling.

@@ -32,10 +32,7 @@ pub fn decide(
     moves: &mut [u8],
     from: u64,
 ) -> Answer {
-    match judge_and_decide(job, state, table, path, moves, from) {
-        Ok(answer) => answer,
-        Err(refusal) => Answer::Refused(refusal),
-    }
+    judge_and_decide(job, state, table, path, moves, from).unwrap_or_else(Answer::Refused)
 }
 
 fn judge_and_decide(

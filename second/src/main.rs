@@ -2,9 +2,10 @@
 
 use second::compare::{compare, Plan};
 use second::make::floors::KINDS;
+use second::make::jobs::Kit;
 use second::make::{self, Program};
 use second::promises;
-use second::timing::{time_aisle, Bench};
+use second::timing::time_aisle;
 use std::io::{Read, Write};
 use std::process::ExitCode;
 
@@ -105,11 +106,11 @@ fn check_promises(words: &[&str]) -> Option<bool> {
     Some(true)
 }
 
-/// A bench by the words KIND WIDTH HEIGHT SEED.
-fn bench(kind: &str, width: &str, height: &str, seed: &str) -> Option<Bench> {
+/// A job to time, by the words KIND WIDTH HEIGHT SEED.
+fn bench(kind: &str, width: &str, height: &str, seed: &str) -> Option<Kit> {
     let kind = KINDS.iter().find(|(name, _)| *name == kind)?.1;
     let side = |word: &str| word.parse().ok().filter(|side| (1..=64).contains(side));
-    Bench::new(kind, side(width)?, side(height)?, seed.parse().ok()?)
+    Kit::timed(kind, side(width)?, side(height)?, seed.parse().ok()?)
 }
 
 fn time_run(words: &[&str]) -> Option<bool> {

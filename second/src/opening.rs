@@ -30,9 +30,7 @@ pub fn opening_table(
     floor: &[u8],
     table: &mut [u32],
 ) -> Result<(), Refusal> {
-    checks::sizes(width, height, floor, table)?;
-    checks::q_alone(q)?;
-    let goal = checks::free_cell(floor, goal)?;
+    let goal = checks::table_job(width, height, goal, q, floor, table)?;
     fill(width as usize, goal, q as u32, table);
     Ok(())
 }

@@ -67,9 +67,7 @@ pub fn read(
     file: &[u8],
     table: &mut [u32],
 ) -> Result<(), Refusal> {
-    checks::sizes(width, height, floor, table)?;
-    checks::q_alone(q)?;
-    let goal = checks::free_cell(floor, goal)?;
+    let goal = checks::table_job(width, height, goal, q, floor, table)?;
     let (width, q) = (width as usize, q as u32);
     let trailer = trailer(file)?;
     let same_sizes = usize::from(trailer.width) == width && u64::from(trailer.height) == height;
@@ -106,9 +104,7 @@ pub fn write(
     table: &[u32],
     file: &mut [u8],
 ) -> Result<usize, Refusal> {
-    checks::sizes(width, height, floor, table)?;
-    checks::q_alone(q)?;
-    let goal = checks::free_cell(floor, goal)?;
+    let goal = checks::table_job(width, height, goal, q, floor, table)?;
     checks::ceiling(table)?;
     let opening = |cell: usize| opening_figure(width as usize, cell, goal, q as u32);
     let mut count = 0usize;

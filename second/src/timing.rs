@@ -1,10 +1,10 @@
 //! Timing for the benches: decisions per second of this program's `run` and `aisle`, and the time of an opening.
 
 use crate::aisle;
-use crate::checks::Job;
 use crate::floor::Floor;
 use crate::make::dice::Dice;
 use crate::make::floors::{self, Kind};
+use crate::make::jobs::Kit;
 use crate::make::texts;
 use crate::opening::{self, distances, NO_WAY};
 use crate::trial::{self, Counts};
@@ -13,22 +13,9 @@ use std::time::{Duration, Instant};
 /// A job is repeated for at least this long, so that short ones are measured too.
 const LEAST: Duration = Duration::from_millis(1_000);
 
-pub struct Bench {
-    pub width: usize,
-    pub height: usize,
-    pub floor: Vec<u8>,
-    pub start: usize,
-    pub goal: usize,
-    pub depth: u64,
-    pub p: u64,
-    pub q: u64,
-    pub quota: u64,
-    pub trials: u64,
-}
-
-impl Bench {
+impl Kit {
     /// A floor of a kind by seed, with the goal in its larger part and the start as far away as can be.
-    pub fn new(kind: Kind, width: usize, height: usize, seed: u64) -> Option<Bench> {
+    pub fn timed(kind: Kind, width: usize, height: usize, seed: u64) -> Option<Kit> {
         let mut dice = Dice::new(seed);
         let floor = floors::floor(kind, width, height, &mut dice);
         let free: Vec<usize> = (0..floor.len()).filter(|&cell| floor[cell] == 0).collect();
@@ -42,7 +29,7 @@ impl Bench {
             let reached = free.iter().filter(|&&cell| distance[cell] != NO_WAY);
             let start = reached.clone().copied().max_by_key(|&cell| distance[cell])?;
             if reached.count() * 2 >= free.len() {
-                return Some(Bench {
+                return Some(Kit {
                     width,
                     height,
                     floor,
@@ -53,34 +40,17 @@ impl Bench {
                     q: 1,
                     quota: 1_000_000,
                     trials: 10,
+                    distance,
+                    table: Vec::new(),
                 });
             }
         }
         None
     }
 
-    fn job(&self) -> Job<'_> {
-        Job {
-            width: self.width as u64,
-            height: self.height as u64,
-            goal: self.goal as u64,
-            depth: self.depth,
-            p: self.p,
-            q: self.q,
-            quota: self.quota,
-            floor: &self.floor,
-        }
-    }
-
-    fn opening_table(&self) -> Vec<u32> {
-        let mut table = vec![0; self.floor.len()];
-        opening::fill(self.width, self.goal, self.q as u32, &mut table);
-        table
-    }
-
     /// The job as an input of `aisle`, so that another program can be timed on it.
     pub fn as_aisle(&self) -> Vec<u8> {
-        let Bench { start, goal, depth, p, q, quota, trials, .. } = self;
+        let Kit { start, goal, depth, p, q, quota, trials, .. } = self;
         let mut input = format!("{start} {goal} {depth} {p} {q} {quota} {trials}\n").into_bytes();
         input.extend(texts::text(&self.floor, self.width, self.height, &mut Dice::new(0)));
         input
@@ -88,7 +58,7 @@ impl Bench {
 
     /// The job as a run for `calls`.
     pub fn as_calls(&self) -> String {
-        let Bench { width, height, start, goal, depth, p, q, quota, trials, .. } = self;
+        let Kit { width, height, start, goal, depth, p, q, quota, trials, .. } = self;
         let cells = self.floor.len();
         let mut words =
             vec![format!("4 {width} {height} {start} {goal} {depth} {p} {q} {quota} {trials} {cells}")];

@@ -22,7 +22,8 @@ use Rattle.model.specs.Lookahead.{seen, ring, w, emptyRing, target}
 use Rattle.model.specs.Decision.{Deed, Outcome, atGoal, judge, refused, unchanged, rise, stored, forward, backOut, stay, goBack, learn, act, outcomeOf, decide, laid}
 use Rattle.model.proofs.Accepted.{never}
 use Rattle.model.proofs.Held.{sized-cells, free-below, free-place, at-goal}
-use Rattle.model.proofs.Deeds.{act-arrived, act-blind, act-learns, learn-over, learn-forward, learn-back, back-stays, back-lost, back-goes, full, near-below, decide-refused, decide-acts}
+use Rattle.model.proofs.Meaning.{window-inside, nine-not}
+use Rattle.model.proofs.Cases.{act-arrived, act-blind, act-learns, learn-over, learn-forward, learn-back, back-stays, back-lost, back-goes, decide-refused, decide-acts}
 use Rattle.lookahead.specs.declared.Ahead.{Ahead}
 use Rattle.lookahead.specs.declared.Around.{Around}
 use Rattle.lookahead.specs.declared.Around.the-variants as R
@@ -80,8 +81,12 @@ module _ {j : Job} {bytes : List ℕ} {s : State} {table path : List ℕ} {moves
   pub quota-low : j .q * j .quota ≤ 16000000
   quota-low = mul-le-mul (r .settings .fine) (r .settings .within)
 
+-- such a cell is not at the goal
+aside : {j : Job} {bytes : List ℕ} {s : ℕ} → Asked j bytes s → atGoal j bytes s ≡ false
+aside {j} {bytes} {s} a = at-goal j bytes s (a .start) ∙ ne-eqb s (j .goal) (a .apart)
+
 pub near-place : {j : Job} {bytes : List ℕ} {s x : ℕ} → Asked j bytes s → Near j bytes s x → x < 4096
-near-place {j} {bytes} {s} {x} a h = omega (arith, near-below j bytes s (a .shallow) (a .start) (a .apart) x h, sized-cells (a .sized))
+near-place {j} {bytes} {s} {x} a h = omega (arith, window-inside j bytes s (a .shallow) (free-below (floorOf j bytes) s (a .start)) (aside a) x h, sized-cells (a .sized))
 
 pub aimed-near : {j : Job} {bytes : List ℕ} {s : ℕ} {table : List ℕ} {a : Ahead} → Aimed j bytes s table a → Near j bytes s (a .target)
 aimed-near a = omega (arith, a .on-last)
@@ -92,7 +97,7 @@ pub lost : {j : Job} {bytes : List ℕ} {l : ℕ} (x : ℕ) → Asked j bytes l 
 lost {j} {bytes} {l} x a e = by (eqb (ring j bytes (seen j bytes l) x) (seen j bytes l .last)) refl
   where
     by : (b : Bool) → eqb (ring j bytes (seen j bytes l) x) (seen j bytes l .last) ≡ b → b ≡ false
-    by true q = absurd (never e (full j bytes l (a .shallow) (a .start) (a .apart) x (eqb-true _ _ q)))
+    by true q = absurd (never e (nine-not j bytes l (a .shallow) (free-below (floorOf j bytes) l (a .start)) (aside a) x (eqb-true _ _ q)))
     by false q = refl
 
 pub last-near : (j : Job) (bytes : List ℕ) (s x : ℕ) → eqb (ring j bytes (seen j bytes s) x) (seen j bytes s .last) ≡ true → Near j bytes s x
@@ -216,15 +221,12 @@ module _ (j : Job) (bytes : List ℕ) (s : State) (table path : List ℕ) where
   act-here h e = act-arrived j bytes s table path (at-goal j bytes (s .current) h ∙ eq-eqb (s .current) (j .goal) e)
 
   module _ (a : Asked j bytes (s .current)) where
-    away : atGoal j bytes (s .current) ≡ false
-    away = at-goal j bytes (s .current) (a .start) ∙ ne-eqb (s .current) (j .goal) (a .apart)
-
     pub act-empty : emptyRing j bytes (seen j bytes (s .current)) (seen j bytes (s .current) .last) ≡ true → act j bytes s table path ≡ refused s table path 9
-    act-empty e = act-blind j bytes s table path away e
+    act-empty e = act-blind j bytes s table path (aside a) e
 
     pub act-full : {base n last : ℕ} {mark cost list : List ℕ} → Window j bytes (s .current) base mark cost list n last → act j bytes s table path ≡ learns j bytes s table path
     unfolding learns
-    act-full h = act-learns j bytes s table path away (subst (λ k. emptyRing j bytes (seen j bytes (s .current)) k ≡ false) (h .last-is) (h .full))
+    act-full h = act-learns j bytes s table path (aside a) (subst (λ k. emptyRing j bytes (seen j bytes (s .current)) k ≡ false) (h .last-is) (h .full))
 
   module _ (a : Ahead) (aimed : Aimed j bytes (s .current) table a) (old : ℕ) (at : old ≡ getD table (s .current) 0) where
     learns-as : learns j bytes s table path ≡ learn j bytes s (seen j bytes (s .current)) table path (a .figure) (a .target)
@@ -235,18 +237,18 @@ module _ (j : Job) (bytes : List ℕ) (s : State) (table path : List ℕ) where
     over e = ap (λ x. ltb x (a .figure) && ltb ceiling (a .figure)) (sym at) ∙ e
 
     pub learns-over : (ltb old (a .figure) && ltb ceiling (a .figure)) ≡ true → learns j bytes s table path ≡ refused s table path 10
-    learns-over e = learns-as ∙ learn-over j bytes s table path (a .figure) _ _ (over e)
+    learns-over e = learns-as ∙ learn-over j bytes s table path _ (a .figure) _ (over e)
 
     module _ (low : (ltb old (a .figure) && ltb ceiling (a .figure)) ≡ false) (u : ℕ) (risen : u ≡ rise table (s .current) (a .figure)) where
       pub learns-forward : s .learned + u ≤ j .q * j .quota → learns j bytes s table path ≡ forward j bytes s (seen j bytes (s .current)) table path (a .figure) (a .target)
       learns-forward h =
           let within : s .learned + rise table (s .current) (a .figure) ≤ j .q * j .quota = omega arith in
-          learns-as ∙ learn-forward j bytes s table path (a .figure) _ _ (over low) (le-leb _ _ within)
+          learns-as ∙ learn-forward j bytes s table path _ (a .figure) _ (over low) (le-leb _ _ within)
 
       pub learns-back : j .q * j .quota < s .learned + u → learns j bytes s table path ≡ goBack j bytes s table path (a .figure)
       learns-back h =
           let past : j .q * j .quota < s .learned + rise table (s .current) (a .figure) = omega arith in
-          learns-as ∙ learn-back j bytes s table path (a .figure) _ _ (over low) (lt-leb _ _ past)
+          learns-as ∙ learn-back j bytes s table path _ (a .figure) _ (over low) (lt-leb _ _ past)
 
 -- ---- the public call
 

@@ -34,11 +34,14 @@ eqb-of a b e = subst (λ c. T (eqb a c)) e (eqb-refl a)
 pub lowest-low : (n : ℕ) (test : ℕ → Bool) (x : ℕ) → x < n → T (test x) → lowest n test ≤ x
 lowest-low n test x h t = omega (arith, over-low n n (λ y. pick (test y) y n) x h, pick-true (test x) x n t)
 
-pub lowest-met : (n : ℕ) (test : ℕ → Bool) (x : ℕ) → x < n → T (test x) → T (test (lowest n test))
-lowest-met n test x h t =
-    let (i, l, e) = over-met n n (λ y. pick (test y) y n) (omega (arith, lowest-low n test x h t)) in
-    let (u, f) = pick-first (test i) i n (omega (arith, e, lowest-low n test x h t)) in
+pub lowest-some : (n : ℕ) (test : ℕ → Bool) → lowest n test < n → T (test (lowest n test))
+lowest-some n test h =
+    let (i, l, e) = over-met n n (λ y. pick (test y) y n) h in
+    let (u, f) = pick-first (test i) i n (omega (arith, e, h)) in
     subst (λ y. T (test y)) (sym (e ∙ f)) u
+
+pub lowest-met : (n : ℕ) (test : ℕ → Bool) (x : ℕ) → x < n → T (test x) → T (test (lowest n test))
+lowest-met n test x h t = lowest-some n test (omega (arith, lowest-low n test x h t))
 
 module _ (n p m : ℕ) (ring cost fig : ℕ → ℕ) (inside : (x : ℕ) → ring x ≤ m → x < n) (met : (k : ℕ) → k ≤ m → (x : ℕ) × (ring x ≡ k)) where
   best-low : (k x : ℕ) → k ≤ m → ring x ≡ k → bestOn n p ring cost fig k ≤ p * cost x + fig x

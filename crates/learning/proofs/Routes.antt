@@ -4,15 +4,15 @@ use mathlib.Core.Path.{_≡_, refl, sym, ap, _∙_, subst}
 use mathlib.Core.Bool.{Bool, true, false, _&&_}
 use mathlib.Core.Logic.{_≢_}
 use mathlib.Core.List.{List, [], _∷_, _++_}
-use native.Mathlib.Nat.{le-trans, le-antisymm, mul-le-mul-left}
+use native.Mathlib.Nat.{le-trans, mul-le-mul-left}
 use native.Mathlib.Omega.{arith}
 use lib.Dec.{T, eqb, leb, eqb→eq, eqb-refl, leb→le, le→leb}
 use lib.ListN.{length}
 use Rattle.learning.specs.Walk.{Network, Walk, stop, move, Least}
 use Rattle.learning.specs.Ahead.{Window}
 use Rattle.learning.specs.Ground.{Ground, Goal, netOf, viewOf, costIn, ringOf, lastOf, legOf}
-use Rattle.learning.specs.Look.{lowest}
 use Rattle.learning.specs.Route.{Chain, ended, step, priorIn, routeFrom, routeIn, routeOf}
+use Rattle.learning.proofs.Walks.{least-unique}
 use Rattle.learning.proofs.Sound.{ring-self}
 use Rattle.learning.proofs.Spread.{both-true, first-true, second-true}
 use Rattle.learning.proofs.Ground.{window}
@@ -36,7 +36,10 @@ module _ (G : Ground) (d s : ℕ) (deep : 1 ≤ d) (floor : s < G .cells) (g : �
   prior : ℕ → ℕ
   prior x = priorIn G d s (viewOf G d s) x
 
-  -- the three tests that the cell before x passes
+  -- one move from b, a cell of the window, gives exactly the cost of x; and the test of it
+  abbrev Gives : ℕ → ℕ → Type 0
+  Gives x b = (ringOf G d s b ≤ lastOf G d s) × (1 ≤ G .price b x) × (legOf G d s b + G .price b x ≡ legOf G d s x)
+
   abbrev near : ℕ → Bool
   near b = leb (ringOf G d s b) (lastOf G d s)
 
@@ -46,42 +49,39 @@ module _ (G : Ground) (d s : ℕ) (deep : 1 ≤ d) (floor : s < G .cells) (g : �
   abbrev exact : ℕ → ℕ → Bool
   exact x b = eqb (legOf G d s b + G .price b x) (legOf G d s x)
 
-  prior-met : (x : ℕ) → ringOf G d s x ≤ lastOf G d s → x ≢ s → T (near (prior x) && (priced x (prior x) && exact x (prior x)))
+  abbrev gives : ℕ → ℕ → Bool
+  gives x b = near b && (priced x b && exact x b)
+
+  gives-of : (x b : ℕ) → Gives x b → T (gives x b)
+  gives-of x b (n, c, e) = both-true (near b) _ (le→leb _ _ n) (both-true (priced x b) _ (le→leb 1 _ c) (eqb-of _ _ e))
+
+  gives-means : (x b : ℕ) → T (gives x b) → Gives x b
+  gives-means x b t =
+      let u = second-true (near b) _ t in
+      (leb→le _ _ (first-true (near b) _ t), leb→le 1 _ (first-true (priced x b) _ u), eqb→eq _ _ (second-true (priced x b) _ u))
+
+  -- where there is such a cell, the cell before x is the lowest
+  lowest-gives : (x y : ℕ) → Gives x y → Least (Gives x) (prior x)
   unfolding prior priorIn ringOf lastOf legOf
-  prior-met x h o =
-      let y = some-before W x h o in
-      let b = y .at in
-      let e = y .edge in
-      lowest-met (G .cells) (λ v. near v && (priced x v && exact x v)) b (G .inside b x (omega (arith, e .0, e .1)))
-      (both-true (near b) (priced x b && exact x b) (le→leb (ringOf G d s b) (lastOf G d s) (y .near))
-      (both-true (priced x b) (exact x b) (le→leb 1 (G .price b x) (omega (arith, e .0, e .1))) (eqb-of (legOf G d s b + G .price b x) (legOf G d s x) (omega (arith, y .exact, e .1)))))
+  lowest-gives x y o = record {
+    met = gives-means x (prior x) (lowest-met (G .cells) (gives x) y (G .inside y x (o .1)) (gives-of x y o));
+    low = λ b h. lowest-low (G .cells) (gives x) b (G .inside b x (h .1)) (gives-of x b h);
+  }
 
-  -- the cell before x
-  pub prior-before : (x : ℕ) → ringOf G d s x ≤ lastOf G d s → x ≢ s → Before (netOf G) (lastOf G d s) (ringOf G d s) (legOf G d s) x
-  prior-before x h o =
-      let b = prior x in
-      let t = prior-met x h o in
-      let u = second-true (near b) (priced x b && exact x b) t in
-      record {
-        at = b;
-        price = G .price b x;
-        near = leb→le (ringOf G d s b) (lastOf G d s) (first-true (near b) (priced x b && exact x b) t);
-        edge = (leb→le 1 (G .price b x) (first-true (priced x b) (exact x b) u), refl);
-        exact = eqb→eq (legOf G d s b + G .price b x) (legOf G d s x) (second-true (priced x b) (exact x b) u);
-      }
-
-  -- it is the lowest from which one move gives exactly the cost of x
   pub prior-least : (x : ℕ) → ringOf G d s x ≤ lastOf G d s → x ≢ s
       → Least (λ b. (ringOf G d s b ≤ lastOf G d s) × (1 ≤ G .price b x) × (legOf G d s b + G .price b x ≡ legOf G d s x)) (priorIn G d s (viewOf G d s) x)
-  unfolding prior prior-before priorIn ringOf lastOf legOf
-  prior-least x h o =
-      let y = prior-before x h o in
-      record {
-        met = (y .near, y .edge .0, y .exact);
-        low = λ b (n, c, e). lowest-low (G .cells) (λ v. near v && (priced x v && exact x v)) b (G .inside b x c)
-            (both-true (near b) (priced x b && exact x b) (le→leb (ringOf G d s b) (lastOf G d s) n)
-            (both-true (priced x b) (exact x b) (le→leb 1 (G .price b x) c) (eqb-of (legOf G d s b + G .price b x) (legOf G d s x) e)));
-      }
+  unfolding prior
+  prior-least x h o = let y = some-before W x h o in lowest-gives x (y .at) (y .near, omega (arith, y .edge .0, y .edge .1), omega (arith, y .exact, y .edge .1))
+
+  pub prior-is : (x y : ℕ) → ringOf G d s y ≤ lastOf G d s → 1 ≤ G .price y x → legOf G d s y + G .price y x ≡ legOf G d s x
+      → ((b : ℕ) → ringOf G d s b ≤ lastOf G d s → 1 ≤ G .price b x → legOf G d s b + G .price b x ≡ legOf G d s x → y ≤ b)
+      → priorIn G d s (viewOf G d s) x ≡ y
+  unfolding prior
+  prior-is x y h p e low = least-unique (lowest-gives x y (h, p, e)) (record { met = (h, p, e); low = λ b (n, c, f). low b n c f })
+
+  pub prior-before : (x : ℕ) → ringOf G d s x ≤ lastOf G d s → x ≢ s → Before (netOf G) (lastOf G d s) (ringOf G d s) (legOf G d s) x
+  unfolding prior
+  prior-before x h o = let (n, c, e) = prior-least x h o .met in record { at = prior x; price = G .price (prior x) x; near = n; edge = (c, refl); exact = e }
 
   self-near : ringOf G d s s ≤ lastOf G d s
   self-near = omega (arith, ring-self W)
@@ -107,7 +107,7 @@ module _ (G : Ground) (d s : ℕ) (deep : 1 ≤ d) (floor : s < G .cells) (g : �
   unfolding routeIn legOf
   route-chain x l = from-chain (suc (legOf G d s x)) (eqb x s) x refl (omega arith) l
 
-  -- the route to s is empty; to any other cell it is the route to the cell before it, and then the cell
+  -- more fuel than the cost changes nothing
   enough : (n m : ℕ) (b : Bool) (x : ℕ) → eqb x s ≡ b → legOf G d s x < n → legOf G d s x < m → ringOf G d s x ≤ lastOf G d s
       → routeFrom G d s (viewOf G d s) n b x ≡ routeFrom G d s (viewOf G d s) m b x
   unfolding routeFrom prior prior-before
@@ -118,24 +118,6 @@ module _ (G : Ground) (d s : ℕ) (deep : 1 ≤ d) (floor : s < G .cells) (g : �
       let y = prior-before x l (λ q. subst T e (eqb-of x s q)) in
       ap (λ xs. xs ++ x ∷ []) (enough n m (eqb (prior x) s) (prior x) refl (omega (arith, y .exact, y .edge .0)) (omega (arith, y .exact, y .edge .0)) (y .near))
 
-  pub route-self : routeOf G d s s ≡ []
-  unfolding routeIn routeFrom legOf
-  route-self = by (eqb s s) (eqb-refl s)
-    where
-      by : (b : Bool) → T b → routeFrom G d s (viewOf G d s) (suc (legOf G d s s)) b s ≡ []
-      by true t = refl
-      by false t = absurd t
-
-  pub route-back : (x : ℕ) → ringOf G d s x ≤ lastOf G d s → x ≢ s → routeOf G d s x ≡ routeOf G d s (priorIn G d s (viewOf G d s) x) ++ x ∷ []
-  unfolding routeIn routeFrom prior prior-before legOf
-  route-back x l o = by (eqb x s) refl
-    where
-      by : (b : Bool) → eqb x s ≡ b → routeFrom G d s (viewOf G d s) (suc (legOf G d s x)) b x ≡ routeOf G d s (prior x) ++ x ∷ []
-      by true e = absurd (o (eqb→eq x s (subst T (sym e) tt)))
-      by false e =
-          let y = prior-before x l o in
-          ap (λ xs. xs ++ x ∷ []) (enough (legOf G d s x) (suc (legOf G d s (prior x))) (eqb (prior x) s) (prior x) refl (omega (arith, y .exact, y .edge .0)) (omega arith) (y .near))
-
   -- its number of moves
   pub route-short : (x : ℕ) → ringOf G d s x ≤ lastOf G d s → length (routeOf G d s x) * G .least ≤ G .dearest * d
   route-short x l =
@@ -145,37 +127,7 @@ module _ (G : Ground) (d s : ℕ) (deep : 1 ≤ d) (floor : s < G .cells) (g : �
         mul-le-mul-left (G .dearest) (le-trans l (W .depth)),
       )
 
-  -- the lowest such cell is the cell before x
-  pub prior-is : (x y : ℕ) → ringOf G d s y ≤ lastOf G d s → 1 ≤ G .price y x → legOf G d s y + G .price y x ≡ legOf G d s x
-      → ((b : ℕ) → ringOf G d s b ≤ lastOf G d s → 1 ≤ G .price b x → legOf G d s b + G .price b x ≡ legOf G d s x → y ≤ b)
-      → priorIn G d s (viewOf G d s) x ≡ y
-  unfolding priorIn ringOf lastOf legOf
-  prior-is x y h p e low =
-      let test : ℕ → Bool = λ b. near b && (priced x b && exact x b) in
-      let l : y < G .cells = G .inside y x p in
-      let t : T (test y) =
-      both-true (near y) (priced x y && exact x y) (le→leb (ringOf G d s y) (lastOf G d s) h)
-      (both-true (priced x y) (exact x y) (le→leb 1 (G .price y x) p) (eqb-of (legOf G d s y + G .price y x) (legOf G d s x) e)) in
-      let b = lowest (G .cells) test in
-      let k : T (test b) = lowest-met (G .cells) test y l t in
-      let u = second-true (near b) (priced x b && exact x b) k in
-      le-antisymm (lowest-low (G .cells) test y l t)
-      (low b (leb→le (ringOf G d s b) (lastOf G d s) (first-true (near b) (priced x b && exact x b) k)) (leb→le 1 (G .price b x) (first-true (priced x b) (exact x b) u))
-      (eqb→eq (legOf G d s b + G .price b x) (legOf G d s x) (second-true (priced x b) (exact x b) u)))
-
-  -- more fuel than the cost changes nothing
-  fuel-free : (fuel fuel′ : ℕ) (b : Bool) (x : ℕ) → eqb x s ≡ b → legOf G d s x < fuel → legOf G d s x < fuel′ → ringOf G d s x ≤ lastOf G d s
-      → routeFrom G d s (viewOf G d s) fuel b x ≡ routeFrom G d s (viewOf G d s) fuel′ b x
-  unfolding routeFrom prior prior-before
-  fuel-free zero fuel′ b x e h h′ l = absurd (omega arith)
-  fuel-free (suc fuel) zero b x e h h′ l = absurd (omega arith)
-  fuel-free (suc fuel) (suc fuel′) true x e h h′ l = refl
-  fuel-free (suc fuel) (suc fuel′) false x e h h′ l =
-      let y = prior-before x l (λ q. subst T e (eqb-of x s q)) in
-      ap (λ xs. xs ++ x ∷ [])
-      (fuel-free fuel fuel′ (eqb (prior x) s) (prior x) refl (omega (arith, y .exact, y .edge .0)) (omega (arith, y .exact, y .edge .0)) (y .near))
-
-  -- the route to s, and to any other cell of the window by the cell before it
+  -- the route to s is empty; to any other cell of the window it is the route to the cell before it, and then the cell
   pub route-none : routeOf G d s s ≡ []
   unfolding routeIn routeFrom
   route-none = go (eqb s s) (eqb-refl s)
@@ -193,5 +145,5 @@ module _ (G : Ground) (d s : ℕ) (deep : 1 ≤ d) (floor : s < G .cells) (g : �
       go false q =
           let z = prior-before x l o in
           ap (λ xs. xs ++ x ∷ [])
-          (fuel-free (legOf G d s x) (suc (legOf G d s (prior x))) (eqb (prior x) s) (prior x) refl (omega (arith, z .exact, z .edge .0)) (omega arith) (z .near)
+          (enough (legOf G d s x) (suc (legOf G d s (prior x))) (eqb (prior x) s) (prior x) refl (omega (arith, z .exact, z .edge .0)) (omega arith) (z .near)
           ∙ ap (λ b. routeOf G d s b) e)

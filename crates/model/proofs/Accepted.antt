@@ -1,17 +1,17 @@
 -- What each check says, for the code that makes it and for whoever was let through by it.
 -- A check judges a fact: it is done where the fact holds, and else refused by its number. A search that names the lowest cell has laws of its own.
 use Prim.Native.Nat.{ℕ, zero, suc, _≤_, _<_, min}
-use mathlib.Core.Path.{_≡_, refl, sym, ap, ap₂, _∙_}
+use mathlib.Core.Path.{_≡_, refl, sym, ap, ap₂, subst, _∙_}
 use mathlib.Core.Bool.{Bool, true, false, _&&_}
 use mathlib.Core.List.{List, [], _∷_}
 use native.Mathlib.Omega.{arith}
 use native.Mathlib.Decide.{decLe}
 use borrow.Author.Tests.{leb-true, ltb-true, eqb-true, ltb-false, le-leb, lt-ltb, le-ltb, eq-eqb}
-use lib.Dec.{leb, ltb, eqb}
+use lib.Dec.{T, leb, ltb, eqb}
 use lib.ListN.{length, getD}
 use Rattle.learning.specs.Ground.{pick, leastOver}
 use Rattle.learning.specs.Look.{lowest}
-use Rattle.learning.proofs.Spread.{over-low, over-met}
+use Rattle.learning.proofs.Look.{lowest-low, lowest-some}
 use Rattle.answers.specs.declared.Job.{Job}
 use Rattle.answers.specs.declared.Refusal.{Refusal}
 use Rattle.answers.specs.declared.Place.the-variants as P
@@ -21,7 +21,7 @@ use Rattle.model.specs.Basics.{choose, between, every, then, refuseAt, u
 use Rattle.model.specs.Floor.{Floor, size, Sized, free}
 use Rattle.model.specs.Checks.{ceiling, sizes, pathRoom, settings, scale, benches, places, figures}
 use Rattle.model.specs.Opening.{reportsRoom, trialsHold}
-use Rattle.model.proofs.Moves.{both, both-of}
+use Rattle.model.proofs.Moves.{is-true, both, both-of}
 
 -- ---- one check after another
 
@@ -153,23 +153,24 @@ NoneBelow fault x = (k : ℕ) → k < x → fault k ≡ false
 pub never : {b : Bool} → b ≡ true → b ≡ false → ⊥
 never e f = let z : _≡_ {A = ℕ} 0 1 = cc in omega arith
 
-module _ (n : ℕ) (fault : ℕ → Bool) where
-  lowest-low : (x : ℕ) → x < n → fault x ≡ true → lowest n fault ≤ x
-  lowest-low x h e = rw e at (over-low n n (λ y. pick (fault y) y n) x h)
+-- a test that can't pass fails
+pub fails : (b : Bool) → (b ≡ true → ⊥) → b ≡ false
+fails true h = absurd (h refl)
+fails false h = refl
 
-  pub lowest-met : lowest n fault < n → fault (lowest n fault) ≡ true
-  lowest-met h = let (i, l, e) = over-met n n (λ y. pick (fault y) y n) h in by i (fault i) refl e
-    where
-      by : (i : ℕ) (b : Bool) → fault i ≡ b → lowest n fault ≡ pick (fault i) i n → fault (lowest n fault) ≡ true
-      by i true q e = ap fault (rw q at e) ∙ q
-      by i false q e = absurd (omega (arith, rw q at e))
+module _ (n : ℕ) (fault : ℕ → Bool) where
+  low : (x : ℕ) → x < n → fault x ≡ true → lowest n fault ≤ x
+  low x h e = lowest-low n fault x h (subst T (sym e) tt)
+
+  met : lowest n fault < n → fault (lowest n fault) ≡ true
+  met h = is-true _ (lowest-some n fault h)
 
   lowest-is : (x : ℕ) → x < n → NoneBelow fault x → fault x ≡ true → lowest n fault ≡ x
   lowest-is x h none e = by (decLe x (lowest n fault))
     where
       by : Dec (x ≤ lowest n fault) → lowest n fault ≡ x
-      by (yes l) = omega (arith, lowest-low x h e)
-      by (no l) = absurd (never (lowest-met (omega arith)) (none (lowest n fault) (omega arith)))
+      by (yes l) = omega (arith, low x h e)
+      by (no l) = absurd (never (met (omega arith)) (none (lowest n fault) (omega arith)))
 
   pub naming-names : (number x : ℕ) → x < n → NoneBelow fault x → fault x ≡ true → naming n fault number ≡ refuseAt number (P.Cell x)
   unfolding naming
@@ -182,12 +183,12 @@ module _ (n : ℕ) (fault : ℕ → Bool) where
     where
       by : Dec (n ≤ lowest n fault) → choose (ltb (lowest n fault) n) (refuseAt number (P.Cell (lowest n fault))) Vd.Done ≡ Vd.Done
       by (yes l) = ap (λ b. choose b (refuseAt number (P.Cell (lowest n fault))) Vd.Done) (le-ltb (lowest n fault) n l)
-      by (no l) = absurd (never (lowest-met (omega arith)) (none (lowest n fault) (omega arith)))
+      by (no l) = absurd (never (met (omega arith)) (none (lowest n fault) (omega arith)))
 
   some-named : (number x : ℕ) → x < n → fault x ≡ true → naming n fault number ≡ refuseAt number (P.Cell (lowest n fault))
   unfolding naming
   some-named number x h e =
-      ap (λ b. choose b (refuseAt number (P.Cell (lowest n fault))) Vd.Done) (lt-ltb (lowest n fault) n (omega (arith, lowest-low x h e)))
+      ap (λ b. choose b (refuseAt number (P.Cell (lowest n fault))) Vd.Done) (lt-ltb (lowest n fault) n (omega (arith, low x h e)))
 
   pub naming-none : (number : ℕ) → naming n fault number ≡ Vd.Done → NoneBelow fault n
   naming-none number e k h = by (fault k) refl
@@ -209,11 +210,11 @@ naming-found n number fault e = by (ltb (lowest n fault) n) refl e
   where
     here : lowest n fault < n → Named n fault number (lowest n fault) (naming n fault number)
     here l =
-        let met = lowest-met n fault l in
-        record { inside = l; faulty = met; first = λ k h. below k h (fault k) refl; answer = some-named n fault number (lowest n fault) l met }
+        let found = met n fault l in
+        record { inside = l; faulty = found; first = λ k h. below k h (fault k) refl; answer = some-named n fault number (lowest n fault) l found }
       where
         below : (k : ℕ) → k < lowest n fault → (b : Bool) → fault k ≡ b → b ≡ false
-        below k h true q = absurd (omega (arith, lowest-low n fault k (omega arith) q))
+        below k h true q = absurd (omega (arith, low n fault k (omega arith) q))
         below k h false q = refl
 
     by : {r : Refusal} (b : Bool) → ltb (lowest n fault) n ≡ b → choose b (refuseAt number (P.Cell (lowest n fault))) Vd.Done ≡ Vd.Refused r

@@ -1,18 +1,20 @@
--- A decision past its checks, case by case: what each test leads to.
+-- A decision, case by case: what its checks and each test past them lead to.
 -- Proofs of code and of trials go by these equations, and leave the definitions shut.
 use Prim.Native.Nat.{ℕ, _+_, _-_, _*_}
 use mathlib.Core.Path.{_≡_}
 use mathlib.Core.Bool.{true, false, _&&_}
 use mathlib.Core.List.{List}
 use lib.Dec.{ltb, leb, eqb}
-use lib.ListN.{getD}
+use lib.ListN.{length, getD}
 use Rattle.learning.specs.Ground.{View}
 use Rattle.answers.specs.declared.Job.{Job}
 use Rattle.answers.specs.declared.State.{State}
+use Rattle.answers.specs.declared.Refusal.{Refusal}
+use Rattle.answers.specs.declared.Verdict.the-variants as Vd
 use Rattle.answers.specs.declared.Answer.the-variants as A
 use Rattle.model.specs.Checks.{ceiling}
 use Rattle.model.specs.Lookahead.{seen, ring, emptyRing, newFigure, target}
-use Rattle.model.specs.Decision.{atGoal, unchanged, refused, rise, forward, backOut, stay, goBack, learn, act}
+use Rattle.model.specs.Decision.{atGoal, judge, unchanged, refused, rise, forward, backOut, stay, goBack, learn, act, outcomeOf, decide}
 
 module _ (j : Job) (bytes : List ℕ) (s : State) (table path : List ℕ) where
   pub act-arrived : atGoal j bytes (s .current) ≡ true → act j bytes s table path ≡ unchanged s table path A.Arrived
@@ -63,3 +65,14 @@ module _ (j : Job) (bytes : List ℕ) (s : State) (table path : List ℕ) where
         → goBack j bytes s table path new ≡ backOut j bytes s (seen j bytes last-cell) table path new last-cell
     unfolding goBack
     back-goes e f = rw (e, f, goBack)
+
+  -- a refused call, and one that is let through
+  pub decide-refused : (moves : List ℕ) (from : ℕ) (r : Refusal) → judge j bytes s table path (length moves) from ≡ Vd.Refused r
+      → decide j bytes s table path moves from ≡ record { answer = A.Refused r; state = s; table = table; path = path; moves = moves }
+  unfolding decide
+  decide-refused moves from r e = rw (e, decide)
+
+  pub decide-acts : (moves : List ℕ) (from : ℕ) → judge j bytes s table path (length moves) from ≡ Vd.Done
+      → decide j bytes s table path moves from ≡ outcomeOf Vd.Done (act j bytes s table path) s table path moves from
+  unfolding decide
+  decide-acts moves from e = rw (e, decide)

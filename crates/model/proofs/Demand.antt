@@ -31,8 +31,9 @@ use Rattle.model.specs.Opening.{distances, reaches, trueFigure, soundnes
 use Rattle.model.specs.Decision.{atGoal, decide}
 use Rattle.model.specs.Ride.{Ride, begun, rideFrom, learningJob, bound, ride, kept, report, trialOf, trial, courseFrom, filedIn, runOf, run}
 use Rattle.model.proofs.Meaning.{goal-means}
-use Rattle.model.proofs.Openings.{reaches-means, opened, accepted, ready, accepted-trial, ready-run}
-use Rattle.model.proofs.Refusals.{Above, job-refused, trial-refused, run-refused, six-means, seven-means}
+use Rattle.model.proofs.Openings.{opened, accepted, ready, accepted-trial, ready-run}
+use Rattle.model.proofs.Refusals.{job-refused, trial-refused, run-refused}
+use Rattle.model.proofs.Soundness.{Above, reaches-means, six-means, seven-means}
 use Rattle.model.proofs.Rides.{riding-begun, riding-from, ride-riding, ride-arrives, decisions-low, keeps, ready-after, Rides, over, trip, course-rides}
 use Rattle.model.proofs.Tables.{act-high, act-opened, decide-table, ride-high, course-high, course-ready}
 
@@ -250,8 +251,8 @@ module _ (j : Job) (bytes : List ℕ) (start : ℕ) (table path : List ℕ) (tri
   pub refused-for-no-way-only-when-none-exists : IsRefused → r .number ≡ 6
       → (z c n : ℕ) → atGoal j bytes z ≡ true → Walk (netOf (groundIn j bytes)) Any start z c n → ⊥
   refused-for-no-way-only-when-none-exists e six z c n g way =
-      six-means j bytes start table r (last-check (omega arith) e) six (c, (z, subst T (sym g) tt, (n, way)))
+      six-means j bytes start table (last-check (omega arith) e) six (c, (z, subst T (sym g) tt, (n, way)))
 
   -- and a table is refused as unsound only when some cell is above its true figure."
   pub refused-as-unsound-only-when-above : IsRefused → r .number ≡ 7 → (x : ℕ) × (r .place ≡ P.Cell x) × Above j bytes table x
-  refused-as-unsound-only-when-above e seven = seven-means j bytes start table r (last-check (omega arith) e) seven
+  refused-as-unsound-only-when-above e seven = let (x, p, above, lowest) = seven-means j bytes start table (last-check (omega arith) e) seven .1 in (x, p, above)

@@ -17,12 +17,7 @@ use Rattle.model.specs.Checks.{ceiling, figures}
 use Rattle.model.specs.Opening.{openTable}
 use Rattle.model.specs.TableFile.{halfAt, trailer, countIn, backIn, isLetters, trailerHolds, checkTrailer, findRecords, sameJob, cellIn, figureIn, recordFault, judgeRecords, changed, readVerdict, recordsOf, trailerOf, fileOf, unlike, fileRoom, writeVerdict}
 use Rattle.model.proofs.Moves.{both, both-of, free-lt}
-use Rattle.model.proofs.Accepted.{then-done, sizes-judges, scale-judges, bench-judges}
-
--- a test that can't pass fails
-pub fails : (b : Bool) → (b ≡ true → ⊥) → b ≡ false
-fails true h = absurd (h refl)
-fails false h = refl
+use Rattle.model.proofs.Accepted.{then-done, fails, sizes-judges, scale-judges, bench-judges}
 
 pub unless-done : (b : Bool) (number : ℕ) → unless b number ≡ Vd.Done → b ≡ true
 unless-done true number e = refl

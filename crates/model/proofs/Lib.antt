@@ -6,17 +6,15 @@ pub mod Parts
 -- What each check says and gives; the path that a decision is handed; an accepted job; 6 and 7 by walks.
 pub mod Accepted
 pub mod Held
+pub mod Soundness
 pub mod Openings
 pub mod Refusals
-pub mod Soundness
-pub mod Figures
 pub mod OpeningSound
 -- The lookahead: empty rings; what the definitions mean, in document 01's words.
 pub mod Rings
 pub mod Meaning
--- A decision test by test, and as code makes it; in a trial it is one of `learning` and is never refused; trials and runs; the figures.
+-- A decision test by test; in a trial it is one of `learning` and is never refused; trials and runs; the figures.
 pub mod Cases
-pub mod Deeds
 pub mod Steps
 pub mod Judged
 pub mod Rides

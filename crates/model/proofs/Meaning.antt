@@ -1,7 +1,7 @@
 -- What the definitions mean, in document 01's words: moves, rings, the window, w, the new figure, the target, the route, true distances, and number 9.
 -- All are what `learning` proves of any ground; here they are said of the model's own names.
 use Prim.Native.Nat.{ℕ, zero, suc, _+_, _≤_, _<_}
-use mathlib.Core.Path.{_≡_, subst}
+use mathlib.Core.Path.{_≡_, refl, subst}
 use mathlib.Core.Logic.{_⊎_, inl, inr, _≢_}
 use mathlib.Core.Bool.{true, false}
 use mathlib.Core.List.{List, [], _∷_, _++_}
@@ -15,11 +15,12 @@ use Rattle.learning.specs.Walk.{Network, Walk, Any, Least, Leads, Arrives}
 use Rattle.learning.specs.Ahead.{Window, Ahead}
 use Rattle.learning.specs.Ground.{Goal, netOf, distIn, distOf, ringOf, lastOf, legOf}
 use Rattle.learning.specs.Route.{Chain, priorIn}
-use Rattle.learning.proofs.Sound.{ring-self}
+use Rattle.learning.proofs.Walks.{turn}
+use Rattle.learning.proofs.Sound.{ring-self, crosses}
 use Rattle.learning.proofs.Spread.{second-true}
 use Rattle.learning.proofs.Ground.{dist-least, window, ring-low, ring-walk}
-use Rattle.learning.proofs.Look.{answer-if}
-use Rattle.learning.proofs.Routes.{route-chain, route-self, route-back, prior-least}
+use Rattle.learning.proofs.Look.{answer-if, walk-inside}
+use Rattle.learning.proofs.Routes.{route-chain, route-none, route-more, prior-least}
 use Rattle.answers.specs.declared.Job.{Job}
 use Rattle.model.specs.Basics.{member}
 use Rattle.model.specs.Floor.{Floor, size, Sized, price, ahead, allowed}
@@ -29,8 +30,8 @@ use Rattle.model.specs.Opening.{distances, reaches}
 use Rattle.model.specs.Decision.{atGoal}
 use Rattle.model.proofs.Moves.{both, toll, price-move, price-toll, allowed-inside, allowed-some, is-true}
 use Rattle.model.proofs.Held.{or-false}
-use Rattle.model.proofs.Openings.{reaches-of, reaches-means}
-use Rattle.model.proofs.Rings.{Bare, empty-some, empty-full, empty-of}
+use Rattle.model.proofs.Soundness.{reaches-of, reaches-means}
+use Rattle.model.proofs.Rings.{Bare, empty-none, empty-some, empty-full, empty-of}
 use Rattle.model.specs.Grounds.{groundOf}
 
 -- ---- "A move is allowed when the cell moved into is on the floor and free. A straight move costs 10, a diagonal one 14."
@@ -101,6 +102,10 @@ module _ (j : Job) (bytes : List ℕ) (s : ℕ) (deep : 1 ≤ j .depth) (floor :
   abbrev pub InWindow : ℕ → Type 0
   InWindow x = ring j bytes (seen j bytes s) x ≤ seen j bytes s .last
 
+  pub window-inside : (x : ℕ) → InWindow x → x < size (floorOf j bytes)
+  unfolding ringOf lastOf
+  window-inside x h = walk-inside (groundIn j bytes) floor (turn (window-means .attained x h .1))
+
   pub w-means : (x : ℕ) → InWindow x → Least (Leads (net j bytes) InWindow s x) (w j bytes (seen j bytes s) x)
   w-means x h = window-means .cheapest x h
 
@@ -131,10 +136,10 @@ module _ (j : Job) (bytes : List ℕ) (s : ℕ) (deep : 1 ≤ j .depth) (floor :
 
   pub route-goes-back : (x : ℕ) → InWindow x → x ≢ s → route j bytes s (seen j bytes s) x ≡ route j bytes s (seen j bytes s) (prior x) ++ x ∷ []
   unfolding ringOf lastOf
-  route-goes-back x h o = route-back (groundIn j bytes) (j .depth) s deep floor off x h o
+  route-goes-back x h o = route-more (groundIn j bytes) (j .depth) s deep floor off x (prior x) h o refl
 
   pub route-ends : route j bytes s (seen j bytes s) s ≡ []
-  route-ends = route-self (groundIn j bytes) (j .depth) s deep floor off
+  route-ends = route-none (groundIn j bytes) (j .depth) s deep floor off
 
   -- 9: "a ring up to d is empty and the goal is in none before it"
   abbrev pub Lost : ℕ → Type 0
@@ -144,6 +149,15 @@ module _ (j : Job) (bytes : List ℕ) (s : ℕ) (deep : 1 ≤ j .depth) (floor :
   nine-means e =
       let (k, h, i, bare) = empty-some j bytes (seen j bytes s) (seen j bytes s .last) e in
       (k, (h, le-trans i (window-means .depth), bare, λ z g l. omega (arith, i, window-means .goals z g, l)))
+
+  -- where a cell is on the last ring no ring is empty: the walk there crosses each
+  pub nine-not : (x : ℕ) → ring j bytes (seen j bytes s) x ≡ seen j bytes s .last → emptyRing j bytes (seen j bytes s) (seen j bytes s .last) ≡ false
+  nine-not x on = empty-none j bytes (seen j bytes s) (seen j bytes s .last) (λ k l h. crossed k h)
+    where
+      crossed : (k : ℕ) → k ≤ seen j bytes s .last → (y : ℕ) × (y < size (floorOf j bytes)) × (ring j bytes (seen j bytes s) y ≡ k)
+      crossed k h =
+          let c = crosses window-means {k = k} {a = s} {z = x} h (omega (arith, ring-self window-means)) (omega (arith, on)) (window-means .attained x (omega (arith, on)) .1) in
+          (c .at, window-inside (c .at) (omega (arith, c .on)), c .on)
 
   pub nine-is : (k : ℕ) → Lost k → emptyRing j bytes (seen j bytes s) (seen j bytes s .last) ≡ true
   nine-is k (h, i, bare, none) = empty-of j bytes (seen j bytes s) (seen j bytes s .last) k h (upto (window-means .ends)) bare

@@ -30,7 +30,7 @@ use Rattle.model.proofs.Soundness.{CanReach, Above, sound}
 
 -- ---- how large
 
-gap-lt : (n a b : ℕ) → a < n → b < n → apart a b < n
+pub gap-lt : (n a b : ℕ) → a < n → b < n → apart a b < n
 gap-lt n a b h k = omega arith
 
 pub opening-high : (f : Floor) → 1 ≤ f .width → f .width ≤ 64 → f .height ≤ 64 → (q g x : ℕ) → q ≤ 16 → g < size f → x < size f → opening f q (g ∷ []) x ≤ 24192
@@ -43,6 +43,10 @@ opening-high f some narrow low q g x fine hg hx =
   where
     far : (dx dy : ℕ) → dx < 64 → dy < 64 → 14 * min dx dy + 10 * apart dx dy ≤ 1512
     far dx dy h k = omega arith
+
+-- so within the ceiling
+pub opening-within : (f : Floor) (q g x : ℕ) → Sized f → q ≤ 16 → g < size f → x < size f → opening f q (g ∷ []) x ≤ ceiling
+opening-within f q g x z fine hg hx = omega (arith, opening-high f (z .wide) (z .narrow) (z .low) q g x fine hg hx)
 
 -- ---- no move lowers the octile distance by more than its price
 
@@ -163,9 +167,4 @@ module _ (j : Job) (bytes : List ℕ) where
       ∙ sound j bytes start opened r opening-sound
     where
       small : (x : ℕ) → x < size (floorOf j bytes) → getD opened x 0 ≤ ceiling
-      small x h =
-          omega (
-            arith,
-            figure-is x h,
-            opening-high (floorOf j bytes) (z .wide) (z .narrow) (z .low) (j .q) (j .goal) x fine (free-lt (floorOf j bytes) z (j .goal) bench) h,
-          )
+      small x h = omega (arith, figure-is x h, opening-within (floorOf j bytes) (j .q) (j .goal) x z fine (free-lt (floorOf j bytes) z (j .goal) bench) h)

@@ -1,36 +1,24 @@
 -- What an accepted job is: a lawful job of `learning`, with a sound table and a start that can reach the goal.
 -- The checks 1 to 7 give just this, and whatever is this passes them: so acceptance can be carried from trial to trial.
-use Prim.Native.Nat.{ℕ, _≤_, _<_}
-use mathlib.Core.Path.{_≡_, refl, sym, ap, subst, _∙_}
+use Prim.Native.Nat.{ℕ, _*_, _≤_, _<_}
+use mathlib.Core.Path.{_≡_, refl, _∙_}
 use mathlib.Core.Bool.{Bool, true, false, _&&_}
 use mathlib.Core.List.{List}
 use native.Mathlib.Omega.{arith}
-use borrow.Author.Tests.{ltb-false, le-ltb}
-use lib.Dec.{T, ltb}
+use borrow.Author.Tests.{le-ltb}
+use lib.Dec.{ltb}
 use lib.ListN.{length, getD}
 use Rattle.learning.specs.Trial.{Lawful, CanReach, Sound}
-use Rattle.learning.specs.Ground.{reachOf, distOf}
-use Rattle.learning.proofs.Ground.{lawful, on-floor, reach-of, reach-true}
+use Rattle.learning.specs.Ground.{distOf}
+use Rattle.learning.proofs.Ground.{lawful}
 use Rattle.answers.specs.declared.Job.{Job}
 use Rattle.answers.specs.declared.Verdict.the-variants as Vd
-use Rattle.model.specs.Basics.{unless}
 use Rattle.model.specs.Floor.{size, Sized, free}
 use Rattle.model.specs.Checks.{ceiling, floorOf, goals, groundIn, sizes, pathRoom, settings, places, figures}
-use Rattle.model.specs.Opening.{distances, reaches, trueFigure, soundness, accepts, openJob, openTrial, reportsRoom, trialsHold, openRun}
+use Rattle.model.specs.Opening.{accepts, openJob, openTrial, reportsRoom, trialsHold, openRun}
 use Rattle.model.specs.Ride.{learningJob}
-use Rattle.model.proofs.Moves.{is-true}
-use Rattle.model.proofs.Accepted.{then-next, then-done, Settings, sizes-judges, path-judges, reports-judges, settings-judges, trials-judges, places-judges, naming-done, naming-none, figures-accepted}
-
--- ---- whether a cell can reach the goal, as the opening computes it
-
-module _ (j : Job) (bytes : List ℕ) where
-  pub reaches-of : (x : ℕ) → CanReach (learningJob j bytes) x → reaches j bytes (distances j bytes) x ≡ true
-  unfolding reachOf
-  reaches-of x r = is-true _ (reach-of (groundIn j bytes) x r)
-
-  pub reaches-means : (x : ℕ) → reaches j bytes (distances j bytes) x ≡ true → CanReach (learningJob j bytes) x
-  unfolding reachOf
-  reaches-means x e = reach-true (groundIn j bytes) x (subst T (sym e) tt)
+use Rattle.model.proofs.Accepted.{then-next, then-done, Settings, sizes-judges, path-judges, reports-judges, settings-judges, trials-judges, places-judges, naming-done, figures-accepted}
+use Rattle.model.proofs.Soundness.{sound, sound-only}
 
 -- ---- what acceptance gives
 
@@ -62,10 +50,6 @@ pub record ReadyRun (j : Job) (bytes : List ℕ) (start : ℕ) (table path : Lis
   pub few : trials ≤ 1000
   pub reports : trials ≤ records
 
-passed : (b : Bool) (number : ℕ) → unless b number ≡ Vd.Done → b ≡ true
-passed true number e = refl
-passed false number e = let z : _≡_ {A = ℕ} 0 1 = cc in absurd (omega arith)
-
 pub second-false : (a b : Bool) → a ≡ true → (a && b) ≡ false → b ≡ false
 second-false a b e f = rw e at f
 
@@ -74,21 +58,13 @@ not-both true b h = h refl
 not-both false b h = refl
 
 module _ (j : Job) (bytes : List ℕ) (start : ℕ) (table : List ℕ) where
-  -- the fault that 7 names
-  abbrev pub above : ℕ → Bool
-  above x = reaches j bytes (distances j bytes) x && ltb (trueFigure j bytes (distances j bytes) x) (getD table x 0)
-
-  below : Sound (learningJob j bytes) table → (x : ℕ) → above x ≡ false
-  unfolding distOf
-  below S x = not-both _ _ (λ e. le-ltb _ _ (S .low x (reaches-means j bytes x e)))
-
   from-accepts : Sized (floorOf j bytes) → length table ≡ size (floorOf j bytes) → Settings j → accepts j bytes start table ≡ Vd.Done → Opened j bytes start table
-  unfolding accepts soundness distOf
+  unfolding accepts
   from-accepts z l s e =
       let f = floorOf j bytes in
       let (p, rest) = then-done (places f start (goals j)) _ e in
       let (g, judged) = then-done (figures f table) _ rest in
-      let (way, low) = then-done (unless (reaches j bytes (distances j bytes) start) 6) _ judged in
+      let (way, none) = sound-only j bytes start table judged in
       let free-both = places-judges f start (j .goal) .gives p in
       record {
         held = record {
@@ -100,18 +76,17 @@ module _ (j : Job) (bytes : List ℕ) (start : ℕ) (table : List ℕ) where
         long = l;
         free-start = free-both .0;
         fits = figures-accepted f table g;
-        sound = record { size = l; low = λ x r. ltb-false _ _ (second-false _ _ (reaches-of j bytes x r) (naming-none (size f) above 7 low x (on-floor (groundIn j bytes) x r))) };
-        reach = reaches-means j bytes start (passed _ 6 way);
+        sound = record { size = l; low = λ x r. let above : j .q * distOf (groundIn j bytes) x < getD table x 0 → ⊥ = λ h. none x (r, h) in omega arith };
+        reach = way;
       }
 
   to-accepts : Opened j bytes start table → accepts j bytes start table ≡ Vd.Done
-  unfolding accepts soundness figures
+  unfolding accepts figures
   to-accepts o =
       let f = floorOf j bytes in
       then-next _ (places-judges f start (j .goal) .done (o .free-start, o .held .bench))
       ∙ then-next _ (naming-done (size f) (λ x. ltb ceiling (getD table x 0)) 5 (λ x h. le-ltb ceiling (getD table x 0) (o .fits x h)))
-      ∙ then-next _ (ap (λ b. unless b 6) (reaches-of j bytes start (o .reach)))
-      ∙ naming-done (size f) above 7 (λ x h. below (o .sound) x)
+      ∙ sound j bytes start table (o .reach) (λ x (r, h). omega (arith, o .sound .low x r))
 
   pub opened : openJob j bytes start table ≡ Vd.Done → Opened j bytes start table
   unfolding openJob

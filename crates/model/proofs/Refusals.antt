@@ -1,14 +1,11 @@
--- What a refusal at opening says: number 6 only where no way exists, number 7 only where some cell is above its true figure.
--- A refusal comes from the first check that is not done, and only the last two checks have these numbers.
+-- Which check refuses an opening: a refusal comes from the first check that is not done, and only `soundness` has the numbers 6 and 7.
 use Prim.Native.Nat.{ℕ, _≤_, _<_}
-use mathlib.Core.Path.{_≡_, refl}
+use mathlib.Core.Path.{_≡_}
 use mathlib.Core.Bool.{Bool, true, false, _&&_}
 use mathlib.Core.List.{List}
 use native.Mathlib.Omega.{arith}
-use borrow.Author.Tests.{ltb-true}
 use lib.Dec.{leb, ltb, eqb}
-use lib.ListN.{length, getD}
-use Rattle.learning.specs.Trial.{CanReach}
+use lib.ListN.{length}
 use Rattle.learning.specs.Look.{lowest}
 use Rattle.answers.specs.declared.Job.{Job}
 use Rattle.answers.specs.declared.Refusal.{Refusal}
@@ -18,11 +15,7 @@ use Rattle.answers.specs.declared.Verdict.the-variants as Vd
 use Rattle.model.specs.Basics.{choose, between, every, then, refuseAt, unless, naming}
 use Rattle.model.specs.Floor.{Floor, size, free}
 use Rattle.model.specs.Checks.{floorOf, goals, sizes, pathRoom, settings, places, figures}
-use Rattle.model.specs.Opening.{distances, reaches, trueFigure, soundness, accepts, openJob, openTrial, reportsRoom, trialsHold, openRun}
-use Rattle.model.specs.Ride.{learningJob}
-use Rattle.model.proofs.Moves.{both}
-use Rattle.model.proofs.Accepted.{lowest-met}
-use Rattle.model.proofs.Openings.{reaches-of, above}
+use Rattle.model.specs.Opening.{soundness, accepts, openJob, openTrial, reportsRoom, trialsHold, openRun}
 
 clash : {A : Type 0} {r : Refusal} → Vd.Done ≡ Vd.Refused r → A
 clash e = let z : _≡_ {A = ℕ} 0 1 = cc in absurd (omega arith)
@@ -88,46 +81,3 @@ module _ (j : Job) (bytes : List ℕ) (start : ℕ) (table : List ℕ) (r : Refu
       (later (trialsHold trials) (early-unless (between 1 trials 1000) 3 (omega arith)) h
       (past-settings _
       (later (reportsRoom trials records) (early-unless (leb trials records) 2 (omega arith)) h (past-room (length path) _ (past-sizes _ e)))))
-
--- ---- what the last two say
-
--- a cell that 7 may name
-pub record Above (j : Job) (bytes table : List ℕ) (x : ℕ) : Type 0 where
-  pub on : x < size (floorOf j bytes)
-  pub can : reaches j bytes (distances j bytes) x ≡ true
-  pub higher : trueFigure j bytes (distances j bytes) x < getD table x 0
-
-named : (n : ℕ) (fault : ℕ → Bool) (number : ℕ) (r : Refusal) → naming n fault number ≡ Vd.Refused r
-    → (r .number ≡ number) × ((x : ℕ) × (r .place ≡ P.Cell x) × (x < n) × (fault x ≡ true))
-unfolding naming
-named n fault number r = by (ltb (lowest n fault) n) refl
-  where
-    by : (b : Bool) → ltb (lowest n fault) n ≡ b → choose b (refuseAt number (P.Cell (lowest n fault))) Vd.Done ≡ Vd.Refused r
-        → (r .number ≡ number) × ((x : ℕ) × (r .place ≡ P.Cell x) × (x < n) × (fault x ≡ true))
-    by true t e =
-        let l = ltb-true (lowest n fault) n t in
-        let f : r .number ≡ number = cc in
-        let g : r .place ≡ P.Cell (lowest n fault) = cc in
-        (f, (lowest n fault, g, l, lowest-met n fault l))
-    by false t e = clash e
-
-module _ (j : Job) (bytes : List ℕ) (start : ℕ) (table : List ℕ) (r : Refusal) where
-  pub six-means : soundness j bytes start table ≡ Vd.Refused r → r .number ≡ 6 → ¬ CanReach (learningJob j bytes) start
-  unfolding soundness
-  six-means e six way =
-      let s = naming (size (floorOf j bytes)) (above j bytes start table) 7 in
-      let f : s ≡ Vd.Refused r = rw (reaches-of j bytes start way) at e in
-      absurd (omega (arith, named (size (floorOf j bytes)) (above j bytes start table) 7 r f .0))
-
-  pub seven-means : soundness j bytes start table ≡ Vd.Refused r → r .number ≡ 7 → (x : ℕ) × (r .place ≡ P.Cell x) × Above j bytes table x
-  unfolding soundness
-  seven-means e seven = by (reaches j bytes (distances j bytes) start) e
-    where
-      by : (b : Bool) → then (unless b 6) (naming (size (floorOf j bytes)) (above j bytes start table) 7) ≡ Vd.Refused r
-          → (x : ℕ) × (r .place ≡ P.Cell x) × Above j bytes table x
-      by true f =
-          let (x, p, l, t) = named (size (floorOf j bytes)) (above j bytes start table) 7 r f .1 in
-          let c = reaches j bytes (distances j bytes) x in
-          let o = ltb (trueFigure j bytes (distances j bytes) x) (getD table x 0) in
-          (x, p, record { on = l; can = both c o t .0; higher = ltb-true _ _ (both c o t .1) })
-      by false f = let g : _≡_ {A = ℕ} 6 7 = cc in absurd (omega arith)

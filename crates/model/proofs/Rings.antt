@@ -10,12 +10,12 @@ use borrow.Author.Tests.{leb-true, leb-false, lt-leb, eqb-true}
 use lib.Dec.{leb, eqb}
 use Rattle.learning.specs.Ground.{View}
 use Rattle.learning.specs.Look.{lowest}
-use Rattle.learning.proofs.Look.{eqb-of, lowest-low}
+use Rattle.learning.proofs.Look.{eqb-of, lowest-low, lowest-some}
 use Rattle.answers.specs.declared.Job.{Job}
 use Rattle.model.specs.Floor.{size}
 use Rattle.model.specs.Checks.{floorOf}
 use Rattle.model.specs.Lookahead.{ring, emptyRing}
-use Rattle.model.proofs.Accepted.{lowest-met}
+use Rattle.model.proofs.Moves.{is-true}
 
 either : (a b : Bool) → (a || b) ≡ true → a ≡ false → b ≡ true
 either a b e f = rw f at e
@@ -65,7 +65,7 @@ module _ (j : Job) (bytes : List ℕ) (v : View) where
       by lower (no l) =
           let n = size (floorOf j bytes) in
           let some : lowest n (on (suc m)) < n = leb-false n (lowest n (on (suc m))) (neither (emptyRing j bytes v m) _ e .1) in
-          let met = eqb-true (ring j bytes v (lowest n (on (suc m)))) (suc m) (lowest-met n (on (suc m)) some) in
+          let met = eqb-true (ring j bytes v (lowest n (on (suc m)))) (suc m) (is-true _ (lowest-some n (on (suc m)) some)) in
           (lowest n (on (suc m)), some, omega arith)
 
   pub empty-of : (m k : ℕ) → 1 ≤ k → k ≤ m → Bare k → emptyRing j bytes v m ≡ true

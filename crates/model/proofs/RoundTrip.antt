@@ -19,7 +19,7 @@ use Rattle.model.specs.TableFile.{half, word, halfAt, wordAt, trailer, c
 use Rattle.model.proofs.Cells.{cells-le}
 use Rattle.model.proofs.Moves.{both}
 use Rattle.model.proofs.Accepted.{then-next, figures-done, figures-accepted, naming-done, naming-none}
-use Rattle.model.proofs.Figures.{opening-within}
+use Rattle.model.proofs.OpeningSound.{opening-within}
 use Rattle.model.proofs.Files.{Openable, openable, Trailer, trailer-true, check-done, check-gives, found, Same, same-done, same-gives, changed-few, length-records, length-file, read-gives, write-gives}
 use Rattle.model.proofs.Records.{half-read, word-read, half-written, word-written, Bytes, bytes-drop, bytes-take, pair-at, Fine, written-judged, written-applied, applied-length, Again, again, fine-opening, applied-fine}
 

@@ -19,9 +19,9 @@ use Rattle.answers.specs.declared.Verdict.the-variants as Vd
 use Rattle.model.specs.Basics.{then, refuseAt, unless, naming}
 use Rattle.model.specs.Floor.{size}
 use Rattle.model.specs.Checks.{floorOf, groundIn}
-use Rattle.model.specs.Opening.{soundness}
+use Rattle.model.specs.Opening.{distances, reaches, trueFigure, soundness}
 use Rattle.model.proofs.Moves.{is-true, both, both-of}
-use Rattle.model.proofs.Accepted.{never, naming-names, naming-done, naming-none, naming-found}
+use Rattle.model.proofs.Accepted.{never, fails, naming-names, naming-done, naming-none, naming-found}
 
 -- a cell can reach a goal; its figure is above the true one
 abbrev pub CanReach : Job → List ℕ → ℕ → Type 0
@@ -33,52 +33,48 @@ Above j bytes table x = CanReach j bytes x × (j .q * distOf (groundIn j bytes) 
 same-refusal : {r s : Refusal} → Vd.Refused r ≡ Vd.Refused s → r ≡ s
 same-refusal e = cc
 
+-- whether a cell can reach the goal, as the opening computes it
 module _ (j : Job) (bytes : List ℕ) where
-  reach-shown : (x : ℕ) → CanReach j bytes x → reachOf (groundIn j bytes) x ≡ true
-  reach-shown x r = is-true (reachOf (groundIn j bytes) x) (reach-of (groundIn j bytes) x r)
+  pub reaches-of : (x : ℕ) → CanReach j bytes x → reaches j bytes (distances j bytes) x ≡ true
+  unfolding reachOf
+  reaches-of x r = is-true _ (reach-of (groundIn j bytes) x r)
 
-  reach-told : (x : ℕ) → reachOf (groundIn j bytes) x ≡ true → CanReach j bytes x
-  reach-told x e = reach-true (groundIn j bytes) x (subst T (sym e) tt)
+  pub reaches-means : (x : ℕ) → reaches j bytes (distances j bytes) x ≡ true → CanReach j bytes x
+  unfolding reachOf
+  reaches-means x e = reach-true (groundIn j bytes) x (subst T (sym e) tt)
 
-  reach-not : (x : ℕ) → ¬ CanReach j bytes x → reachOf (groundIn j bytes) x ≡ false
-  reach-not x h = by (reachOf (groundIn j bytes) x) refl
-    where
-      by : (b : Bool) → reachOf (groundIn j bytes) x ≡ b → b ≡ false
-      by true e = absurd (h (reach-told x e))
-      by false e = refl
+  reaches-not : (x : ℕ) → ¬ CanReach j bytes x → reaches j bytes (distances j bytes) x ≡ false
+  reaches-not x h = fails _ (λ e. h (reaches-means x e))
 
   module _ (start : ℕ) (table : List ℕ) where
+    -- the fault that 7 names
     abbrev fault : ℕ → Bool
-    fault x = reachOf (groundIn j bytes) x && ltb (j .q * distOf (groundIn j bytes) x) (getD table x 0)
+    fault x = reaches j bytes (distances j bytes) x && ltb (trueFigure j bytes (distances j bytes) x) (getD table x 0)
 
     fault-shown : (x : ℕ) → Above j bytes table x → fault x ≡ true
-    fault-shown x (r, l) = both-of (reachOf (groundIn j bytes) x) _ (reach-shown x r) (lt-ltb (j .q * distOf (groundIn j bytes) x) (getD table x 0) l)
+    unfolding distOf
+    fault-shown x (r, l) = both-of _ _ (reaches-of x r) (lt-ltb _ _ l)
 
     fault-told : (x : ℕ) → fault x ≡ true → Above j bytes table x
-    fault-told x e =
-        let p = both (reachOf (groundIn j bytes) x) (ltb (j .q * distOf (groundIn j bytes) x) (getD table x 0)) e in
-        (reach-told x (p .0), ltb-true (j .q * distOf (groundIn j bytes) x) (getD table x 0) (p .1))
+    unfolding distOf
+    fault-told x e = let p = both (reaches j bytes (distances j bytes) x) _ e in (reaches-means x (p .0), ltb-true _ _ (p .1))
 
     fault-not : (x : ℕ) → ¬ Above j bytes table x → fault x ≡ false
-    fault-not x h = by (fault x) refl
-      where
-        by : (b : Bool) → fault x ≡ b → b ≡ false
-        by true e = absurd (h (fault-told x e))
-        by false e = refl
+    fault-not x h = fails _ (λ e. h (fault-told x e))
 
     searched : Verdict
     searched = naming (size (floorOf j bytes)) fault 7
 
-    shape : soundness j bytes start table ≡ then (unless (reachOf (groundIn j bytes) start) 6) searched
-    unfolding soundness reachOf distOf searched
+    shape : soundness j bytes start table ≡ then (unless (reaches j bytes (distances j bytes) start) 6) searched
+    unfolding soundness searched
     shape = refl
 
     from-reached : CanReach j bytes start → soundness j bytes start table ≡ searched
-    from-reached r = shape ∙ ap (λ b. then (unless b 6) searched) (reach-shown start r)
+    from-reached r = shape ∙ ap (λ b. then (unless b 6) searched) (reaches-of start r)
 
     -- 6: no walk from start to goal exists
-    pub no-way : ¬ CanReach j bytes start → soundness j bytes start table ≡ refuseAt 6 P.Nowhere
-    no-way h = shape ∙ ap (λ b. then (unless b 6) searched) (reach-not start h)
+    pub six-is : ¬ CanReach j bytes start → soundness j bytes start table ≡ refuseAt 6 P.Nowhere
+    six-is h = shape ∙ ap (λ b. then (unless b 6) searched) (reaches-not start h)
 
     -- what a refusal past the start has found
     refused-named : {r : Refusal} → CanReach j bytes start → soundness j bytes start table ≡ Vd.Refused r
@@ -89,24 +85,24 @@ module _ (j : Job) (bytes : List ℕ) where
         (x, fault-told x (n .faulty), λ y h a. never (fault-shown y a) (n .first y h), same-refusal (sym e ∙ from-reached reach ∙ n .answer))
 
     -- and only then
-    pub no-way-only : {r : Refusal} → soundness j bytes start table ≡ Vd.Refused r → r .number ≡ 6 → ¬ CanReach j bytes start
-    no-way-only e q reach = let (x, a, f, g) = refused-named reach e in omega (arith, ap (λ (y : Refusal). y .number) g)
+    pub six-means : {r : Refusal} → soundness j bytes start table ≡ Vd.Refused r → r .number ≡ 6 → ¬ CanReach j bytes start
+    six-means e q reach = let (x, a, f, g) = refused-named reach e in omega (arith, ap (λ (y : Refusal). y .number) g)
 
     -- 7: a cell that can reach the goal is above its true figure; names the lowest
-    pub unsound : CanReach j bytes start → (x : ℕ) → Above j bytes table x → ((y : ℕ) → y < x → ¬ Above j bytes table y)
+    pub seven-is : CanReach j bytes start → (x : ℕ) → Above j bytes table x → ((y : ℕ) → y < x → ¬ Above j bytes table y)
         → soundness j bytes start table ≡ refuseAt 7 (P.Cell x)
     unfolding searched
-    unsound r x a first =
+    seven-is r x a first =
         from-reached r ∙ naming-names (size (floorOf j bytes)) fault 7 x (on-floor (groundIn j bytes) x (a .0)) (λ y h. fault-not y (first y h)) (fault-shown x a)
 
     -- and only then
-    pub unsound-only : {r : Refusal} → soundness j bytes start table ≡ Vd.Refused r → r .number ≡ 7
+    pub seven-means : {r : Refusal} → soundness j bytes start table ≡ Vd.Refused r → r .number ≡ 7
         → CanReach j bytes start × ((x : ℕ) × (r .place ≡ P.Cell x) × Above j bytes table x × ((y : ℕ) → y < x → ¬ Above j bytes table y))
-    unsound-only {r} e q = by (reachOf (groundIn j bytes) start) refl
+    seven-means {r} e q = by (reaches j bytes (distances j bytes) start) refl
       where
-        by : (b : Bool) → reachOf (groundIn j bytes) start ≡ b
+        by : (b : Bool) → reaches j bytes (distances j bytes) start ≡ b
             → CanReach j bytes start × ((x : ℕ) × (r .place ≡ P.Cell x) × Above j bytes table x × ((y : ℕ) → y < x → ¬ Above j bytes table y))
-        by true t = let (x, a, f, g) = refused-named (reach-told start t) e in (reach-told start t, (x, ap (λ (y : Refusal). y .place) g, a, f))
+        by true t = let (x, a, f, g) = refused-named (reaches-means start t) e in (reaches-means start t, (x, ap (λ (y : Refusal). y .place) g, a, f))
         by false t =
             let g = same-refusal (sym e ∙ shape ∙ ap (λ b. then (unless b 6) searched) t) in
             absurd (omega (arith, ap (λ (y : Refusal). y .number) g))
@@ -118,10 +114,10 @@ module _ (j : Job) (bytes : List ℕ) where
 
     pub sound-only : soundness j bytes start table ≡ Vd.Done → CanReach j bytes start × ((x : ℕ) → ¬ Above j bytes table x)
     unfolding searched
-    sound-only e = by (reachOf (groundIn j bytes) start) refl
+    sound-only e = by (reaches j bytes (distances j bytes) start) refl
       where
-        by : (b : Bool) → reachOf (groundIn j bytes) start ≡ b → CanReach j bytes start × ((x : ℕ) → ¬ Above j bytes table x)
+        by : (b : Bool) → reaches j bytes (distances j bytes) start ≡ b → CanReach j bytes start × ((x : ℕ) → ¬ Above j bytes table x)
         by true t =
-            let none = naming-none (size (floorOf j bytes)) fault 7 (sym (from-reached (reach-told start t)) ∙ e) in
-            (reach-told start t, λ x a. never (fault-shown x a) (none x (on-floor (groundIn j bytes) x (a .0))))
+            let none = naming-none (size (floorOf j bytes)) fault 7 (sym (from-reached (reaches-means start t)) ∙ e) in
+            (reaches-means start t, λ x a. never (fault-shown x a) (none x (on-floor (groundIn j bytes) x (a .0))))
         by false t = let w = sym e ∙ shape ∙ ap (λ b. then (unless b 6) searched) t in let z : _≡_ {A = ℕ} 0 1 = cc in absurd (omega arith)

@@ -8,7 +8,7 @@ ghost use Rattle.learning.specs.Ground.{listOf};
 ghost use Rattle.model.specs.Basics.{naming};
 ghost use Rattle.model.specs.Floor.{Sized, free, openingTable};
 ghost use Rattle.model.specs.Checks.{floorOf};
-ghost use Rattle.model.specs.Opening.{soundness, accepts, openJob, openTrial, reportsRoom, trialsHold, openRun};
+ghost use Rattle.model.specs.Opening.{soundness, accepts, openJob, openTrial, reportsRoom, trialsHold, openRun, openTable};
 ghost use Rattle.floor.specs.Moves.{flat};
 ghost use Rattle.opening.specs.Distances.{far, Distances, above, judged, Openable};
 ghost use Rattle.opening.specs.Promise.{Answers, Fills};
@@ -319,8 +319,30 @@ pub fn open_run(
     accepts(job, floor, start, table)
 }
 
+// 1, 3 and 4 as the calls on a table alone judge them.
+pub fn open_table(
+    width: usize,
+    height: usize,
+    goal: usize,
+    q: usize,
+    floor: &[u8],
+    figures: usize,
+) -> Verdict
+    ensures { λ r. ⌜ r ≡ openTable (flat width height (now (floor .entry))) q (goal ∷ []) figures ⌝ }
+{
+    let v = checks::sizes(width, height, floor, figures);
+    let Verdict::Done = v else {
+        return v;
+    };
+    let v = checks::scale(q);
+    let Verdict::Done = v else {
+        return v;
+    };
+    checks::bench(width, height, floor, goal)
+}
+
 // Fills a table with opening figures.
-fn fill_figures(width: usize, height: usize, goal: usize, q: usize, table: &mut [u32])
+pub fn fill_figures(width: usize, height: usize, goal: usize, q: usize, table: &mut [u32])
     requires { ⌜ (1 ≤ width) × (width ≤ 64) × (height ≤ 64) × (q ≤ 16) × (goal < width * height) × (length (now table) ≡ width * height) ⌝ }
     ensures { λ r. ⌜ ((bytes : List ℕ) → now (table .exit) ≡ openingTable (flat width height bytes) q (goal ∷ [])) ⌝ }
 {
@@ -342,15 +364,7 @@ pub fn fill_opening(
 ) -> Verdict
     ensures { λ r. ⌜ Fills (flat width height (now (floor .entry))) q (goal ∷ []) (now (table .entry)) r (now (table .exit)) ⌝ }
 {
-    let v = checks::sizes(width, height, floor, table.len());
-    let Verdict::Done = v else {
-        return v;
-    };
-    let v = checks::scale(q);
-    let Verdict::Done = v else {
-        return v;
-    };
-    let v = checks::bench(width, height, floor, goal);
+    let v = open_table(width, height, goal, q, floor, table.len());
     let Verdict::Done = v else {
         return v;
     };

@@ -1,47 +1,25 @@
 -- Where the reader's loops stand: what is left to judge, or to put, answers like the whole.
 use mathlib.Core.Path.{_≡_, refl, sym, _∙_, ap}
 use mathlib.Core.Bool.{true, false}
-use mathlib.Core.List.{List, [], _∷_, _++_, append-nil, append-assoc}
+use mathlib.Core.List.{List, [], _∷_}
 use Prim.Native.Nat.{ℕ, suc, _+_, _-_, _*_, _≤_, _<_}
 use native.Mathlib.Numerals.{add-one}
 use native.Mathlib.Omega.{arith}
-use lib.ListN.{length, take, drop, set, getD, length-drop, length-set, drop-of-length-le}
-use lib.Seq.{take-all, take-suc, drop-cons, set-at, set-out, length-take-le}
-use Rattle.learning.proofs.Spread.{list-at, list-length}
+use lib.ListN.{length, take, drop, set, length-drop, length-set}
+use lib.Seq.{set-out, length-take-le}
 use Rattle.answers.specs.Says.{saysVerdict}
 use Rattle.answers.specs.declared.Place.the-variants as P
+use Rattle.answers.specs.declared.Refusal.{Refusal}
 use Rattle.answers.specs.declared.Verdict.{Verdict}
 use Rattle.answers.specs.declared.Verdict.the-variants as Vd
-use Rattle.model.specs.Basics.{then, refuseAt}
+use Rattle.model.specs.Basics.{refuseAt}
 use Rattle.model.specs.Floor.{Floor, size, free, opening, openingTable}
 use Rattle.model.specs.TableFile.{cellIn, figureIn, countIn, backIn, trailerHolds, findRecords, recordFault, judgeRecords, applied, readVerdict, readOf, readTable}
 use Rattle.model.specs.Opening.{openTable}
 use Rattle.model.specs.Checks.{ceiling, scale}
 use Rattle.model.proofs.Parts.{rest}
 use Rattle.model.proofs.Files.{openable, Lawful, judge-more, judge-stop, trailer-gives, found}
-use Rattle.table_file.specs.Promises.{Opened, passed, startOf, Reads}
-
--- a check that has passed is done, and one that has not stands
-pub passes-done : (v : Verdict) → passed v ≡ true → v ≡ Vd.Done
-passes-done Vd.Done e = refl
-passes-done (Vd.Refused r) e = let z : _≡_ {A = ℕ} 0 1 = cc in absurd (omega arith)
-
-pub stands : (v w : Verdict) → passed v ≡ false → then v w ≡ v
-stands Vd.Done w e = let z : _≡_ {A = ℕ} 0 1 = cc in absurd (omega arith)
-stands (Vd.Refused r) w e = refl
-
--- one check after another: one that has not passed is the answer, and past one that has the next ones are
-pub stop : (s : Verdict) {u : Verdict} (w : Verdict) → s ≡ u → passed s ≡ false → s ≡ then u w
-stop s w e h = sym (stands s w h) ∙ ap (λ (v : Verdict). then v w) e
-
-pub next : (s : Verdict) {u w r : Verdict} → s ≡ u → passed s ≡ true → r ≡ w → r ≡ then u w
-next s {u} {w} e h k = k ∙ ap (λ (v : Verdict). then v w) (sym (passes-done s h) ∙ e)
-
-pub past : {u w r : Verdict} → u ≡ Vd.Done → r ≡ w → r ≡ then u w
-past {u} {w} e k = k ∙ ap (λ (v : Verdict). then v w) (sym e)
-
-pub done-by : (s : Verdict) {u : Verdict} → s ≡ u → passed s ≡ true → u ≡ Vd.Done
-done-by s e h = sym e ∙ passes-done s h
+use Rattle.table_file.specs.Promises.{Opened, startOf, Reads}
 
 -- what an opened table gives
 pub opened : (f : Floor) (q goal n : ℕ) → openTable f q (goal ∷ []) n ≡ Vd.Done → Opened f q goal × (n ≡ size f)
@@ -154,54 +132,16 @@ module _ (n : ℕ) (part table₀ : List ℕ) where
 pub put-past : (table : List ℕ) (cell figure : ℕ) → length table ≤ cell → table ≡ set table cell figure
 put-past table cell figure h = sym (set-out table cell figure h)
 
--- x cells have their opening figure
-pub record Filling (f : Floor) (q : ℕ) (gs table₀ : List ℕ) (x : ℕ) (table : List ℕ) : Type 0 where
-  pub most : x ≤ length table₀
-  pub same : length table ≡ length table₀
-  pub so-far : table ≡ take x (openingTable f q gs) ++ drop x table₀
-
-module _ (f : Floor) (q : ℕ) (gs table₀ : List ℕ) where
-  pub filling : Filling f q gs table₀ 0 table₀
-  filling = record { most = omega arith; same = refl; so-far = refl }
-
-  length-opening : length (openingTable f q gs) ≡ size f
-  unfolding openingTable
-  length-opening = list-length (size f) (opening f q gs)
-
-  opening-at : (x : ℕ) → x < size f → getD (openingTable f q gs) x 0 ≡ opening f q gs x
-  unfolding openingTable
-  opening-at x h = list-at (size f) (opening f q gs) x 0 h
-
-  module _ (x : ℕ) (table : List ℕ) (g : Filling f q gs table₀ x table) (n : length table₀ ≡ size f) where
-    pub filling-more : (v : ℕ) → v ≡ opening f q gs x → x < length table → Filling f q gs table₀ (x + 1) (set table x v)
-    filling-more v e l =
-        let a : x < length (openingTable f q gs) = omega (arith, length-opening, g .same) in
-        let b : x < length table₀ = omega (arith, g .same) in
-        let m : length (take x (openingTable f q gs)) ≡ x = length-take-le x (openingTable f q gs) (omega arith) in
-        let w : v ≡ getD (openingTable f q gs) x 0 = e ∙ sym (opening-at x (omega arith)) in
-        record {
-          most = omega arith;
-          same = length-set table x v ∙ g .same;
-          so-far = rw (g .so-far, add-one, take-suc (openingTable f q gs) x 0, append-assoc, drop-cons table₀ x 0, set-at (take x (openingTable f q gs)) (getD table₀ x 0) (drop (suc x) table₀) v x m, w);
-        }
-
-    pub filling-all : length table ≤ x → table ≡ openingTable f q gs
-    filling-all l = g .so-far ∙ rw (take-all x (openingTable f q gs) (omega (arith, length-opening, g .same)), drop-of-length-le table₀ {i = x} (omega (arith, g .same))) (append-nil (openingTable f q gs))
-
 -- The reader's answer and table, by its verdict.
 module _ (f : Floor) (q : ℕ) (gs file table : List ℕ) (v : Verdict) (e : v ≡ readVerdict f q gs file (length table)) where
-  pub read-refused : passed v ≡ false → Reads (readVerdict f q gs file (length table)) (readTable f q gs file table) v table
+  pub read-refused : {r : Refusal} → v ≡ Vd.Refused r → Reads (readVerdict f q gs file (length table)) (readTable f q gs file table) v table
   unfolding readTable
-  read-refused h = record { answer = ap saysVerdict e; table = by v h ∙ ap (λ (u : Verdict). readOf u f q gs file table) e }
-    where
-      by : (u : Verdict) → passed u ≡ false → table ≡ readOf u f q gs file table
-      by Vd.Done h = let z : _≡_ {A = ℕ} 0 1 = cc in absurd (omega arith)
-      by (Vd.Refused r) h = refl
+  read-refused t = record { answer = ap saysVerdict e; table = ap (λ (u : Verdict). readOf u f q gs file table) (sym t ∙ e) }
 
-  pub read-done : (n : ℕ) (part filled after : List ℕ) → passed v ≡ true → filled ≡ openingTable f q gs → after ≡ applied n part filled → n ≡ countIn file → part ≡ findRecords file
-      → Reads (readVerdict f q gs file (length table)) (readTable f q gs file table) v after
+  pub read-done : (n : ℕ) (part filled after : List ℕ) → v ≡ Vd.Done → filled ≡ openingTable f q gs → after ≡ applied n part filled → n ≡ countIn file → part ≡ findRecords file
+      → Reads (readVerdict f q gs file (length table)) (readTable f q gs file table) Vd.Done after
   unfolding readTable
-  read-done n part filled after h a b c d = record {
-    answer = ap saysVerdict e;
-    table = (b ∙ λ i. applied (c i) (d i) (a i)) ∙ ap (λ (u : Verdict). readOf u f q gs file table) (sym (done-by v e h));
+  read-done n part filled after t a b c d = record {
+    answer = ap saysVerdict (sym t ∙ e);
+    table = (b ∙ λ i. applied (c i) (d i) (a i)) ∙ ap (λ (u : Verdict). readOf u f q gs file table) (sym t ∙ e);
   }

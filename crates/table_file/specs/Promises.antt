@@ -1,12 +1,10 @@
 -- What the table calls promise, and what an opened table's job is known to meet.
 use Prim.Native.Nat.{ℕ, _+_, _-_, _≤_, _<_}
 use mathlib.Core.Path.{_≡_}
-use mathlib.Core.Bool.{Bool, true, false}
 use mathlib.Core.List.{List, _++_}
 use lib.ListN.{length, take, drop}
 use Rattle.answers.specs.Says.{saysVerdict, saysWritten}
 use Rattle.answers.specs.declared.Verdict.{Verdict}
-use Rattle.answers.specs.declared.Verdict.the-variants as Vd
 use Rattle.answers.specs.declared.Written.{Written}
 use Rattle.model.specs.Basics.{choose}
 use Rattle.model.specs.Floor.{Floor, Sized, size}
@@ -17,11 +15,6 @@ pub record Opened (f : Floor) (q goal : ℕ) : Type 0 where
   pub sized : Sized f
   pub scale : q ≤ 16
   pub bench : goal < size f
-
--- whether a check has passed
-abbrev pub passed : Verdict → Bool
-passed Vd.Done = true
-passed (Vd.Refused r) = false
 
 -- bytes written over those from a place on
 abbrev pub put : ℕ → (bytes list : List ℕ) → List ℕ

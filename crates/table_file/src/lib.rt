@@ -8,11 +8,10 @@ ghost use Prim.Native.Nat.{ℕ, _+_, _*_, _%_, _≤_, _<_};
 ghost use lib.ListN.{length, drop, set};
 ghost use Rattle.answers.specs.Says.{saysVerdict};
 ghost use Rattle.model.specs.Basics.{naming};
-ghost use Rattle.model.specs.Floor.{opening, openingTable};
-ghost use Rattle.model.specs.Opening.{openTable};
+ghost use Rattle.model.specs.Floor.{opening};
 ghost use Rattle.model.specs.TableFile.{halfAt, wordAt, half, word, trailer, countIn, backIn, isLetters, trailerHolds, checkTrailer, findRecords, sameJob, recordFault, judgeRecords, applied, readVerdict, readTable, changed, recordsOf, unlike, writeVerdict, writeTable};
 ghost use Rattle.floor.specs.Moves.{flat};
-ghost use Rattle.table_file.specs.Promises.{Opened, passed, put, startOf, Reads, Writes};
+ghost use Rattle.table_file.specs.Promises.{Opened, put, startOf, Reads, Writes};
 
 // A number of 2 bytes, and one of 4, read at a place.
 fn half_at(bytes: &[u8], at: usize) -> usize
@@ -226,38 +225,6 @@ fn apply_records(part: &[u8], n: usize, table: &mut [u32])
     }
 }
 
-// Whether a check has passed.
-fn passes(v: Verdict) -> bool
-    ensures { λ r. ⌜ r ≡ passed v ⌝ }
-{
-    match v {
-        Verdict::Done => true,
-        Verdict::Refused(_) => false,
-    }
-}
-
-// 1, 3 and 4 as the table calls judge them.
-fn judge_open(
-    width: usize,
-    height: usize,
-    goal: usize,
-    q: usize,
-    floor: &[u8],
-    figures: usize,
-) -> Verdict
-    ensures { λ r. ⌜ r ≡ openTable (flat width height (now (floor .entry))) q (goal ∷ []) figures ⌝ }
-{
-    let s = checks::sizes(width, height, floor, figures);
-    if !passes(s) {
-        return s;
-    }
-    let k = checks::scale(q);
-    if !passes(k) {
-        return k;
-    }
-    checks::bench(width, height, floor, goal)
-}
-
 // The opening figure of a cell.
 fn opening_of(
     width: usize,
@@ -273,18 +240,6 @@ fn opening_of(
     floor::opening(width, height, goal, q, cell)
 }
 
-// Every cell's opening figure.
-fn fill_opening(width: usize, height: usize, goal: usize, q: usize, floor: &[u8], table: &mut [u32])
-    requires { ⌜ Opened (flat width height (now floor)) q goal ⌝ ∗ ⌜ length (now table) ≡ width * height ⌝ }
-    ensures { λ _. ⌜ now (table .exit) ≡ openingTable (flat width height (now (floor .entry))) q (goal ∷ []) ⌝ }
-{
-    let mut cell = 0;
-    while cell < table.len() {
-        table[cell] = opening_of(width, height, goal, q, floor, cell) as u32;
-        cell += 1;
-    }
-}
-
 // 1, 3, 4, then 13, 14 and 15.
 fn judge_read(
     width: usize,
@@ -297,17 +252,17 @@ fn judge_read(
 ) -> Verdict
     ensures { λ r. ⌜ r ≡ readVerdict (flat width height (now (floor .entry))) q (goal ∷ []) (now (file .entry)) figures ⌝ }
 {
-    let o = judge_open(width, height, goal, q, floor, figures);
-    if !passes(o) {
-        return o;
-    }
+    let v = opening::open_table(width, height, goal, q, floor, figures);
+    let Verdict::Done = v else {
+        return v;
+    };
     if !trailer_holds(file) {
         return checks::refuse(13);
     }
-    let j = same_job(width, height, goal, q, file);
-    if !passes(j) {
-        return j;
-    }
+    let v = same_job(width, height, goal, q, file);
+    let Verdict::Done = v else {
+        return v;
+    };
     let n = count_in(file);
     judge_records(width, height, goal, q, floor, find_records(file), n)
 }
@@ -326,13 +281,13 @@ pub fn read_table(
         (readTable (flat width height (now (floor .entry))) q (goal ∷ []) (now (file .entry)) (now (table .entry))) r (now (table .exit)) ⌝ }
 {
     let v = judge_read(width, height, goal, q, floor, file, table.len());
-    if !passes(v) {
+    let Verdict::Done = v else {
         return v;
-    }
-    fill_opening(width, height, goal, q, floor, table);
+    };
+    opening::fill_figures(width, height, goal, q, table);
     let n = count_in(file);
     apply_records(find_records(file), n, table);
-    v
+    Verdict::Done
 }
 
 // Whether a free cell is below its opening figure, or a blocked one unlike it.
@@ -495,18 +450,18 @@ fn judge_write(
 ) -> Verdict
     ensures { λ r. ⌜ r ≡ writeVerdict (flat width height (now (floor .entry))) q (goal ∷ []) (now (table .entry)) room ⌝ }
 {
-    let o = judge_open(width, height, goal, q, floor, table.len());
-    if !passes(o) {
-        return o;
-    }
-    let c = checks::figures(table);
-    if !passes(c) {
-        return c;
-    }
-    let u = judge_unlike(width, height, goal, q, floor, table);
-    if !passes(u) {
-        return u;
-    }
+    let v = opening::open_table(width, height, goal, q, floor, table.len());
+    let Verdict::Done = v else {
+        return v;
+    };
+    let v = checks::figures(table);
+    let Verdict::Done = v else {
+        return v;
+    };
+    let v = judge_unlike(width, height, goal, q, floor, table);
+    let Verdict::Done = v else {
+        return v;
+    };
     // Room for a record of every cell needs no count.
     if 16 + 6 * table.len() <= room {
         return Verdict::Done;

@@ -85,7 +85,7 @@ impl Kit {
         };
     }
 
-    fn opening_table(&self) -> Vec<u32> {
+    pub fn opening_table(&self) -> Vec<u32> {
         (0..self.cells()).map(|cell| self.opening_figure(cell)).collect()
     }
 

@@ -4,13 +4,11 @@ use Prim.Native.Nat.{ℕ, _+_, _-_, _*_, _/_, _%_, _<_, min}
 use native.Mathlib.Omega.{arith}
 use native.Mathlib.Nat.{mod-lt, mul-le-mul}
 use borrow.Author.Needs.{needs}
-use Rattle.model.specs.Floor.{apart, octile, opening}
+use Rattle.model.specs.Floor.{octile, opening}
 use Rattle.model.proofs.Cells.{row-lt}
+use Rattle.model.proofs.OpeningSound.{gap-lt}
 use Rattle.floor.proofs.opening.Statement.{statement}
 use Rattle.floor.proofs.opening.Tie as tie
-
-gap-lt : (n a b : ℕ) → a < n → b < n → apart a b < n
-gap-lt n a b p q = omega arith
 
 min-lt : (n a b : ℕ) → a < n → min a b < n
 min-lt n a b p = omega arith

@@ -1,7 +1,7 @@
 -- `table_file::opening_of` meets its contract: an opening figure is within the ceiling.
 -- Assumes nothing.
 use Rattle.floor.specs.Moves.{flat}
-use Rattle.model.proofs.Figures.{opening-within}
+use Rattle.model.proofs.OpeningSound.{opening-within}
 use borrow.Author.Needs.{needs}
 use native.Mathlib.Omega.{arith}
 use Rattle.table_file.proofs.opening_of.Statement.{statement}
