@@ -1,2 +1,3 @@
--- Laws of one move as code finds it.
+-- Laws of one move: Stepping as it is worked out, Steps as code above knows it.
+pub mod Stepping
 pub mod Steps

@@ -1,10 +1,12 @@
 // The floor: one move with its cost, whether a cell is free, and the opening figure of a cell.
 ghost use mathlib.Core.Path.{_≡_};
+ghost use mathlib.Core.Bool.{true};
 ghost use mathlib.Core.List.{List, [], _∷_};
 ghost use Prim.Native.Nat.{ℕ, _<_, _≤_, _*_, min};
 ghost use Rattle.model.specs.Floor.{Sized, free, apart};
 ghost use Rattle.model.specs.Floor as model;
-ghost use Rattle.floor.specs.Moves.{flat, Placed, stepOf};
+ghost use Rattle.model.proofs.Moves.{toll};
+ghost use Rattle.floor.specs.Moves.{flat, Inner, Spotted, Placed, Off, stepOf};
 
 // What a move leads to: the cell moved into and what the move costs, or nothing that may be moved into.
 pub enum Step {
@@ -12,12 +14,12 @@ pub enum Step {
     Wall,
 }
 
-// How far each move goes east and south, counted so that 1 is not at all.
-const EAST: [usize; 8] = [1, 2, 2, 2, 1, 0, 0, 0];
-
-const SOUTH: [usize; 8] = [0, 0, 1, 2, 2, 2, 1, 0];
-
-const COST: [u16; 8] = [10, 14, 10, 14, 10, 14, 10, 14];
+// Where a cell stands: its column and its row. Of an inner cell it is known that no move leads off the floor.
+pub struct Spot {
+    pub col: usize,
+    pub row: usize,
+    pub inner: bool,
+}
 
 // The same number in more bits.
 pub fn wide8(x: u8) -> usize
@@ -49,40 +51,109 @@ pub fn is_free(width: usize, height: usize, floor: &[u8], cell: usize) -> bool
     floor[cell] == 0
 }
 
-// The move m from a free cell whose column and row are at hand.
-pub fn step_from(
-    width: usize,
-    height: usize,
-    floor: &[u8],
-    cell: usize,
-    col: usize,
-    row: usize,
-    m: usize,
-) -> Step
-    requires { ⌜ Sized (flat width height (now floor)) ⌝ ∗ ⌜ Placed (flat width height (now floor)) cell col row ⌝ ∗ ⌜ m < 8 ⌝ }
-    ensures { λ r. ⌜ r ≡ stepOf (flat width height (now (floor .entry))) cell m ⌝ }
+// How far the move m goes east, counted so that 1 is not at all.
+fn east(m: usize) -> usize
+    requires { ⌜ m < 8 ⌝ }
+    ensures { λ r. ⌜ r ≡ model.east m ⌝ }
 {
-    let x = col + EAST[m];
-    let y = row + SOUTH[m];
+    if m % 4 == 0 {
+        return 1;
+    }
+    if m < 4 { 2 } else { 0 }
+}
+
+// How far the move m goes south, counted in the same way.
+fn south(m: usize) -> usize
+    requires { ⌜ m < 8 ⌝ }
+    ensures { λ r. ⌜ r ≡ model.south m ⌝ }
+{
+    if m % 4 == 2 {
+        return 1;
+    }
+    if m < 2 {
+        return 0;
+    }
+    if m < 6 { 2 } else { 0 }
+}
+
+// What the move m costs.
+fn toll(m: usize) -> u16
+    requires { ⌜ m < 8 ⌝ }
+    ensures { λ r. ⌜ r ≡ toll m ⌝ }
+{
+    if m % 2 == 0 { 10 } else { 14 }
+}
+
+// Whether no move leads off the floor from a cell at this column and row.
+fn is_inner(width: usize, height: usize, col: usize, row: usize) -> bool
+    requires { ⌜ (col < 4096) × (row < 4096) ⌝ }
+    ensures { λ r. ⌜ (r ≡ true → Inner width height col row) ⌝ }
+{
+    if col == 0 {
+        return false;
+    }
+    if row == 0 {
+        return false;
+    }
+    if width <= col + 1 {
+        return false;
+    }
+    row + 1 < height
+}
+
+// Where a cell stands.
+pub fn spot_of(width: usize, height: usize, cell: usize) -> Spot
+    requires { ⌜ (1 ≤ width) × (cell < 4096) ⌝ }
+    ensures { λ r. ⌜ ((bytes : List ℕ) → Spotted (flat width height bytes) cell r) ⌝ }
+{
+    let col = cell % width;
+    let row = cell / width;
+    let inner = is_inner(width, height, col, row);
+    Spot {
+        col: col,
+        row: row,
+        inner: inner,
+    }
+}
+
+// Whether the move m leads off the floor.
+fn leads_off(width: usize, height: usize, at: Spot, m: usize) -> bool
+    requires { ⌜ (at .inner ≡ true → Inner width height (at .col) (at .row)) ⌝ ∗ ⌜ (at .col < 4096) × (at .row < 4096) × (m < 8) ⌝ }
+    ensures { λ r. ⌜ Off width height (at .col) (at .row) m r ⌝ }
+{
+    if at.inner {
+        return false;
+    }
+    let x = at.col + east(m);
+    let y = at.row + south(m);
     if x == 0 {
-        return Step::Wall;
+        return true;
     }
     if width < x {
-        return Step::Wall;
+        return true;
     }
     if y == 0 {
+        return true;
+    }
+    height < y
+}
+
+// The move m from a free cell that stands there.
+pub fn step_from(width: usize, height: usize, floor: &[u8], cell: usize, at: Spot, m: usize) -> Step
+    requires { ⌜ Sized (flat width height (now floor)) ⌝ ∗ ⌜ Placed (flat width height (now floor)) cell at ⌝ ∗ ⌜ m < 8 ⌝ }
+    ensures { λ r. ⌜ r ≡ stepOf (flat width height (now (floor .entry))) cell m ⌝ }
+{
+    if leads_off(width, height, at, m) {
         return Step::Wall;
     }
-    if height < y {
-        return Step::Wall;
-    }
-    let to = (y - 1) * width + (x - 1);
+    let to = cell + south(m) * width + east(m) - (width + 1);
     if floor[to] != 0 {
         return Step::Wall;
     }
+    let cost = toll(m);
     Step::To {
         cell: to,
-        cost: COST[m],
+        cost: cost,
     }
 }
 

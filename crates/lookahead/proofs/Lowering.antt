@@ -16,9 +16,9 @@ use Rattle.model.specs.Floor.{Floor, Sized, price}
 use Rattle.model.specs.Grounds.{price-same}
 use Rattle.floor.specs.declared.Step.the-variants.{To, Wall}
 use Rattle.floor.specs.Moves.{stepOf}
-use Rattle.floor.proofs.Steps.{free-few, price-step, wall≢to, same-to}
+use Rattle.floor.proofs.Steps.{free-few, stepped, price-step, wall≢to, same-to}
 use Rattle.lookahead.specs.Marks.{net, In}
-use Rattle.lookahead.specs.Costs.{total, at, noteAt, Costs, Walked, Under, Followed, Eased, Easing, Lowered, Lower, Listing, Noted, Again, Passed, Relaxed}
+use Rattle.lookahead.specs.Costs.{total, at, noteAt, Costs, Walked, Under, Followed, Eased, Easing, Lowered, Lower, Listing, Noted, Topmost, Again, Passed, Relaxed}
 use Rattle.lookahead.proofs.Stores.{by-store, set-self}
 use Rattle.lookahead.proofs.Grow.{edge-back}
 
@@ -144,6 +144,16 @@ module _ (f : Floor) (base : ℕ) (mark : List ℕ) where
       so = rw e (p .so .1);
     };
     calm = λ z. rw e (omega (arith, own));
+  }
+
+  -- where every cost is at most 10 above its own, following them lowers nothing
+  pub again-topped : Sized f → (i c w high : ℕ) (cost list : List ℕ) (b : Bool) → Costs f base mark cost → getD list i 0 ≡ c → at cost c ≡ w → Topmost base mark cost high
+      → high ≤ w + 10 → Again f base mark i cost list b cost (set list (i + 4096) w) b
+  again-topped z i c w high cost list b C e own top l = record {
+    note = w;
+    noted = refl;
+    lowered = lowered-none (Followed f base mark (getD list i 0) 8 w) cost b C (λ m h d v s t. omega (arith, top d t, l, stepped f z (getD list i 0) m d v s .least));
+    calm = λ y. rw e (omega (arith, own));
   }
 
   -- a cost is noted beside the list's i-th cell

@@ -7,6 +7,7 @@ use Prim.Native.Nat.{ℕ, _+_, _≤_, _<_}
 use lib.ListN.{length, getD, set}
 use Rattle.learning.specs.Walk.{Least, Leads}
 use Rattle.model.specs.Floor.{Floor, free}
+use Rattle.floor.specs.declared.Spot.{Spot}
 use Rattle.floor.specs.declared.Step.the-variants.{To}
 use Rattle.floor.specs.Moves.{Placed, stepOf}
 use Rattle.lookahead.specs.Marks.{net, In}
@@ -59,10 +60,10 @@ pub record Lower (d v : ℕ) (b : Bool) (cost cost′ : List ℕ) (b′ : Bool) 
   pub new : v < at cost d → (cost′ ≡ set cost d v) × (b′ ≡ true)
   pub old : at cost d ≤ v → (cost′ ≡ cost) × (b′ ≡ b)
 
--- a cell of the window, at its column and row
-pub record Cell (f : Floor) (base c col line : ℕ) (mark : List ℕ) : Type 0 where
+-- a cell of the window, where it stands
+pub record Cell (f : Floor) (base c : ℕ) (at : Spot) (mark : List ℕ) : Type 0 where
   pub marked : In base mark c
-  pub placed : Placed f c col line
+  pub placed : Placed f c at
 
 -- the list's first n places hold the window's cells
 pub record Listing (base : ℕ) (mark list : List ℕ) (n : ℕ) : Type 0 where
@@ -85,6 +86,14 @@ pub record Again (f : Floor) (base : ℕ) (mark : List ℕ) (i : ℕ) (cost list
   pub noted : list′ ≡ set list (i + 4096) note
   pub lowered : Lowered f base mark (Followed f base mark (getD list i 0) 8 note) cost b cost′ b′
   pub calm : b′ ≡ false → note ≤ at cost (getD list i 0)
+
+-- no cost of the first i cells of the list is above high
+abbrev pub Highest : (cost list : List ℕ) → (i high : ℕ) → Type 0
+Highest cost list i high = (j : ℕ) → j < i → at cost (getD list j 0) ≤ high
+
+-- no cost of the window is above high
+abbrev pub Topmost : (base : ℕ) → (mark cost : List ℕ) → (high : ℕ) → Type 0
+Topmost base mark cost high = (x : ℕ) → In base mark x → at cost x ≤ high
 
 -- so are those of the first i of n cells
 pub record Passed (f : Floor) (base : ℕ) (mark : List ℕ) (n i : ℕ) (cost cost′ list′ : List ℕ) (b′ : Bool) : Type 0 where

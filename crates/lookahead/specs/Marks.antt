@@ -11,6 +11,7 @@ use Rattle.learning.specs.Walk.{Network, Walk, Leads}
 use Rattle.learning.specs.Ground.{netOf}
 use Rattle.model.specs.Floor.{Floor, free}
 use Rattle.model.specs.Grounds.{groundOf}
+use Rattle.floor.specs.declared.Spot.{Spot}
 use Rattle.floor.specs.declared.Step.the-variants.{To}
 use Rattle.floor.specs.Moves.{Placed, stepOf}
 
@@ -109,9 +110,9 @@ pub record Ring (base k : ℕ) : Type 0 where
   pub last : k ≤ base + 7
   pub room : base ≤ 4294967279
 
--- the cell c of mark k and cost w, at its column and row
-pub record Leaving (f : Floor) (base c col line k w : ℕ) (S : State) : Type 0 where
-  pub placed : Placed f c col line
+-- the cell c of mark k and cost w, where it stands
+pub record Leaving (f : Floor) (base c : ℕ) (at : Spot) (k w : ℕ) (S : State) : Type 0 where
+  pub placed : Placed f c at
   pub ring : Ring base k
   pub marked : markOf S c ≡ k
   pub costs : costAt S c ≡ w

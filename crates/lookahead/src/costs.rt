@@ -2,12 +2,13 @@
 // Only the moves of a cell whose cost fell since they were followed need to be followed again; the list says at which cost that was.
 ghost use mathlib.Core.Path.{_≡_};
 ghost use mathlib.Core.Bool.{false};
-ghost use Prim.Native.Nat.{_<_};
+ghost use Prim.Native.Nat.{ℕ, _<_, max};
 ghost use lib.ListN.{length, getD};
 ghost use Rattle.model.specs.Floor.{Sized};
 ghost use Rattle.floor.specs.Moves.{flat};
 ghost use Rattle.lookahead.specs.Marks.{In};
-ghost use Rattle.lookahead.specs.Costs.{at, noteAt, Costs, Lower, Lowered, Cell, Eased, Easing, Followed, Listing, Noted, Again, Passed, Relaxed};
+ghost use Rattle.lookahead.specs.Costs.{at, noteAt, Costs, Lower, Lowered, Cell, Eased, Easing, Followed, Listing, Noted, Topmost, Again, Passed, Relaxed};
+use floor::Spot;
 use floor::Step;
 
 // The cell d gets the cost v if that is lower; whether a cost was lowered, here or before.
@@ -31,18 +32,17 @@ fn ease(
     mark: &[u32],
     cost: &mut [u16],
     c: usize,
-    col: usize,
-    row: usize,
+    spot: Spot,
     m: usize,
     w: u16,
     changed: bool,
 ) -> bool
     requires { ⌜ Sized (flat width height (now floor)) ⌝ ∗ ⌜ Costs (flat width height (now floor)) base (now mark) (now cost) ⌝
-        ∗ ⌜ Cell (flat width height (now floor)) base c col row (now mark) ⌝ ∗ ⌜ (m < 8) × (at (now cost) c ≡ w) ⌝ }
+        ∗ ⌜ Cell (flat width height (now floor)) base c spot (now mark) ⌝ ∗ ⌜ (m < 8) × (at (now cost) c ≡ w) ⌝ }
     ensures { λ r. ⌜ Lowered (flat width height (now (floor .entry))) base (now (mark .entry))
         (Eased (flat width height (now (floor .entry))) base (now (mark .entry)) c m w) (now (cost .entry)) changed (now (cost .exit)) r ⌝ }
 {
-    match floor::step_from(width, height, floor, c, col, row, m) {
+    match floor::step_from(width, height, floor, c, spot, m) {
         Step::To { cell, cost: v } => {
             if mark[cell] < base {
                 return changed;
@@ -71,31 +71,18 @@ fn ease_cell(
     ensures { λ r. ⌜ Lowered (flat width height (now (floor .entry))) base (now (mark .entry))
         (Easing (flat width height (now (floor .entry))) base (now (mark .entry)) c 8 w) (now (cost .entry)) changed (now (cost .exit)) r ⌝ }
 {
-    let col = c % width;
-    let row = c / width;
+    let spot = floor::spot_of(width, height, c);
     let mut any = changed;
     let mut m = 0;
     while m < 8 {
-        any = ease(
-            width,
-            height,
-            floor,
-            base,
-            mark,
-            cost,
-            c,
-            col,
-            row,
-            m,
-            w,
-            any,
-        );
+        any = ease(width, height, floor, base, mark, cost, c, spot, m, w, any);
         m += 1;
     }
     any
 }
 
-// The moves of the list's i-th cell are followed, if its cost fell since they were.
+// The moves of the list's i-th cell are followed, if its cost fell since they were. Where no cost is above `high`, a move from a cell that costs
+// 10 less than that, or more, lowers none.
 fn ease_again(
     width: usize,
     height: usize,
@@ -105,10 +92,11 @@ fn ease_again(
     cost: &mut [u16],
     list: &mut [u16],
     i: usize,
+    high: u16,
     changed: bool,
 ) -> bool
     requires { ⌜ Sized (flat width height (now floor)) ⌝ ∗ ⌜ Costs (flat width height (now floor)) base (now mark) (now cost) ⌝
-        ∗ ⌜ (length (now list) ≡ 8192) × (i < 4096) × In base (now mark) (getD (now list) i 0) ⌝
+        ∗ ⌜ (length (now list) ≡ 8192) × (i < 4096) × In base (now mark) (getD (now list) i 0) ⌝ ∗ ⌜ Topmost base (now mark) (now cost) high ⌝
         ∗ ⌜ Followed (flat width height (now floor)) base (now mark) (getD (now list) i 0) 8 (noteAt (now list) i) (now cost) ⌝ }
     ensures { λ r. ⌜ Again (flat width height (now (floor .entry))) base (now (mark .entry)) i
         (now (cost .entry)) (now (list .entry)) changed (now (cost .exit)) (now (list .exit)) r ⌝ }
@@ -119,6 +107,9 @@ fn ease_again(
         return changed;
     }
     list[i + 4096] = w;
+    if high <= w + 10 {
+        return changed;
+    }
     ease_cell(width, height, floor, base, mark, cost, c, w, changed)
 }
 
@@ -132,19 +123,42 @@ fn pass(
     cost: &mut [u16],
     list: &mut [u16],
     n: usize,
+    high: u16,
 ) -> bool
     requires { ⌜ Sized (flat width height (now floor)) ⌝ ∗ ⌜ Costs (flat width height (now floor)) base (now mark) (now cost) ⌝
-        ∗ ⌜ Listing base (now mark) (now list) n ⌝ ∗ ⌜ Noted (flat width height (now floor)) base (now mark) (now list) n (now cost) ⌝ }
+        ∗ ⌜ Listing base (now mark) (now list) n ⌝ ∗ ⌜ Noted (flat width height (now floor)) base (now mark) (now list) n (now cost) ⌝
+        ∗ ⌜ Topmost base (now mark) (now cost) high ⌝ }
     ensures { λ r. ⌜ Passed (flat width height (now (floor .entry))) base (now (mark .entry)) n n
         (now (cost .entry)) (now (cost .exit)) (now (list .exit)) r ⌝ }
 {
     let mut any = false;
     let mut i = 0;
     while i < n {
-        any = ease_again(width, height, floor, base, mark, cost, list, i, any);
+        any = ease_again(width, height, floor, base, mark, cost, list, i, high, any);
         i += 1;
     }
     any
+}
+
+fn larger(a: u16, b: u16) -> u16
+    ensures { λ r. ⌜ r ≡ max a b ⌝ }
+{
+    if a < b { b } else { a }
+}
+
+// The greatest cost of the window's n cells.
+fn highest(base: u32, mark: &[u32], cost: &[u16], list: &[u16], n: usize) -> u16
+    requires { ⌜ Listing base (now mark) (now list) n ⌝ ∗ ⌜ (length (now cost) ≡ 4096) × ((x : ℕ) → In base (now mark) x → x < 4096) ⌝ }
+    ensures { λ r. ⌜ Topmost base (now (mark .entry)) (now (cost .entry)) r ⌝ }
+{
+    let mut high = 0;
+    let mut i = 0;
+    while i < n {
+        let c = floor::wide16(list[i]);
+        high = larger(high, cost[c]);
+        i += 1;
+    }
+    high
 }
 
 // Passes over the window until no cost is lowered.
@@ -162,5 +176,6 @@ pub(crate) fn relax(
         ∗ ⌜ Listing base (now mark) (now list) n ⌝ ∗ ⌜ Noted (flat width height (now floor)) base (now mark) (now list) n (now cost) ⌝ }
     ensures { λ _. ⌜ Relaxed (flat width height (now (floor .entry))) base (now (mark .entry)) n (now (cost .entry)) (now (cost .exit)) (now (list .exit)) ⌝ }
 {
-    while pass(width, height, floor, base, mark, cost, list, n) {}
+    let high = highest(base, mark, cost, list, n);
+    while pass(width, height, floor, base, mark, cost, list, n, high) {}
 }

@@ -10,6 +10,7 @@ ghost use Rattle.lookahead.specs.Contract.{Fresh};
 ghost use Rattle.lookahead.specs.Marks.{state, begun, Sizes, Room, Reached, Leaving, Extended, Open, Left, Segment, Swept};
 ghost use Rattle.lookahead.specs.Rings.{Rings};
 use super::Around;
+use floor::Spot;
 use floor::Step;
 
 // The cell d is reached at the cost v. With no mark yet it gets the mark k and goes into the list; with one its cost is lowered, if v is lower.
@@ -51,18 +52,17 @@ fn extend(
     list: &mut [u16],
     n: usize,
     c: usize,
-    col: usize,
-    row: usize,
+    spot: Spot,
     m: usize,
     k: u32,
     w: u16,
 ) -> usize
     requires { ⌜ Sized (flat width height (now floor)) ⌝ ∗ ⌜ Room (flat width height (now floor)) base (state (now mark) (now cost) (now list) n) ⌝
-        ∗ ⌜ Leaving (flat width height (now floor)) base c col row k w (state (now mark) (now cost) (now list) n) ⌝ ∗ ⌜ m < 8 ⌝ }
+        ∗ ⌜ Leaving (flat width height (now floor)) base c spot k w (state (now mark) (now cost) (now list) n) ⌝ ∗ ⌜ m < 8 ⌝ }
     ensures { λ r. ⌜ Extended (flat width height (now (floor .entry))) base k c m w (state (now (mark .entry)) (now (cost .entry)) (now (list .entry)) n)
         (state (now (mark .exit)) (now (cost .exit)) (now (list .exit)) r) ⌝ }
 {
-    match floor::step_from(width, height, floor, c, col, row, m) {
+    match floor::step_from(width, height, floor, c, spot, m) {
         Step::To { cell, cost: v } => {
             let sum = w + v;
             reach(base, mark, cost, list, n, cell, k + 1, sum)
@@ -90,8 +90,7 @@ fn visit(
     ensures { λ r. ⌜ Left (flat width height (now (floor .entry))) base k c 8 w (state (now (mark .entry)) (now (cost .entry)) (now (list .entry)) n)
         (state (now (mark .exit)) (now (cost .exit)) (now (list .exit)) r) ⌝ }
 {
-    let col = c % width;
-    let row = c / width;
+    let spot = floor::spot_of(width, height, c);
     let mut end = n;
     let mut m = 0;
     while m < 8 {
@@ -105,8 +104,7 @@ fn visit(
             list,
             end,
             c,
-            col,
-            row,
+            spot,
             m,
             k,
             w,

@@ -10,6 +10,7 @@ ghost use Rattle.lookahead.specs.Costs.{Costs, Cell};
 ghost use Rattle.lookahead.specs.Way.{Before, Linked, Prior};
 use super::Link;
 use answers::Job;
+use floor::Spot;
 use floor::Step;
 
 // The cell that the move j leads to from x, if it is a cell before x and lower.
@@ -21,16 +22,15 @@ fn consider(
     mark: &[u32],
     cost: &[u16],
     x: usize,
-    col: usize,
-    row: usize,
+    spot: Spot,
     j: usize,
     b: Link,
 ) -> Link
     requires { ⌜ Sized (flat width height (now floor)) ⌝ ∗ ⌜ Costs (flat width height (now floor)) base (now mark) (now cost) ⌝
-        ∗ ⌜ Cell (flat width height (now floor)) base x col row (now mark) ⌝ ∗ ⌜ j < 8 ⌝ ∗ ⌜ Linked (flat width height (now floor)) base (now mark) (now cost) x j b ⌝ }
+        ∗ ⌜ Cell (flat width height (now floor)) base x spot (now mark) ⌝ ∗ ⌜ j < 8 ⌝ ∗ ⌜ Linked (flat width height (now floor)) base (now mark) (now cost) x j b ⌝ }
     ensures { λ r. ⌜ Linked (flat width height (now (floor .entry))) base (now (mark .entry)) (now (cost .entry)) x (j + 1) r ⌝ }
 {
-    match floor::step_from(width, height, floor, x, col, row, j) {
+    match floor::step_from(width, height, floor, x, spot, j) {
         Step::To { cell, cost: v } => {
             if mark[cell] < base {
                 return b;
@@ -65,12 +65,11 @@ fn back(
         ∗ ⌜ ((y : ℕ) × Before (flat width height (now floor)) base (now mark) (now cost) x y) ⌝ }
     ensures { λ r. ⌜ Prior (flat width height (now (floor .entry))) base (now (mark .entry)) (now (cost .entry)) x r ⌝ }
 {
-    let col = x % width;
-    let row = x / width;
+    let spot = floor::spot_of(width, height, x);
     let mut b = Link { cell: 4096, m: 0 };
     let mut j = 0;
     while j < 8 {
-        b = consider(width, height, floor, base, mark, cost, x, col, row, j, b);
+        b = consider(width, height, floor, base, mark, cost, x, spot, j, b);
         j += 1;
     }
     b

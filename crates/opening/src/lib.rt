@@ -50,12 +50,11 @@ fn best_from(width: usize, height: usize, floor: &[u8], dist: &[u32], cell: usiz
     requires { ⌜ Sized (flat width height (now floor)) × Spread (flat width height (now floor)) (now dist) × (free (flat width height (now floor)) cell ≡ true) ⌝ }
     ensures { λ r. ⌜ Best (flat width height (now (floor .entry))) (now (dist .entry)) cell r ⌝ }
 {
-    let col = cell % width;
-    let row = cell / width;
+    let spot = floor::spot_of(width, height, cell);
     let mut best = dist[cell];
     let mut m = 0;
     while m < 8 {
-        let step = floor::step_from(width, height, floor, cell, col, row, m);
+        let step = floor::step_from(width, height, floor, cell, spot, m);
         best = through(step, dist, best);
         m += 1;
     }

@@ -1,9 +1,9 @@
 -- `lookahead::costs::ease_cell` meets its contract. The loop's invariant: the first m moves have lowered what they can.
 -- Assumes nothing.
 use Prim.Native.Nat.{_-_, _≤_}
-use mathlib.Core.Path.{_≡_, refl, sym, _∙_, subst}
+use mathlib.Core.Path.{_≡_, sym, _∙_, subst}
 use native.Mathlib.Omega.{arith}
-use borrow.Author.Needs.{needs}
+use Rattle.floor.proofs.Steps.{free-few}
 use Rattle.floor.specs.Moves.{flat}
 use Rattle.lookahead.proofs.Lowering.{lowered-none, eased-more}
 use Rattle.lookahead.specs.Costs.{Lowered, Easing}
@@ -11,27 +11,25 @@ use Rattle.lookahead.proofs.costs.ease_cell.Statement.{statement}
 use Rattle.lookahead.proofs.costs.ease_cell.Tie as tie
 
 abbrev Inv-loop : tie.InvT-loop
-Inv-loop width height floor base mark cost₀ c w changed col row any₀ m₀ cost any m =
+Inv-loop width height floor base mark cost₀ c w changed spot any₀ m₀ cost any m =
     (m ≤ 8) × Lowered (flat width height floor) base mark (Easing (flat width height floor) base mark c m w) cost₀ changed cost any
 
 abbrev μ-loop : tie.MeasureT-loop
-μ-loop width height floor base mark cost₀ c w changed col row any₀ m₀ cost any m = 8 - m
+μ-loop width height floor base mark cost₀ c w changed spot any₀ m₀ cost any m = 8 - m
 
-rem-col : tie.Need-rem-col Inv-loop μ-loop
-rem-col c = search needs
-
-div-row : tie.Need-div-row Inv-loop μ-loop
-div-row c = search needs
+spot-of-requires : tie.Need-spot-of-requires Inv-loop μ-loop
+spot-of-requires c κs = let a = c .before .before .before in (a .pre .0 .wide, free-few (flat (a .args .width) (a .args .height) (a .args .floor .now)) (a .args .c) (a .pre .0) (a .pre .1 .0 .free (a .args .c) (a .pre .1 .1 .0)))
 
 loop-holds : tie.Need-loop-holds Inv-loop μ-loop
 loop-holds c =
-    let a = c .before .before .before in
+    let a = c .before .before .before .before in
     (omega arith, lowered-none (flat (a .args .width) (a .args .height) (a .args .floor .now)) (a .args .base) (a .args .mark .now) (Easing (flat (a .args .width) (a .args .height) (a .args .floor .now)) (a .args .base) (a .args .mark .now) (a .args .c) 0 (a .args .w)) (a .args .cost .now) (a .args .changed) (a .pre .1 .0) (a .pre .1 .1 .1, λ i l. absurd (omega arith)))
 
 ease-requires : tie.Need-ease-requires Inv-loop μ-loop
 ease-requires c κs =
-    let a = c .before .before .before .before .before .before in
-    (a .pre .0, (c .before .before .loop .inv .1 .costs, (record { marked = a .pre .1 .1 .0; placed = record { free = a .pre .1 .0 .free (a .args .c) (a .pre .1 .1 .0); column = refl; row = refl } }, (omega arith, c .before .before .loop .inv .1 .so .0))))
+    let a = c .before .before .before .before .before .before .before in
+    let l = c .before .before .loop .inv .1 in
+    (a .pre .0, (l .costs, (record { marked = a .pre .1 .1 .0; placed = record { free = a .pre .1 .0 .free (a .args .c) (a .pre .1 .1 .0); spot = c .before .before .before .spot-of .ensures _ } }, (omega arith, l .so .0))))
 
 add-m : tie.Need-add-m Inv-loop μ-loop
 add-m c = omega arith
@@ -41,19 +39,19 @@ loop-less c = omega arith
 
 loop-again : tie.Need-loop-again Inv-loop μ-loop
 loop-again c =
-    let a = c .before .before .before .before .before .before .before .before .before .args in
+    let a = c .before .before .before .before .before .before .before .before .before .before in
     let l = c .before .before .before .before .before .loop in
-    (omega arith, eased-more (flat (a .width) (a .height) (a .floor .now)) (a .base) (a .mark .now) (a .c) (l .m) (a .w) (a .cost .now) (a .changed) (l .cost) (l .any) _ _ (l .inv .1) (c .before .before .ease .ensures))
+    (omega arith, eased-more (flat (a .args .width) (a .args .height) (a .args .floor .now)) (a .args .base) (a .args .mark .now) (a .args .c) (l .m) (a .args .w) (a .args .cost .now) (a .args .changed) (l .cost) (l .any) _ _ (l .inv .1) (c .before .before .ease .ensures))
 
 same-length : tie.Need-same-length Inv-loop μ-loop
-same-length c = c .before .loop .inv .1 .costs .costs ∙ sym (c .before .before .before .before .before .pre .1 .0 .costs)
+same-length c = c .before .loop .inv .1 .costs .costs ∙ sym (c .before .before .before .before .before .before .pre .1 .0 .costs)
 
 returns : tie.Need-returns Inv-loop μ-loop
 returns c =
-    let a = c .before .before .before .before .before .args in
+    let a = c .before .before .before .before .before .before in
     let l = c .before .loop in
     let e : l .m ≡ 8 = omega arith in
-    subst (λ z. Lowered (flat (a .width) (a .height) (a .floor .now)) (a .base) (a .mark .now) (Easing (flat (a .width) (a .height) (a .floor .now)) (a .base) (a .mark .now) (a .c) z (a .w)) (a .cost .now) (a .changed) (l .cost) (l .any)) e (l .inv .1)
+    subst (λ z. Lowered (flat (a .args .width) (a .args .height) (a .args .floor .now)) (a .args .base) (a .args .mark .now) (Easing (flat (a .args .width) (a .args .height) (a .args .floor .now)) (a .args .base) (a .args .mark .now) (a .args .c) z (a .args .w)) (a .args .cost .now) (a .args .changed) (l .cost) (l .any)) e (l .inv .1)
 
 pub ease-cell-spec : {M : Type 1} → statement M
 ease-cell-spec =
@@ -61,8 +59,7 @@ ease-cell-spec =
     (tie.spec
     Inv-loop
     μ-loop
-    rem-col
-    div-row
+    spot-of-requires
     loop-holds
     ease-requires
     add-m

@@ -10,23 +10,23 @@ use Rattle.lookahead.proofs.costs.pass.Statement.{statement}
 use Rattle.lookahead.proofs.costs.pass.Tie as tie
 
 abbrev Inv-loop : tie.InvT-loop
-Inv-loop width height floor base mark cost₀ list₀ n any₀ i₀ cost list any i =
+Inv-loop width height floor base mark cost₀ list₀ n high any₀ i₀ cost list any i =
     (i ≤ n) × Passed (flat width height floor) base mark n i cost₀ cost list any
 
 abbrev μ-loop : tie.MeasureT-loop
-μ-loop width height floor base mark cost₀ list₀ n any₀ i₀ cost list any i = n - i
+μ-loop width height floor base mark cost₀ list₀ n high any₀ i₀ cost list any i = n - i
 
 loop-holds : tie.Need-loop-holds Inv-loop μ-loop
 loop-holds c =
     let a = c .before .before .before .before in
-    (omega arith, passed-none (flat (a .args .width) (a .args .height) (a .args .floor .now)) (a .args .base) (a .args .mark .now) (a .args .list .now) (a .args .n) (a .args .cost .now) (a .pre .1 .1 .0) (a .pre .1 .0) (a .pre .1 .1 .1))
+    (omega arith, passed-none (flat (a .args .width) (a .args .height) (a .args .floor .now)) (a .args .base) (a .args .mark .now) (a .args .list .now) (a .args .n) (a .args .cost .now) (a .pre .1 .1 .0) (a .pre .1 .0) (a .pre .1 .1 .1 .0))
 
 ease-again-requires : tie.Need-ease-again-requires Inv-loop μ-loop
 ease-again-requires c κs =
     let a = c .before .before .before .before .before .before .before .before in
     let l = c .before .before .before .loop in
     let p = l .inv .1 in
-    (a .pre .0, (p .lowered .costs, ((p .listing .room, omega (arith, p .listing .fits), p .listing .early (l .i) (omega arith)), p .lowered .so (l .i) (omega arith))))
+    (a .pre .0, (p .lowered .costs, ((p .listing .room, omega (arith, p .listing .fits), p .listing .early (l .i) (omega arith)), ((λ x h. omega (arith, a .pre .1 .1 .1 .1 x h, p .lowered .drop x)), p .lowered .so (l .i) (omega arith)))))
 
 add-i : tie.Need-add-i Inv-loop μ-loop
 add-i c = omega arith
@@ -48,10 +48,10 @@ same-length-2 c = c .before .loop .inv .1 .listing .room ∙ sym (c .before .bef
 
 returns : tie.Need-returns Inv-loop μ-loop
 returns c =
-    let a = c .before .before .before .before .before .before .args in
+    let a = c .before .before .before .before .before .before in
     let l = c .before .loop in
-    let e : l .i ≡ a .n = omega arith in
-    subst (λ z. Passed (flat (a .width) (a .height) (a .floor .now)) (a .base) (a .mark .now) (a .n) z (a .cost .now) (l .cost) (l .list) (l .any)) e (l .inv .1)
+    let e : l .i ≡ a .args .n = omega arith in
+    subst (λ z. Passed (flat (a .args .width) (a .args .height) (a .args .floor .now)) (a .args .base) (a .args .mark .now) (a .args .n) z (a .args .cost .now) (l .cost) (l .list) (l .any)) e (l .inv .1)
 
 pub pass-spec : {M : Type 1} → statement M
 pass-spec =

@@ -4,53 +4,70 @@
 use Prim.Native.Nat.{ℕ, _≤_}
 use mathlib.Core.Path.{sym, _∙_}
 use native.Mathlib.Omega.{arith}
+use Rattle.floor.proofs.Steps.{free-few}
 use Rattle.floor.specs.Moves.{flat}
 use Rattle.lookahead.proofs.Lowering.{relaxed, turned}
-use Rattle.lookahead.specs.Costs.{Costs, Walked, Listing, Noted, total, at}
+use Rattle.lookahead.specs.Costs.{Costs, Walked, Listing, Noted, Topmost, total, at}
 use Rattle.lookahead.proofs.costs.relax.Statement.{statement}
 use Rattle.lookahead.proofs.costs.relax.Tie as tie
 
 abbrev Inv-loop : tie.InvT-loop
-Inv-loop width height floor base mark cost₀ list₀ n cost list =
+Inv-loop width height floor base mark cost₀ list₀ n high cost list =
     Costs (flat width height floor) base mark cost
     × ((s : ℕ) → Walked (flat width height floor) s base mark cost₀ → Walked (flat width height floor) s base mark cost)
     × ((x : ℕ) → at cost x ≤ at cost₀ x)
     × Listing base mark list n
     × Noted (flat width height floor) base mark list n cost
+    × Topmost base mark cost high
 
 abbrev μ-loop : tie.MeasureT-loop
-μ-loop width height floor base mark cost₀ list₀ n cost list = total cost
+μ-loop width height floor base mark cost₀ list₀ n high cost list = total cost
+
+highest-requires : tie.Need-highest-requires Inv-loop μ-loop
+highest-requires c κs =
+    let a = c .before .before .before .before .before .before in
+    (a .pre .1 .1 .0, (a .pre .1 .0 .costs, λ x h. free-few (flat (a .args .width) (a .args .height) (a .args .floor .now)) x (a .pre .0) (a .pre .1 .0 .free x h)))
 
 loop-holds : tie.Need-loop-holds Inv-loop μ-loop
-loop-holds c = let p = c .before .before .before .before .pre in (p .1 .0, (λ s W. W), (λ x. omega arith), p .1 .1 .0, p .1 .1 .1)
+loop-holds c = let p = c .before .before .before .before .before .before .before .pre in (p .1 .0, (λ s W. W), (λ x. omega arith), p .1 .1 .0, p .1 .1 .1, c .highest .ensures)
 
 pass-requires : tie.Need-pass-requires Inv-loop μ-loop
-pass-requires c κs = let i = c .before .before .loop .inv in (c .before .before .before .before .before .before .before .pre .0, (i .0, (i .3, i .4)))
+pass-requires c κs = let i = c .before .before .loop .inv in (c .before .before .before .before .before .before .before .before .before .before .pre .0, (i .0, (i .3, (i .4, i .5))))
 
 loop-less : tie.Need-loop-less Inv-loop μ-loop
 loop-less c =
-    let a = c .before .before .before .before .before .before .before .before .before .before .before .before .before in
+    let a = c .before .before .before .before .before .before .before .before .before .before .before .before .before .before .before .before in
     turned (flat (a .args .width) (a .args .height) (a .args .floor .now)) (a .args .base) (a .args .mark .now) _ _ _ _ (c .before .before .before .before .before .pass .ensures .lowered) (c .if1 .taken)
 
 loop-again : tie.Need-loop-again Inv-loop μ-loop
 loop-again c =
     let i = c .before .before .before .before .before .before .before .before .loop .inv in
     let e = c .before .before .before .before .before .pass .ensures .lowered in
-    (e .costs, (λ s W. e .walked s (i .1 s W)), (λ x. omega (arith, e .drop x, i .2 x)), c .before .before .before .before .before .pass .ensures .listing, e .so)
+    (e .costs, (λ s W. e .walked s (i .1 s W)), (λ x. omega (arith, e .drop x, i .2 x)), c .before .before .before .before .before .pass .ensures .listing, e .so, λ x h. omega (arith, e .drop x, i .5 x h))
 
 same-length : tie.Need-same-length Inv-loop μ-loop
-same-length c = c .before .before .before .before .before .pass .ensures .lowered .costs .costs ∙ sym (c .before .before .before .before .before .before .before .before .before .before .before .before .before .pre .1 .0 .costs)
+same-length c = c .before .before .before .before .before .pass .ensures .lowered .costs .costs ∙ sym (c .before .before .before .before .before .before .before .before .before .before .before .before .before .before .before .before .pre .1 .0 .costs)
 
 same-length-2 : tie.Need-same-length-2 Inv-loop μ-loop
-same-length-2 c = c .before .before .before .before .before .pass .ensures .listing .room ∙ sym (c .before .before .before .before .before .before .before .before .before .before .before .before .before .pre .1 .1 .0 .room)
+same-length-2 c = c .before .before .before .before .before .pass .ensures .listing .room ∙ sym (c .before .before .before .before .before .before .before .before .before .before .before .before .before .before .before .before .pre .1 .1 .0 .room)
 
 returns : tie.Need-returns Inv-loop μ-loop
 returns c =
-    let a = c .before .before .before .before .before .before .before .before .before .before .before .before .before in
+    let a = c .before .before .before .before .before .before .before .before .before .before .before .before .before .before .before .before in
     let i = c .before .before .before .before .before .before .before .before .loop .inv in
     relaxed (flat (a .args .width) (a .args .height) (a .args .floor .now)) (a .args .base) (a .args .mark .now) (a .pre .0) (a .args .n) (a .args .cost .now) _ _ _ _ (i .1) (i .2) (c .before .before .before .before .before .pass .ensures) (c .if1 .left)
 
 pub relax-spec : {M : Type 1} → statement M
 relax-spec =
     tie.close
-    (tie.spec Inv-loop μ-loop loop-holds pass-requires loop-less loop-again same-length same-length-2 returns)
+    (tie.spec
+    Inv-loop
+    μ-loop
+    highest-requires
+    loop-holds
+    pass-requires
+    loop-less
+    loop-again
+    same-length
+    same-length-2
+    returns)

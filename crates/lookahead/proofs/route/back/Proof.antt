@@ -3,7 +3,7 @@
 use Prim.Native.Nat.{_-_, _≤_}
 use mathlib.Core.Path.{_≡_, refl, subst}
 use native.Mathlib.Omega.{arith}
-use borrow.Author.Needs.{needs}
+use Rattle.floor.proofs.Steps.{free-few}
 use Rattle.floor.specs.Moves.{flat}
 use Rattle.lookahead.proofs.Linking.{linked-none, linked-prior}
 use Rattle.lookahead.specs.Way.{Linked}
@@ -11,27 +11,24 @@ use Rattle.lookahead.proofs.route.back.Statement.{statement}
 use Rattle.lookahead.proofs.route.back.Tie as tie
 
 abbrev Inv-loop : tie.InvT-loop
-Inv-loop width height floor base mark cost x col row b₀ j₀ b j = (j ≤ 8) × Linked (flat width height floor) base mark cost x j b
+Inv-loop width height floor base mark cost x spot b₀ j₀ b j = (j ≤ 8) × Linked (flat width height floor) base mark cost x j b
 
 abbrev μ-loop : tie.MeasureT-loop
-μ-loop width height floor base mark cost x col row b₀ j₀ b j = 8 - j
+μ-loop width height floor base mark cost x spot b₀ j₀ b j = 8 - j
 
-rem-col : tie.Need-rem-col Inv-loop μ-loop
-rem-col c = search needs
-
-div-row : tie.Need-div-row Inv-loop μ-loop
-div-row c = search needs
+spot-of-requires : tie.Need-spot-of-requires Inv-loop μ-loop
+spot-of-requires c κs = let a = c .before .before .before in (a .pre .0 .wide, free-few (flat (a .args .width) (a .args .height) (a .args .floor .now)) (a .args .x) (a .pre .0) (a .pre .1 .0 .free (a .args .x) (a .pre .1 .1 .0)))
 
 loop-holds : tie.Need-loop-holds Inv-loop μ-loop
 loop-holds c =
-    let a = c .before .before .before in
+    let a = c .before .before .before .before in
     (omega arith, linked-none (flat (a .args .width) (a .args .height) (a .args .floor .now)) (a .pre .0) (a .args .base) (a .args .mark .now) (a .args .cost .now) (a .args .x) _ refl)
 
 consider-requires : tie.Need-consider-requires Inv-loop μ-loop
 consider-requires c κs =
-    let p = c .before .before .before .before .before .pre in
-    let x = c .before .before .before .before .before .args .x in
-    (p .0, (p .1 .0, (record { marked = p .1 .1 .0; placed = record { free = p .1 .0 .free x (p .1 .1 .0); column = refl; row = refl } }, (omega arith, c .before .loop .inv .1))))
+    let p = c .before .before .before .before .before .before .pre in
+    let x = c .before .before .before .before .before .before .args .x in
+    (p .0, (p .1 .0, (record { marked = p .1 .1 .0; placed = record { free = p .1 .0 .free x (p .1 .1 .0); spot = c .before .before .spot-of .ensures _ } }, (omega arith, c .before .loop .inv .1))))
 
 add-j : tie.Need-add-j Inv-loop μ-loop
 add-j c = omega arith
@@ -44,7 +41,7 @@ loop-again c = (omega arith, c .consider .ensures)
 
 returns : tie.Need-returns Inv-loop μ-loop
 returns c =
-    let a = c .before .before .before .before .before in
+    let a = c .before .before .before .before .before .before in
     let l = c .before .loop in
     let e : l .j ≡ 8 = omega arith in
     let B = a .pre .1 .1 .1 in
@@ -56,8 +53,7 @@ back-spec =
     (tie.spec
     Inv-loop
     μ-loop
-    rem-col
-    div-row
+    spot-of-requires
     loop-holds
     consider-requires
     add-j

@@ -66,8 +66,8 @@ returns-3 c =
     let a = c .before .before .before .before .before .before .before .before .before .before .before .before .before .before in
     linked-high (flat (a .args .width) (a .args .height) (a .args .floor .now)) (a .pre .0) (a .args .base) (a .args .mark .now) (a .args .cost .now) (a .args .x) (a .args .j) _ _ (a .args .b) (a .pre .1 .1 .1 .1) (to-cell (c .before .before .before .before .before .before .before .before)) (c .if3 .taken)
 
-add-t17 : tie.Need-add-t17
-add-t17 c = search needs
+add-t16 : tie.Need-add-t16
+add-t16 c = search needs
 
 enum-told : tie.Need-enum-told
 enum-told c = search needs
@@ -99,7 +99,7 @@ consider-spec =
     shared-slice-read-if2
     returns-2
     returns-3
-    add-t17
+    add-t16
     enum-told
     returns-4
     returns-5)

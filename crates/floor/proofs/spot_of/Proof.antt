@@ -1,0 +1,22 @@
+-- `floor::spot_of` meets its contract: the column and the row are the model's own, by division.
+-- Assumes nothing.
+use native.Mathlib.Omega.{arith}
+use native.Mathlib.Nat.{mod-le, div-le-self}
+use borrow.Author.Needs.{needs}
+use Rattle.floor.proofs.spot_of.Statement.{statement}
+use Rattle.floor.proofs.spot_of.Tie as tie
+
+rem-col : tie.Need-rem-col
+rem-col c = search needs
+
+div-row : tie.Need-div-row
+div-row c = search needs
+
+is-inner-requires : tie.Need-is-inner-requires
+is-inner-requires c κs = let a = c .args in (omega (arith, mod-le (a .cell) (a .width), c .pre .1), omega (arith, div-le-self (a .cell) (a .width), c .pre .1))
+
+returns : tie.Need-returns
+returns c = search needs
+
+pub spot-of-spec : {M : Type 1} → statement M
+spot-of-spec = tie.close (tie.spec rem-col div-row is-inner-requires returns)
