@@ -60,11 +60,11 @@ both-comm true false = refl
 both-comm false true = refl
 both-comm false false = refl
 
-clear-same : (f : Floor) (a b : ℕ) → clear f a b ≡ clear f b a
+pub clear-same : (f : Floor) (a b : ℕ) → clear f a b ≡ clear f b a
 unfolding clear
 clear-same f a b = both-comm (free f a) (free f b)
 
-clear-free : (f : Floor) (a b : ℕ) → T (clear f a b) → T (free f a)
+pub clear-free : (f : Floor) (a b : ℕ) → T (clear f a b) → T (free f a)
 unfolding clear
 clear-free f a b = both-first (free f a) (free f b)
 
