@@ -2,18 +2,17 @@
 -- A loop's invariant is that reading on from here gives what reading from the start gives. Assumes nothing.
 use Prim.Native.Nat.{ℕ, zero, suc, _+_, _-_, _*_, _≤_, _<_}
 use mathlib.Core.Path.{_≡_, refl, sym, ap, _∙_}
-use mathlib.Core.Logic.{_⊎_, inl, inr}
-use mathlib.Core.Bool.{Bool, true, false, _&&_, _||_}
+use mathlib.Core.Bool.{Bool, true, false, _&&_}
 use mathlib.Core.List.{List, [], _∷_, _++_, append-assoc, append-nil}
 use native.Mathlib.Numerals.{add-one}
 use native.Mathlib.Omega.{arith}
-use borrow.Author.Tests.{le-leb, lt-leb, eq-eqb, ne-eqb}
-use lib.Dec.{eqb, leb}
+use borrow.Author.Tests.{le-leb, lt-leb}
+use lib.Dec.{leb}
 use lib.ListN.{length, getD, set, take, drop, drop-of-length-le}
 use lib.Seq.{drop-cons, take-suc, take-all, length-take-le}
-use Rattle.model.specs.Basics.{choose}
-use Rattle.model.specs.FloorText.{LF, isDigit}
+use Rattle.model.specs.FloorText.{isDigit}
 use Rattle.model.specs.Line.{field}
+use Rattle.model.proofs.Openings.{not-both}
 use Rattle.line.specs.Printing.{Printed}
 use Rattle.line.proofs.Decimals.{printed-then, printed-none}
 use Rattle.numbers.specs.declared.Cursor.{Cursor}
@@ -26,21 +25,9 @@ use Rattle.numbers.specs.Printing.{fieldsOf}
 here : (input : List ℕ) (i : ℕ) → i < length input → drop i input ≡ getD input i 0 ∷ drop (i + 1) input
 here input i h = drop-cons input i 0 h ∙ ap (λ k. getD input i 0 ∷ drop k input) (sym (add-one i))
 
--- a byte that is no digit, or a digit that makes the number too great
-pub no-digit : (b n : ℕ) → (b < 48) ⊎ (57 < b) → (isDigit b && leb n greatest) ≡ false
-no-digit b n (inl h) = rw (lt-leb 48 b h)
-no-digit b n (inr h) = two (leb 48 b) (leb b 57) (lt-leb b 57 h)
-  where
-    two : (x y : Bool) → y ≡ false → (x && y && leb n greatest) ≡ false
-    two true y e = rw e
-    two false y e = refl
-
+-- a digit that makes the number too great
 pub too-great : (b n : ℕ) → greatest < n → (isDigit b && leb n greatest) ≡ false
-too-great b n h = two (isDigit b) (leb n greatest) (lt-leb n greatest h)
-  where
-    two : (x y : Bool) → y ≡ false → (x && y) ≡ false
-    two true y e = e
-    two false y e = refl
+too-great b n h = not-both (isDigit b) (leb n greatest) (λ e. lt-leb n greatest h)
 
 -- the first byte of a number that goes on
 module _ (i value : ℕ) where
