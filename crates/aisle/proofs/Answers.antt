@@ -5,7 +5,6 @@ use mathlib.Core.Path.{_≡_, refl, sym, ap, subst, _∙_}
 use mathlib.Core.Bool.{Bool, true, false, _&&_}
 use mathlib.Core.Option.{none, some}
 use mathlib.Core.List.{List, [], _∷_, _++_}
-use native.Mathlib.Nat.{mul-le-mul-right}
 use native.Mathlib.Omega.{arith}
 use lib.Dec.{leb, eqb}
 use lib.ListN.{length, take, drop, getD, replicate, length-append, length-replicate}
@@ -22,12 +21,12 @@ use Rattle.answers.specs.declared.FloorRead.{FloorRead}
 use Rattle.answers.specs.declared.FloorRead.the-variants as Fr
 use Rattle.answers.proofs.One.{floor-one}
 use Rattle.model.specs.Basics.{choose, between, then}
-use Rattle.model.specs.Floor.{Floor, Sized, size, free, opening, openingTable}
+use Rattle.model.specs.Floor.{size, free, opening, openingTable}
 use Rattle.model.specs.Checks.{floorOf, goals, sizes, settings, scale, benches, places}
 use Rattle.model.specs.Opening.{accepts, openJob, openTrial, openTable, filled, trialsHold}
 use Rattle.model.specs.FloorText.{LF, isDigit, typeAndHeight, andWidth, andMap, begins, sizeIn, widthIn, heightIn, afterHeight, afterWidth, rowsIn, header, cellsOf, floorVerdict, floorFrom, readFloor}
 use Rattle.model.specs.Line.{field, placeField, refusalLine, jobIn, readLine, afterLine, judgeAisle, printed, aisle}
-use Rattle.model.proofs.Accepted.{then-next, then-refused, then-done, le-tells, is-tells, and-tells, unless-judges, sizes-judges, path-judges, settings-judges, trials-judges, scale-judges, bench-judges, places-judges}
+use Rattle.model.proofs.Accepted.{not-refused, then-next, then-refused, then-done, le-tells, is-tells, and-tells, unless-judges, sizes-judges, path-judges, settings-judges, trials-judges, scale-judges, bench-judges, places-judges}
 use Rattle.model.proofs.Parts.{rest}
 use Rattle.floor_text.specs.Reads.{Reads}
 use Rattle.floor_text.proofs.Laws.{rows-there, length-cells}
@@ -42,9 +41,6 @@ use Rattle.journey.proofs.Telling.{ended}
 use Rattle.aisle.specs.Answers.{lineHolds, toldOf, openedLines, Readied}
 
 -- ---- a refusal
-
-no-both : {A : Type 0} {r : Refusal} {v : Verdict} → v ≡ Vd.Done → v ≡ Vd.Refused r → A
-no-both d e = let z : _≡_ {A = ℕ} 0 1 = cc in absurd (omega arith)
 
 place-few : (p : Place) → length (placeField p) ≤ 21
 place-few P.Nowhere = omega arith
@@ -96,7 +92,7 @@ module _ (j : Job) (bytes : List ℕ) (start trials : ℕ) (path : List ℕ) (R 
       off = sym (then-next _ (sizes-done figures n) ∙ then-next _ scale-done) ∙ e
 
       by : (b : Bool) → free (floorOf j bytes) (j .goal) ≡ b → accepts j bytes start (openingTable (floorOf j bytes) (j .q) (goals j)) ≡ Vd.Refused f
-      by true t = no-both (bench-judges (floorOf j bytes) (j .goal) .done t) off
+      by true t = not-refused (bench-judges (floorOf j bytes) (j .goal) .done t) off
       by false t =
           let blocked : free (floorOf j bytes) (j .goal) ≡ true → ⊥ = λ u. let z : true ≡ false = sym u ∙ t in let y : _≡_ {A = ℕ} 0 1 = cc in omega arith in
           then-refused _ (places-judges (floorOf j bytes) start (j .goal) .refused (λ h. blocked (h .1)))
@@ -146,11 +142,6 @@ taken-zeros (suc n) zero h = absurd (omega arith)
 taken-zeros (suc n) (suc m) h = ap (λ l. 0 ∷ l) (taken-zeros n m (omega arith))
 
 -- lists as long as a floor, out of lists for the largest
-pub cells-few : {f : Floor} → Sized f → size f ≤ 4096
-cells-few {f} z =
-    let a : size f ≤ 64 * f .height = mul-le-mul-right {m = f .width} {n = 64} (f .height) (z .narrow) in
-    omega (arith, z .low)
-
 pub long-part : (n : ℕ) → n ≤ 4096 → length {A = ℕ} (take n (replicate 4096 0)) ≡ n
 long-part n h = length-take-le n (replicate 4096 0) (omega (arith, length-replicate {A = ℕ} 4096 0))
 

@@ -2,7 +2,6 @@
 -- Assumes nothing.
 use Prim.Native.Nat.{ℕ, _+_, _≤_}
 use mathlib.Core.Path.{_≡_, refl, sym, ap, _∙_}
-use mathlib.Core.Bool.{Bool, true, false}
 use mathlib.Core.List.{List}
 use native.Mathlib.Decide.{decLe}
 use native.Mathlib.Omega.{arith}
@@ -10,39 +9,21 @@ use lib.ListN.{length, getD, List·getD-eq-default}
 use Rattle.answers.specs.declared.Job.{Job}
 use Rattle.answers.specs.declared.State.{State}
 use Rattle.answers.specs.declared.Place.the-variants as P
+use Rattle.answers.specs.declared.Refusal.{Refusal}
 use Rattle.answers.specs.declared.Verdict.{Verdict}
 use Rattle.answers.specs.declared.Verdict.the-variants as Vd
 use Rattle.model.specs.Basics.{then, refuseAt}
 use Rattle.model.specs.Floor.{Sized, size}
 use Rattle.model.specs.Checks.{ceiling, floorOf, goals, sizes, pathRoom, settings, places, figures}
 use Rattle.model.specs.Decision.{movesRoom, stateHolds, judge}
-use Rattle.model.proofs.Accepted.{then-done, sizes-judges, path-judges, settings-judges, places-judges, figures-accepted}
+use Rattle.model.proofs.Accepted.{not-refused, then-done, sizes-judges, path-judges, settings-judges, places-judges, figures-accepted}
 use Rattle.model.proofs.Held.{Held, held-judges, moves-judges, sound-room}
 use Rattle.decision.specs.Ready.{Places, Ready, Judged}
-use Rattle.decision.specs.Inner.{isRefused, listsFit, Checked}
-
--- ---- one check after another
-
-pub stop : {v a : Verdict} (w : Verdict) → v ≡ a → isRefused v ≡ true → v ≡ then a w
-stop {v} w e r = by v r ∙ ap (λ u. then u w) e
-  where
-    by : (v : Verdict) → isRefused v ≡ true → v ≡ then v w
-    by Vd.Done h = cc
-    by (Vd.Refused q) h = refl
-
-pub done-of : (v : Verdict) → isRefused v ≡ false → v ≡ Vd.Done
-done-of Vd.Done h = refl
-done-of (Vd.Refused r) h = cc
-
-pub pass : {v a w x : Verdict} → v ≡ a → isRefused v ≡ false → x ≡ w → x ≡ then a w
-pass {v} {w = w} e r h = h ∙ ap (λ u. then u w) (sym (done-of v r) ∙ e)
+use Rattle.decision.specs.Inner.{listsFit, Checked}
 
 then-assoc : (a b c : Verdict) → then (then a b) c ≡ then a (then b c)
 then-assoc Vd.Done b c = refl
 then-assoc (Vd.Refused r) b c = refl
-
-not-both : {A : Type 0} {v : Verdict} {r : ℕ} → v ≡ refuseAt r P.Nowhere → v ≡ Vd.Done → A
-not-both e d = let z : _≡_ {A = ℕ} 0 1 = cc in absurd (omega arith)
 
 -- ---- the checks 1 and 2
 
@@ -64,7 +45,7 @@ fits j bytes figures places room from e =
 
 module _ {j : Job} {bytes : List ℕ} {s : State} {path : List ℕ} where
   pub checked-refused : (place : List ℕ) (v : Verdict) → size (floorOf j bytes) ≤ length path → v ≡ refuseAt 8 P.Nowhere → (Held j bytes s path → ⊥) → Checked j bytes s path place v
-  checked-refused place v wide e not = record { verdict = e ∙ sym (held-judges j bytes s path wide .refused not); places = λ d. not-both e d }
+  checked-refused place v wide e not = record { verdict = e ∙ sym (held-judges j bytes s path wide .refused not); places = λ d. not-refused d e }
 
   pub checked-done : (place : List ℕ) → size (floorOf j bytes) ≤ length path → Held j bytes s path → Places place path (s .length) → Checked j bytes s path place Vd.Done
   checked-done place wide h p = record { verdict = sym (held-judges j bytes s path wide .done h); places = λ d. p }
@@ -87,11 +68,8 @@ module _ (j : Job) (bytes : List ℕ) (s : State) (table path : List ℕ) (room 
       let r = then (settings j) (then (places (floorOf j bytes) (s .current) (goals j)) (then (figures (floorOf j bytes) table) (stateHolds j bytes s path))) in
       then-assoc a (then b m) r ∙ ap (then a) (then-assoc b m r)
 
-  pub judged-refused : (place : List ℕ) (v : Verdict) → v ≡ checks → isRefused v ≡ true → Judged j bytes s table path room from place v
-  judged-refused place v e r = record {
-    verdict = e ∙ judge-is;
-    places = λ d. let z : _≡_ {A = Bool} true false = sym r ∙ ap isRefused d in let y : _≡_ {A = ℕ} 0 1 = cc in absurd (omega arith);
-  }
+  pub judged-refused : (place : List ℕ) (v : Verdict) {r : Refusal} → v ≡ checks → v ≡ Vd.Refused r → Judged j bytes s table path room from place v
+  judged-refused place v e t = record { verdict = e ∙ judge-is; places = λ d. not-refused d t }
 
   pub judged-checked : (place : List ℕ) (v : Verdict) → (v ≡ stateHolds j bytes s path → v ≡ checks) → Checked j bytes s path place v → Judged j bytes s table path room from place v
   judged-checked place v e h = record { verdict = e (h .verdict) ∙ judge-is; places = h .places }

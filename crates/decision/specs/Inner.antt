@@ -1,5 +1,5 @@
 -- What the functions inside the decision take from each other and promise.
-use Prim.Native.Nat.{ℕ, suc, _+_, _-_, _<_}
+use Prim.Native.Nat.{ℕ, suc, _+_, _<_}
 use mathlib.Core.Path.{_≡_}
 use mathlib.Core.Bool.{Bool, true, false, _&&_}
 use mathlib.Core.List.{List, map, reverse}
@@ -21,11 +21,6 @@ use Rattle.lookahead.specs.Contract.{Used, movesTo}
 use Rattle.decision.specs.declared.Acted.{Acted}
 use Rattle.model.proofs.Held.{Fair, Sound}
 use Rattle.decision.specs.Ready.{Places}
-
--- whether a verdict is a refusal
-abbrev pub isRefused : Verdict → Bool
-isRefused Vd.Done = false
-isRefused (Vd.Refused r) = true
 
 -- the checks 1 and 2, on the lists' lengths
 unfoldable pub listsFit : Job → List ℕ → (figures places room from : ℕ) → Verdict

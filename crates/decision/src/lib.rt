@@ -12,7 +12,7 @@ ghost use Rattle.model.specs.Checks.{ceiling};
 ghost use Rattle.model.specs.Decision as model;
 ghost use Rattle.lookahead.specs.Contract.{Fresh, Asked, Window};
 ghost use Rattle.decision.specs.Ready.{Ready, Places, Judged, Acts, Serves, Decides};
-ghost use Rattle.decision.specs.Inner.{isRefused, listsFit, refusing, learns, Leaves};
+ghost use Rattle.decision.specs.Inner.{listsFit, refusing, learns, Leaves};
 use answers::Answer;
 use answers::Decided;
 use answers::Job;
@@ -29,15 +29,6 @@ pub struct Acted {
     pub rise: usize,
     pub cost: usize,
     pub base: u32,
-}
-
-fn refused(v: Verdict) -> bool
-    ensures { λ r. ⌜ r ≡ isRefused v ⌝ }
-{
-    match v {
-        Verdict::Done => false,
-        Verdict::Refused(_) => true,
-    }
 }
 
 // 2: fewer than 288 places left for moves.
@@ -64,14 +55,14 @@ fn lists_fit(
 ) -> Verdict
     ensures { λ r. ⌜ r ≡ listsFit job (now (floor .entry)) figures places room from ⌝ }
 {
-    let a = checks::sizes(job.width, job.height, floor, figures);
-    if refused(a) {
-        return a;
-    }
-    let b = checks::path_room(figures, places);
-    if refused(b) {
-        return b;
-    }
+    let v = checks::sizes(job.width, job.height, floor, figures);
+    let Verdict::Done = v else {
+        return v;
+    };
+    let v = checks::path_room(figures, places);
+    let Verdict::Done = v else {
+        return v;
+    };
     moves_room(room, from)
 }
 
@@ -89,23 +80,23 @@ pub fn judge(
     requires { ⌜ length (now place) ≡ 4096 ⌝ }
     ensures { λ r. ⌜ Judged job (now (floor .entry)) state (now (table .entry)) (now (path .entry)) room from (now (place .exit)) r ⌝ }
 {
-    let a = lists_fit(job, floor, table.len(), path.len(), room, from);
-    if refused(a) {
-        return a;
-    }
-    let b = checks::settings(job);
-    if refused(b) {
-        return b;
-    }
+    let v = lists_fit(job, floor, table.len(), path.len(), room, from);
+    let Verdict::Done = v else {
+        return v;
+    };
+    let v = checks::settings(job);
+    let Verdict::Done = v else {
+        return v;
+    };
     let current = state.current;
-    let c = checks::places(job.width, job.height, floor, current, job.goal);
-    if refused(c) {
-        return c;
-    }
-    let d = checks::figures(table);
-    if refused(d) {
-        return d;
-    }
+    let v = checks::places(job.width, job.height, floor, current, job.goal);
+    let Verdict::Done = v else {
+        return v;
+    };
+    let v = checks::figures(table);
+    let Verdict::Done = v else {
+        return v;
+    };
     held::state_holds(job, floor, state, path, place)
 }
 

@@ -7,7 +7,7 @@ use mathlib.Core.List.{List, [], _∷_, _++_, append-assoc, append-nil}
 use native.Mathlib.Decide.{decLe}
 use native.Mathlib.Omega.{arith}
 use borrow.Author.Tests.{lt-ltb}
-use lib.Dec.{T, leb, ltb, eqb}
+use lib.Dec.{leb, ltb, eqb}
 use lib.ListN.{length, take, drop, getD, length-append, length-drop, drop-of-length-le}
 use lib.Seq.{sets-eq, length-sets, take-at, length-take-le, drop-append-le, drop-drop}
 use Rattle.learning.specs.Path.{All, end, also}
@@ -17,12 +17,11 @@ use Rattle.answers.specs.declared.Report.{Report}
 use Rattle.answers.specs.declared.Verdict.the-variants as Vd
 use Rattle.model.specs.Opening.{openTrial}
 use Rattle.learning.specs.Ground.{View}
-use Rattle.model.specs.Checks.{ceiling, floorOf}
+use Rattle.model.specs.Checks.{ceiling}
 use Rattle.model.specs.Lookahead.{seen, ring, emptyRing, newFigure, target}
 use Rattle.model.specs.Decision.{Deed, atGoal, rise, forward, stay, backOut, goBack, learn, act}
 use Rattle.model.specs.Ride.{Ride, next, report}
 use Rattle.model.specs.Line.{field, movesField, trialLine}
-use Rattle.model.proofs.Meaning.{goal-means}
 use Rattle.model.proofs.Openings as openings
 use Rattle.model.proofs.Steps.{Does}
 use Rattle.model.proofs.Rides.{does}
@@ -30,7 +29,7 @@ use Rattle.line.specs.Printing.{Printed, moveDigits, countFields}
 use Rattle.line.proofs.Decimals.{field-few}
 use Rattle.decision.specs.declared.Acted.{Acted}
 use Rattle.decision.specs.Ready.{Acts}
-use Rattle.run.proofs.Driving.{Driving, begins, begins-at, drives, drives-at}
+use Rattle.run.proofs.Driving.{Driving, begins, begins-at, off, drives, drives-at}
 use Rattle.journey.specs.Telling.{Follows, Room, Spilt, Told, Ended, movesOf, some, dash}
 
 -- ---- one text after another
@@ -155,18 +154,11 @@ module _ (j : Job) (bytes : List ℕ) (s : State) (table path : List ℕ) where
 module _ (j : Job) (bytes : List ℕ) (start : ℕ) (table₀ path₀ : List ℕ) (opened : openTrial j bytes start table₀ path₀ ≡ Vd.Done)
     {s : State} {decisions learned travel : ℕ} {table path : List ℕ} (g : Driving j bytes start table₀ path₀ s decisions learned travel table path)
     (aside : s .current ≡ j .goal → ⊥) where
-  off : atGoal j bytes (g .at .state .current) ≡ false
-  off = by (atGoal j bytes (g .at .state .current)) refl
-    where
-      by : (b : Bool) → atGoal j bytes (g .at .state .current) ≡ b → b ≡ false
-      by true e = absurd (aside (sym (ap (λ u. u .current) (g .state-is)) ∙ goal-means (floorOf j bytes) (j .goal) (g .at .state .current) (subst T (sym e) tt)))
-      by false e = refl
-
   same : act j bytes (g .at .state) (g .at .table) (g .at .path) ≡ act j bytes s table path
   same i = act j bytes (g .state-is i) (g .table-is i) (g .path-is i)
 
   done : Does j bytes (g .at .state) (g .at .table) (g .at .path) (act j bytes (g .at .state) (g .at .table) (g .at .path))
-  done = does j bytes start table₀ path₀ (openings.ready j bytes start table₀ path₀ opened) (g .riding) off
+  done = does j bytes start table₀ path₀ (openings.ready j bytes start table₀ path₀ opened) (g .riding) (off j bytes start table₀ path₀ opened g aside)
 
   module _ {moves moves′ table′ path′ : List ℕ} {r : Acted} (a : Acts (act j bytes s table path) moves 0 r table′ path′ moves′) where
     -- its moves stand at the front of the lent list

@@ -14,20 +14,15 @@ use lib.Dec.{eqb, leb}
 use lib.ListN.{length, getD, set, take, drop, length-set, drop-of-length-le}
 use lib.Seq.{take-suc-set, length-take-le, drop-cons}
 use Rattle.answers.specs.declared.Settings.{Settings}
-use Rattle.model.specs.Basics.{choose, between}
 use Rattle.model.specs.FloorText.{LF, isDigit}
 use Rattle.model.specs.Line.{numbersIn, settingsOf, readLine, afterLine}
+use Rattle.model.proofs.Moves.{both}
+use Rattle.model.proofs.Accepted.{never}
+use Rattle.model.proofs.Openings.{not-both}
 use Rattle.line.specs.declared.Reading.{Reading}
 use Rattle.line.specs.declared.Line.{Line}
 use Rattle.line.specs.declared.Line.the-variants.{Asked, Malformed}
 use Rattle.line.specs.Reading.{after, asksOf, numbersOf, whole, tens, Goes, Pushed, Taken, Scanned, asked, textOf, Said}
-
-pub no-both : {A : Type 0} (b : Bool) → b ≡ true → b ≡ false → A
-no-both b t f = let z : true ≡ false = sym t ∙ f in absurd (subst holds z tt)
-  where
-    holds : Bool → Type 0
-    holds true = Unit {0}
-    holds false = ⊥
 
 -- a number done, then the others
 after-one : (ns : List ℕ) (v : ℕ) (o : Option (List ℕ)) → after ns (elim o [ none ↦ none | some ms ↦ some (v ∷ ms) ]) ≡ after (ns ++ v ∷ []) o
@@ -83,20 +78,12 @@ at-other : (d v b : ℕ) (rest : List ℕ) → (isDigit b && leb d 6) ≡ false 
 unfolding numbersIn
 at-other d v b rest t e f = rw (ne-eqb b 10 e, t, ne-eqb b 32 f, numbersIn)
 
-pub not-digit : (d b : ℕ) → (b < 48) ⊎ (57 < b) → (isDigit b && leb d 6) ≡ false
-not-digit d b (inl h) = rw (lt-leb 48 b h)
-not-digit d b (inr h) = two (leb 48 b) (leb b 57) (lt-leb b 57 h)
-  where
-    two : (x y : Bool) → y ≡ false → (x && y && leb d 6) ≡ false
-    two true y e = rw e
-    two false y e = refl
+pub not-digit : (b : ℕ) (t : Bool) → (b < 48) ⊎ (57 < b) → (isDigit b && t) ≡ false
+not-digit b t (inl h) = rw (lt-leb 48 b h)
+not-digit b t (inr h) = not-both _ t (λ e. absurd (never (both (leb 48 b) _ e .1) (lt-leb b 57 h)))
 
 pub too-long : (d b : ℕ) → 7 ≤ d → (isDigit b && leb d 6) ≡ false
-too-long d b h = two (isDigit b) (leb d 6) (lt-leb d 6 (omega arith))
-  where
-    two : (x y : Bool) → y ≡ false → (x && y) ≡ false
-    two true y e = e
-    two false y e = refl
+too-long d b h = not-both (isDigit b) (leb d 6) (λ e. lt-leb d 6 (omega arith))
 
 -- a malformed byte
 pub bad-byte : (r : Reading) (b : ℕ) → (isDigit b && leb (r .digits) 6) ≡ false → (b ≡ 10 → ⊥) → (b ≡ 32 → ⊥) → (rest : List ℕ) → whole r (b ∷ rest) ≡ none
@@ -203,7 +190,7 @@ none-left r = refl
 
 -- a malformed byte and a digit, as the reading takes them
 pub refused-byte : (r n : Reading) (b : ℕ) → n .ok ≡ false → (isDigit b && leb (r .digits) 6) ≡ false → (b ≡ 10 → ⊥) → (b ≡ 32 → ⊥) → Taken r b n
-refused-byte r n b f t e s = record { good = λ o. no-both (n .ok) o f; bad = λ _ rest. bad-byte r b t e s rest }
+refused-byte r n b f t e s = record { good = λ o. absurd (never o f); bad = λ _ rest. bad-byte r b t e s rest }
 
 pub taken-digit : (r : Reading) (b w : ℕ) → Goes r → w ≡ b - 48 → (48 ≤ b) × (b ≤ 57) × (r .digits ≤ 6)
     → Taken r b (record { ok = r .ok; numbers = r .numbers; count = r .count; digits = r .digits + 1; value = 10 * r .value + w; end = r .end })
@@ -218,7 +205,7 @@ taken-digit r b w G e h = record {
     },
     λ rest. ap (λ u. asksOf (after (numbersOf r) (numbersIn (r .digits + 1) (10 * r .value + u) rest))) e ∙ good-digit r b h rest,
   );
-  bad = λ f. no-both (r .ok) (G .ok) f;
+  bad = λ f. absurd (never (G .ok) f);
 }
 
 -- a reading of nothing yet
@@ -251,7 +238,7 @@ module _ (input : List ℕ) (i : ℕ) (r : Reading) (G : Goes r) (same : whole r
 
     -- at another byte
     pub scanned-bad : (n : Reading) → Taken r (getD input i 0) n → n .ok ≡ false → Scanned input n
-    scanned-bad n t f = record { good = λ o. no-both (n .ok) o f; bad = λ _. sym same ∙ ap (whole r) here ∙ t .bad f (drop (i + 1) input) }
+    scanned-bad n t f = record { good = λ o. absurd (never o f); bad = λ _. sym same ∙ ap (whole r) here ∙ t .bad f (drop (i + 1) input) }
 
     pub scan-on : (n : Reading) → (getD input i 0 ≡ 10 → ⊥) → Taken r (getD input i 0) n → n .ok ≡ true
         → Goes n × (whole n (drop (i + 1) input) ≡ readLine input) × (afterLine (drop (i + 1) input) ≡ afterLine input)
@@ -262,7 +249,7 @@ module _ (input : List ℕ) (i : ℕ) (r : Reading) (G : Goes r) (same : whole r
   -- with no byte left
   pub scanned-none : (n : Reading) → length input ≤ i → n .ok ≡ false → Scanned input n
   scanned-none n h f = record {
-    good = λ o. no-both (n .ok) o f;
+    good = λ o. absurd (never o f);
     bad = λ _. sym same ∙ ap (whole r) (drop-of-length-le input h) ∙ none-left r;
   }
 

@@ -25,6 +25,9 @@ use Rattle.model.proofs.Moves.{is-true, both, both-of}
 
 -- ---- one check after another
 
+pub not-refused : {A : Type 0} {v : Verdict} {r : Refusal} → v ≡ Vd.Done → v ≡ Vd.Refused r → A
+not-refused d e = let z : _≡_ {A = ℕ} 0 1 = cc in absurd (omega arith)
+
 pub then-next : {v : Verdict} (w : Verdict) → v ≡ Vd.Done → then v w ≡ w
 then-next w e = ap (λ u. then u w) e
 

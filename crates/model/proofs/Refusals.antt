@@ -1,6 +1,6 @@
 -- Which check refuses an opening: a refusal comes from the first check that is not done, and only `soundness` has the numbers 6 and 7.
 use Prim.Native.Nat.{ℕ, _≤_, _<_}
-use mathlib.Core.Path.{_≡_}
+use mathlib.Core.Path.{_≡_, refl}
 use mathlib.Core.Bool.{Bool, true, false, _&&_}
 use mathlib.Core.List.{List}
 use native.Mathlib.Omega.{arith}
@@ -16,9 +16,7 @@ use Rattle.model.specs.Basics.{choose, between, every, then, refuseAt, u
 use Rattle.model.specs.Floor.{Floor, size, free}
 use Rattle.model.specs.Checks.{floorOf, goals, sizes, pathRoom, settings, places, figures}
 use Rattle.model.specs.Opening.{soundness, accepts, openJob, openTrial, reportsRoom, trialsHold, openRun}
-
-clash : {A : Type 0} {r : Refusal} → Vd.Done ≡ Vd.Refused r → A
-clash e = let z : _≡_ {A = ℕ} 0 1 = cc in absurd (omega arith)
+use Rattle.model.proofs.Accepted.{not-refused}
 
 -- ---- which check refused
 
@@ -27,7 +25,7 @@ abbrev Early : Verdict → Type 0
 Early v = (r : Refusal) → v ≡ Vd.Refused r → r .number < 6
 
 early-unless : (b : Bool) (number : ℕ) → number < 6 → Early (unless b number)
-early-unless true number h r e = clash e
+early-unless true number h r e = not-refused refl e
 early-unless false number h r e = let f : number ≡ r .number = cc in omega arith
 
 early-naming : (n : ℕ) (fault : ℕ → Bool) (number : ℕ) → number < 6 → Early (naming n fault number)
@@ -36,7 +34,7 @@ early-naming n fault number h = by (ltb (lowest n fault) n)
   where
     by : (b : Bool) → Early (choose b (refuseAt number (P.Cell (lowest n fault))) Vd.Done)
     by true r e = let f : number ≡ r .number = cc in omega arith
-    by false r e = clash e
+    by false r e = not-refused refl e
 
 later : (v : Verdict) {w : Verdict} {r : Refusal} → Early v → 6 ≤ r .number → then v w ≡ Vd.Refused r → w ≡ Vd.Refused r
 later Vd.Done early h e = e

@@ -2,18 +2,17 @@
 -- A loop's invariant is that reading on from here gives what reading from the start gives. Assumes nothing.
 use Prim.Native.Nat.{ℕ, zero, suc, _+_, _-_, _*_, _≤_, _<_}
 use mathlib.Core.Path.{_≡_, refl, sym, ap, _∙_}
-use mathlib.Core.Logic.{_⊎_, inl, inr}
-use mathlib.Core.Bool.{Bool, true, false, _&&_, _||_}
+use mathlib.Core.Bool.{Bool, true, false, _&&_}
 use mathlib.Core.List.{List, [], _∷_, _++_, append-assoc, append-nil}
 use native.Mathlib.Numerals.{add-one}
 use native.Mathlib.Omega.{arith}
-use borrow.Author.Tests.{le-leb, lt-leb, eq-eqb, ne-eqb}
-use lib.Dec.{eqb, leb}
-use lib.ListN.{length, getD, set, take, drop, drop-of-length-le}
+use borrow.Author.Tests.{le-leb, lt-leb}
+use lib.Dec.{leb}
+use lib.ListN.{length, getD, set, take, drop, drop-of-length-le, length-set}
 use lib.Seq.{drop-cons, take-suc, take-all, length-take-le}
-use Rattle.model.specs.Basics.{choose}
-use Rattle.model.specs.FloorText.{LF, isDigit}
+use Rattle.model.specs.FloorText.{isDigit}
 use Rattle.model.specs.Line.{field}
+use Rattle.model.proofs.Openings.{not-both}
 use Rattle.line.specs.Printing.{Printed}
 use Rattle.line.proofs.Decimals.{printed-then, printed-none}
 use Rattle.numbers.specs.declared.Cursor.{Cursor}
@@ -26,21 +25,9 @@ use Rattle.numbers.specs.Printing.{fieldsOf}
 here : (input : List ℕ) (i : ℕ) → i < length input → drop i input ≡ getD input i 0 ∷ drop (i + 1) input
 here input i h = drop-cons input i 0 h ∙ ap (λ k. getD input i 0 ∷ drop k input) (sym (add-one i))
 
--- a byte that is no digit, or a digit that makes the number too great
-pub no-digit : (b n : ℕ) → (b < 48) ⊎ (57 < b) → (isDigit b && leb n greatest) ≡ false
-no-digit b n (inl h) = rw (lt-leb 48 b h)
-no-digit b n (inr h) = two (leb 48 b) (leb b 57) (lt-leb b 57 h)
-  where
-    two : (x y : Bool) → y ≡ false → (x && y && leb n greatest) ≡ false
-    two true y e = rw e
-    two false y e = refl
-
+-- a digit that makes the number too great
 pub too-great : (b n : ℕ) → greatest < n → (isDigit b && leb n greatest) ≡ false
-too-great b n h = two (isDigit b) (leb n greatest) (lt-leb n greatest h)
-  where
-    two : (x y : Bool) → y ≡ false → (x && y) ≡ false
-    two true y e = e
-    two false y e = refl
+too-great b n h = not-both (isDigit b) (leb n greatest) (λ e. lt-leb n greatest h)
 
 -- the first byte of a number that goes on
 module _ (i value : ℕ) where
@@ -167,41 +154,63 @@ module _ (most : ℕ) (input : List ℕ) (i : ℕ) (d : Cursor) (list : List ℕ
     unfolding turned
     good-turn t = ap (turned n e) (sym t) ∙ one-turn n e same
 
--- a list so far: its entries up to i, of as many as the cursor says
+-- a list that is read: what it is, and that its count is one of its entries
+abbrev pub Ends : (most : ℕ) (input : List ℕ) → Cursor → (list : List ℕ) → Cursor → List ℕ → Type 0
+Ends most input c list r mid = Read (readList most input c list) r mid × ((r .value ≤ length mid) × (r .value ≡ length (take (r .value) mid)))
+
+-- a list so far, i of as many entries as the cursor says: reading on from here gives what reading the whole list gives
+pub record Filling (most : ℕ) (input : List ℕ) (c : Cursor) (list : List ℕ) (count : ℕ) (mid : List ℕ) (d : Cursor) (i : ℕ) : Type 0 where
+  pub all : count ≡ c .value
+  pub few : i ≤ count
+  pub room : count ≤ length list
+  pub same : length mid ≡ length list
+  pub left : fillFrom most input (c .value - i) i d mid ≡ readList most input c list
+
 module _ (most : ℕ) (input : List ℕ) (c : Cursor) (list : List ℕ) where
-  pub list-long : length list < c .value → (r : Cursor) → r ≡ failed → Read (readList most input c list) r list
+  ends : (mid : List ℕ) (r : Cursor) → r .value ≤ length mid → filled r mid ≡ readList most input c list → Ends most input c list r mid
+  ends mid r h e = (record { cursor = ap (λ x. x .cursor) e; entries = ap (λ x. x .list) e }, (h, sym (length-take-le (r .value) mid h)))
+
+  fails : (mid : List ℕ) (r : Cursor) → r ≡ failed → filled failed mid ≡ readList most input c list → Ends most input c list r mid
+  fails mid r e f = ends mid r (omega (arith, ap (λ x. x .value) e)) (ap (λ x. filled x mid) e ∙ f)
+
+  pub filling-long : length list < c .value → (r : Cursor) → r ≡ failed → Ends most input c list r list
   unfolding readList
-  list-long h r e = record { cursor = e ∙ sym (rw (lt-leb (c .value) (length list) h)); entries = sym (rw (lt-leb (c .value) (length list) h)) }
+  filling-long h r e = fails list r e (sym (rw (lt-leb (c .value) (length list) h)))
 
-  pub list-start : c .value ≤ length list → fillFrom most input (c .value - 0) 0 c list ≡ readList most input c list
+  pub filling : c .value ≤ length list → Filling most input c list (c .value) list c 0
   unfolding readList
-  list-start h = let z : c .value - 0 ≡ c .value = omega arith in ap (λ n. fillFrom most input n 0 c list) z ∙ sym (rw (le-leb (c .value) (length list) h))
+  filling h = let z : c .value - 0 ≡ c .value = omega arith in record {
+    all = refl;
+    few = omega arith;
+    room = h;
+    same = refl;
+    left = ap (λ n. fillFrom most input n 0 c list) z ∙ sym (rw (le-leb (c .value) (length list) h));
+  }
 
-  module _ (i : ℕ) (d : Cursor) (mid : List ℕ) (same : fillFrom most input (c .value - i) i d mid ≡ readList most input c list) where
-    pub list-end : (c .value ≤ i) × (i ≤ c .value) → (r : Cursor) → r ≡ record { ok = d .ok; at = d .at; value = c .value } → Read (readList most input c list) r mid
-    list-end h r e =
-        let z : zero ≡ c .value - i = omega arith in
-        let f : filled r mid ≡ readList most input c list =
-        ap (λ x. filled x mid) e ∙ ap (λ n. filled (record { ok = d .ok; at = d .at; value = n }) mid) (omega arith) ∙ no-turn most input i d mid
-        ∙ ap (λ n. fillFrom most input n i d mid) z ∙ same in
-        record { cursor = ap (λ x. x .cursor) f; entries = ap (λ x. x .list) f }
+  module _ {count : ℕ} {mid : List ℕ} {d : Cursor} {i : ℕ} (g : Filling most input c list count mid d i) where
+    pub filling-all : count ≤ i → (r : Cursor) → r ≡ record { ok = d .ok; at = d .at; value = count } → Ends most input c list r mid
+    filling-all h r e =
+        let z : zero ≡ c .value - i = omega (arith, g .all) in
+        let n : count ≡ i = omega (arith, g .few) in
+        ends mid r (omega (arith, ap (λ x. x .value) e, g .room, g .same))
+        (ap (λ x. filled x mid) e ∙ ap (λ n. filled (record { ok = d .ok; at = d .at; value = n }) mid) n ∙ no-turn most input i d mid
+        ∙ ap (λ n. fillFrom most input n i d mid) z ∙ g .left)
 
-    module _ (h : i < c .value) (e : Cursor) (same-e : e ≡ numberIn most input d) where
+    module _ (h : i < count) (e : Cursor) (same-e : e ≡ numberIn most input d) where
       turn : fillFrom most input (suc (c .value - (i + 1))) i d mid ≡ readList most input c list
-      turn = let z : suc (c .value - (i + 1)) ≡ c .value - i = omega arith in ap (λ n. fillFrom most input n i d mid) z ∙ same
+      turn = let z : suc (c .value - (i + 1)) ≡ c .value - i = omega (arith, g .all) in ap (λ n. fillFrom most input n i d mid) z ∙ g .left
 
-      pub list-off : e .ok ≡ false → (r : Cursor) → r ≡ failed → Read (readList most input c list) r mid
-      list-off t r f =
-          let g : filled failed mid ≡ readList most input c list = bad-turn most input i d mid (c .value - (i + 1)) e same-e t ∙ turn in
-          record { cursor = f ∙ ap (λ x. x .cursor) g; entries = ap (λ x. x .list) g }
+      pub filling-off : e .ok ≡ false → (r : Cursor) → r ≡ failed → Ends most input c list r mid
+      filling-off t r f = fails mid r f (bad-turn most input i d mid (c .value - (i + 1)) e same-e t ∙ turn)
 
-      pub list-more : e .ok ≡ true → fillFrom most input (c .value - (i + 1)) (i + 1) e (set mid i (e .value)) ≡ readList most input c list
-      list-more t =
-          ap (λ k. fillFrom most input (c .value - (i + 1)) k e (set mid i (e .value))) (add-one i) ∙ good-turn most input i d mid (c .value - (i + 1)) e same-e t ∙ turn
-
--- a count of a list's entries, with what `&list[..n]` asks
-pub counts : (n : ℕ) (list : List ℕ) → n ≤ length list → (n ≤ length list) × (n ≡ length (take n list))
-counts n list h = (h, sym (length-take-le n list h))
+      pub filling-more : e .ok ≡ true → Filling most input c list count (set mid i (e .value)) e (i + 1)
+      filling-more t = record {
+        all = g .all;
+        few = omega arith;
+        room = g .room;
+        same = length-set mid i (e .value) ∙ g .same;
+        left = ap (λ k. fillFrom most input (c .value - (i + 1)) k e (set mid i (e .value))) (add-one i) ∙ good-turn most input i d mid (c .value - (i + 1)) e same-e t ∙ turn;
+      }
 
 -- one field more of a list that is printed
 fields-snoc : (xs : List ℕ) (x : ℕ) → fieldsOf (xs ++ x ∷ []) ≡ fieldsOf xs ++ field x

@@ -2,7 +2,7 @@
 -- The ride keeps its moves, which the code does not. Each decision lowers the ride's potential, so the loop ends; and the counts fit in 64 bits.
 use Prim.Native.Nat.{ℕ, _+_, _≤_, _<_}
 use mathlib.Core.Path.{_≡_, refl, sym, ap, subst, _∙_}
-use mathlib.Core.Bool.{Bool, true, false}
+use mathlib.Core.Bool.{true, false}
 use mathlib.Core.List.{List}
 use native.Mathlib.Omega.{arith}
 use lib.Dec.{T}
@@ -22,6 +22,7 @@ use Rattle.model.specs.Decision.{atGoal, judge, act}
 use Rattle.model.specs.Ride as model
 use Rattle.model.specs.Ride.{Ride, begun, next, learningJob, ride, trialOf, trial}
 use Rattle.model.proofs.Moves.{is-true}
+use Rattle.model.proofs.Accepted.{fails}
 use Rattle.model.proofs.Held.{free-below}
 use Rattle.model.proofs.Demand.{trial-is-made}
 use Rattle.model.proofs.Openings as openings
@@ -95,12 +96,8 @@ module _ (j : Job) (bytes : List ℕ) (start : ℕ) (table₀ path₀ : List ℕ
         sym (ride-there j bytes _ (g .at) there) ∙ g .comes
 
     module _ (aside : s .current ≡ j .goal → ⊥) where
-      off : atGoal j bytes (g .at .state .current) ≡ false
-      off = by (atGoal j bytes (g .at .state .current)) refl
-        where
-          by : (b : Bool) → atGoal j bytes (g .at .state .current) ≡ b → b ≡ false
-          by true e = absurd (aside (sym (ap (λ u. u .current) (g .state-is)) ∙ goal-means (floorOf j bytes) (j .goal) (g .at .state .current) (subst T (sym e) tt)))
-          by false e = refl
+      pub off : atGoal j bytes (g .at .state .current) ≡ false
+      off = fails _ (λ e. aside (sym (ap (λ u. u .current) (g .state-is)) ∙ goal-means (floorOf j bytes) (j .goal) (g .at .state .current) (subst T (sym e) tt)))
 
       same : act j bytes (g .at .state) (g .at .table) (g .at .path) ≡ act j bytes s table path
       same i = act j bytes (g .state-is i) (g .table-is i) (g .path-is i)

@@ -1,5 +1,6 @@
--- What a caller may conclude from the contracts of `trial` and `run` alone: demand 3, of the record and the lists that the calls hand out.
--- The contract fixes the answer, so a call that made its trials made the model's, of which the laws are the model's.
+-- What a caller may conclude from the contract of `trial` alone: demand 3, of the record and the lists that the call hands out.
+-- The contract fixes the answer, so a call that made its trial made the model's, of which the laws are the model's.
+-- Of each trial of a run `run-trials-are-promised` of the model says the same.
 use Prim.Native.Nat.{ℕ, _+_, _*_, _≤_, _<_}
 use mathlib.Core.Path.{_≡_, sym, ap, subst, _∙_}
 use mathlib.Core.Bool.{true}
@@ -8,11 +9,9 @@ use lib.ListN.{getD}
 use Rattle.answers.specs.declared.Job.{Job}
 use Rattle.answers.specs.declared.Report.{Report}
 use Rattle.answers.specs.declared.Tried.the-variants as Td
-use Rattle.answers.specs.declared.Verdict.the-variants as Vd
 use Rattle.answers.proofs.One.{tried-one}
-use Rattle.model.specs.Opening.{openRun}
-use Rattle.model.specs.Ride.{report, ride, trial, courseFrom}
-use Rattle.model.proofs.Demand.{K, R, can, trueOf, distance, made-is-accepted, trial-is-made, trial-is-promised, EachPromised, run-trials-are-promised}
+use Rattle.model.specs.Ride.{report, ride, trial}
+use Rattle.model.proofs.Demand.{K, R, can, trueOf, distance, made-is-accepted, trial-is-made, trial-is-promised}
 use Rattle.run.specs.Trials.{IsTrial}
 
 -- all that demand 3 says of a trial's record and of the table after it
@@ -32,8 +31,3 @@ trial-keeps j bytes start table path r t p h =
     subst (λ u. Kept j bytes start table u t) same
     (subst (Kept j bytes start table (report j bytes (ride j bytes start table path))) (sym left)
     (record { falls-not = g .falls-not; passes-not = g .passes-not; few = g .decisions; kept-way = g .kept-way; learning-nothing = g .learning-nothing }))
-
--- and of each trial of a run that is opened
-pub run-keeps : (j : Job) (bytes : List ℕ) (start trials : ℕ) (table path : List ℕ) (records : ℕ) → openRun j bytes start table path trials records ≡ Vd.Done
-    → EachPromised j bytes start table path (courseFrom j bytes start trials table path .rides)
-run-keeps = run-trials-are-promised

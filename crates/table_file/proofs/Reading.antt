@@ -6,7 +6,7 @@ use Prim.Native.Nat.{ℕ, suc, _+_, _-_, _*_, _≤_, _<_}
 use native.Mathlib.Numerals.{add-one}
 use native.Mathlib.Omega.{arith}
 use lib.ListN.{length, take, drop, set, length-drop, length-set}
-use lib.Seq.{set-out, length-take-le}
+use lib.Seq.{length-take-le}
 use Rattle.answers.specs.Says.{saysVerdict}
 use Rattle.answers.specs.declared.Place.the-variants as P
 use Rattle.answers.specs.declared.Refusal.{Refusal}
@@ -127,10 +127,6 @@ module _ (n : ℕ) (part table₀ : List ℕ) where
     pub applying-all : n ≤ i → table ≡ applied n part table₀
     unfolding applied
     applying-all h = (let e : n - i ≡ 0 = omega arith in rw e) ∙ g .left
-
--- a figure is stored at a cell of the table's, and nothing past its end
-pub put-past : (table : List ℕ) (cell figure : ℕ) → length table ≤ cell → table ≡ set table cell figure
-put-past table cell figure h = sym (set-out table cell figure h)
 
 -- The reader's answer and table, by its verdict.
 module _ (f : Floor) (q : ℕ) (gs file table : List ℕ) (v : Verdict) (e : v ≡ readVerdict f q gs file (length table)) where

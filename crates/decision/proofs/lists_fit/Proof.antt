@@ -2,39 +2,42 @@
 -- Assumes nothing.
 use mathlib.Core.Path.{sym, _∙_}
 use borrow.Author.Needs.{needs}
-use Rattle.model.proofs.Accepted.{sizes-judges}
+use Rattle.model.proofs.Accepted.{then-stops, then-goes, sizes-judges}
 use Rattle.decision.specs.Inner.{listsFit}
-use Rattle.decision.proofs.Judging.{stop, pass, done-of}
 use Rattle.decision.proofs.lists_fit.Statement.{statement}
 use Rattle.decision.proofs.lists_fit.Tie as tie
 
 sizes-requires : tie.Need-sizes-requires
 sizes-requires c κs = search needs
 
-refused-requires : tie.Need-refused-requires
-refused-requires c κs = search needs
+enum-told : tie.Need-enum-told
+enum-told c = search needs
+
+enum-told-2 : tie.Need-enum-told-2
+enum-told-2 c = search needs
 
 returns : tie.Need-returns
 unfolding listsFit
-returns c = stop _ (c .before .before .sizes .ensures) (sym (c .before .refused .ensures) ∙ c .if1 .taken)
+returns c = then-stops _ (c .before .before .sizes .ensures) (c .enum-told2 .given .1)
 
 path-room-requires : tie.Need-path-room-requires
 path-room-requires c κs = search needs
 
-refused-requires-2 : tie.Need-refused-requires-2
-refused-requires-2 c κs = search needs
+enum-told-3 : tie.Need-enum-told-3
+enum-told-3 c = search needs
+
+enum-told-4 : tie.Need-enum-told-4
+enum-told-4 c = search needs
 
 returns-2 : tie.Need-returns-2
 unfolding listsFit
 returns-2 c =
-    let at-refused2 = c .before in
-    let at-path-room = at-refused2 .before in
-    let at-if1 = at-path-room .before in
-    let at-refused = at-if1 .before in
-    let at-sizes = at-refused .before in
-    let a = sym (at-refused .refused .ensures) ∙ at-if1 .if1 .left in
-    pass (at-sizes .sizes .ensures) a
-    (stop _ (at-path-room .path-room .ensures _ (sym (sizes-judges _ _ .gives (sym (at-sizes .sizes .ensures) ∙ done-of _ a) .1))) (sym (at-refused2 .refused2 .ensures) ∙ c .if2 .taken))
+    let at-path-room = c .before .before in
+    let at-told1 = at-path-room .before in
+    let at-sizes = at-told1 .before .before in
+    let a = at-told1 .enum-told .given .1 in
+    then-goes _ (at-sizes .sizes .ensures) a
+    (then-stops _ (at-path-room .path-room .ensures _ (sym (sizes-judges _ _ .gives (sym (at-sizes .sizes .ensures) ∙ a) .1))) (c .enum-told4 .given .1))
 
 moves-room-requires : tie.Need-moves-room-requires
 moves-room-requires c κs = search needs
@@ -42,26 +45,26 @@ moves-room-requires c κs = search needs
 returns-3 : tie.Need-returns-3
 unfolding listsFit
 returns-3 c =
-    let at-if2 = c .before in
-    let at-refused2 = at-if2 .before in
-    let at-path-room = at-refused2 .before in
-    let at-if1 = at-path-room .before in
-    let at-refused = at-if1 .before in
-    let at-sizes = at-refused .before in
-    let a = sym (at-refused .refused .ensures) ∙ at-if1 .if1 .left in
-    let b = sym (at-refused2 .refused2 .ensures) ∙ at-if2 .if2 .left in
-    pass (at-sizes .sizes .ensures) a
-    (pass (at-path-room .path-room .ensures _ (sym (sizes-judges _ _ .gives (sym (at-sizes .sizes .ensures) ∙ done-of _ a) .1))) b (c .moves-room .ensures))
+    let at-told2 = c .before in
+    let at-path-room = at-told2 .before .before in
+    let at-told1 = at-path-room .before in
+    let at-sizes = at-told1 .before .before in
+    let a = at-told1 .enum-told .given .1 in
+    let b = at-told2 .enum-told3 .given .1 in
+    then-goes _ (at-sizes .sizes .ensures) a
+    (then-goes _ (at-path-room .path-room .ensures _ (sym (sizes-judges _ _ .gives (sym (at-sizes .sizes .ensures) ∙ a) .1))) b (c .moves-room .ensures))
 
 pub lists-fit-spec : {M : Type 1} → statement M
 lists-fit-spec =
     tie.close
     (tie.spec
     sizes-requires
-    refused-requires
+    enum-told
+    enum-told-2
     returns
     path-room-requires
-    refused-requires-2
+    enum-told-3
+    enum-told-4
     returns-2
     moves-room-requires
     returns-3)

@@ -3,7 +3,7 @@
 use mathlib.Core.Path.{refl}
 use mathlib.Core.Logic.{inl, inr}
 use native.Mathlib.Omega.{arith}
-use Rattle.line.proofs.Laws.{no-both}
+use Rattle.model.proofs.Accepted.{never}
 use borrow.Author.Needs.{needs}
 use Rattle.line.proofs.push.Statement.{statement}
 use Rattle.line.proofs.push.Tie as tie
@@ -12,13 +12,13 @@ blank-requires : tie.Need-blank-requires
 blank-requires c κs = search needs
 
 returns : tie.Need-returns
-returns c = record { good = λ t. no-both (c .blank .result .ok) t (c .blank .ensures .0); bad = λ f o. inl (omega arith) }
+returns c = record { good = λ t. absurd (never t (c .blank .ensures .0)); bad = λ f o. inl (omega arith) }
 
 blank-requires-2 : tie.Need-blank-requires-2
 blank-requires-2 c κs = search needs
 
 returns-2 : tie.Need-returns-2
-returns-2 c = record { good = λ t. no-both (c .blank2 .result .ok) t (c .blank2 .ensures .0); bad = λ f o. inr (omega arith) }
+returns-2 c = record { good = λ t. absurd (never t (c .blank2 .ensures .0)); bad = λ f o. inr (omega arith) }
 
 mul-next : tie.Need-mul-next
 mul-next c = search needs
@@ -32,7 +32,7 @@ add-next c = search needs
 returns-3 : tie.Need-returns-3
 returns-3 c =
     let r = c .before .before .before .args .r in
-    record { good = λ t. (omega arith, omega arith, t, refl, refl, refl, refl, refl); bad = λ f o. no-both (r .ok) o f }
+    record { good = λ t. (omega arith, omega arith, t, refl, refl, refl, refl, refl); bad = λ f o. absurd (never o f) }
 
 pub push-spec : {M : Type 1} → statement M
 push-spec =

@@ -25,7 +25,7 @@ blank-requires c κs = search needs
 returns-2 : tie.Need-returns-2
 returns-2 c =
     let a = c .before .before .before in
-    refused-byte (a .args .r) (c .blank .result) (a .args .b) (c .blank .ensures .0) (not-digit (a .args .r .digits) (a .args .b) (inl (omega arith))) (a .pre .1) (λ e. omega arith)
+    refused-byte (a .args .r) (c .blank .result) (a .args .b) (c .blank .ensures .0) (not-digit (a .args .b) _ (inl (omega arith))) (a .pre .1) (λ e. omega arith)
 
 blank-requires-2 : tie.Need-blank-requires-2
 blank-requires-2 c κs = search needs
@@ -33,7 +33,7 @@ blank-requires-2 c κs = search needs
 returns-3 : tie.Need-returns-3
 returns-3 c =
     let a = c .before .before .before .before in
-    refused-byte (a .args .r) (c .blank2 .result) (a .args .b) (c .blank2 .ensures .0) (not-digit (a .args .r .digits) (a .args .b) (inr (omega arith))) (a .pre .1) (λ e. omega arith)
+    refused-byte (a .args .r) (c .blank2 .result) (a .args .b) (c .blank2 .ensures .0) (not-digit (a .args .b) _ (inr (omega arith))) (a .pre .1) (λ e. omega arith)
 
 blank-requires-3 : tie.Need-blank-requires-3
 blank-requires-3 c κs = search needs

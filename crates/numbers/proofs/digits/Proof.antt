@@ -7,7 +7,8 @@ use native.Mathlib.Omega.{arith}
 use lib.ListN.{length, getD, drop}
 use borrow.Author.Needs.{needs}
 use Rattle.numbers.specs.Reading.{digitsFrom, greatest}
-use Rattle.numbers.proofs.Laws.{digits-end, digits-blank, digits-bad, digits-more, no-digit, too-great}
+use Rattle.line.proofs.Laws.{not-digit}
+use Rattle.numbers.proofs.Laws.{digits-end, digits-blank, digits-bad, digits-more, too-great}
 use Rattle.numbers.proofs.digits.Statement.{statement}
 use Rattle.numbers.proofs.digits.Tie as tie
 
@@ -36,13 +37,13 @@ returns-2 : tie.Need-returns-2 Inv-loop μ-loop
 returns-2 c =
     let a = c .before .before .before .before .before .before .before .args in
     let l = c .before .before .before .before .before .loop in
-    digits-bad (a .input .now) (a .at) (l .i) (l .value) (l .inv .1) (omega arith) (sym (c .before .before .is-blank .ensures) ∙ c .before .if1 .left) (no-digit (getD (a .input .now) (l .i) 0) (10 * l .value + (getD (a .input .now) (l .i) 0 - 48)) (inl (omega arith)))
+    digits-bad (a .input .now) (a .at) (l .i) (l .value) (l .inv .1) (omega arith) (sym (c .before .before .is-blank .ensures) ∙ c .before .if1 .left) (not-digit (getD (a .input .now) (l .i) 0) _ (inl (omega arith)))
 
 returns-3 : tie.Need-returns-3 Inv-loop μ-loop
 returns-3 c =
     let a = c .before .before .before .before .before .before .before .before .args in
     let l = c .before .before .before .before .before .before .loop in
-    digits-bad (a .input .now) (a .at) (l .i) (l .value) (l .inv .1) (omega arith) (sym (c .before .before .before .is-blank .ensures) ∙ c .before .before .if1 .left) (no-digit (getD (a .input .now) (l .i) 0) (10 * l .value + (getD (a .input .now) (l .i) 0 - 48)) (inr (omega arith)))
+    digits-bad (a .input .now) (a .at) (l .i) (l .value) (l .inv .1) (omega arith) (sym (c .before .before .before .is-blank .ensures) ∙ c .before .before .if1 .left) (not-digit (getD (a .input .now) (l .i) 0) _ (inr (omega arith)))
 
 mul-more : tie.Need-mul-more Inv-loop μ-loop
 mul-more c = omega arith
