@@ -11,7 +11,7 @@ use Rattle.answers.specs.declared.Job.{Job}
 use Rattle.model.specs.Ride.{Ride}
 use Rattle.model.specs.Line.{trialLine}
 use Rattle.line.specs.Printing.{moveDigits}
-use Rattle.run.specs.Trials.{Drove, Rode}
+use Rattle.run.specs.Trials.{Rode}
 use Rattle.journey.specs.declared.Way.{Way}
 use Rattle.journey.specs.declared.Trip.{Trip}
 
@@ -62,8 +62,8 @@ dash true = []
 dash false = 45 ∷ []
 
 -- the decisions of a trial: the model's ride o, and its moves are told
-pub record Ways (o : Ride) (r : Way) (table path mark cost list out : List ℕ) (at : ℕ) (out′ : List ℕ) : Type 0 where
-  pub drove : Drove o (r .driven) table path mark cost list
+pub record Ways (j : Job) (bytes : List ℕ) (o : Ride) (r : Way) (table path out : List ℕ) (at : ℕ) (out′ : List ℕ) : Type 0 where
+  pub rode : Rode j bytes o (r .report) table path
   pub moved : r .moved ≡ some (o .moves)
   pub told : Told out at (moveDigits (o .moves)) out′ (r .at)
 

@@ -21,7 +21,6 @@ use answers::State;
 use answers::Verdict;
 use libc::STDOUT_FILENO;
 use line::print;
-use run::Driven;
 
 // Where fewer than 512 places are left, what is told is written out; the next place.
 fn spill(out: &[u8], at: usize) -> usize
@@ -72,9 +71,9 @@ fn moves_yet(already: bool, n: usize) -> bool
     if already { true } else { 0 < n }
 }
 
-// The decisions of a trial: where it stands after them, whether there was a move, and the next place.
+// The decisions of a trial: its record, whether there was a move, and the next place.
 pub struct Way {
-    pub driven: Driven,
+    pub report: Report,
     pub moved: bool,
     pub at: usize,
 }
@@ -91,11 +90,12 @@ fn tell_moves(
     cost: &mut [u16],
     list: &mut [u16],
     place: &mut [u16],
+    along: &mut [u32],
     out: &mut [u8],
     from: usize,
 ) -> Way
-    requires { ⌜ openTrial job (now floor) start (now table) (now path) ≡ Verdict.Done ⌝ ∗ ⌜ Scratch (now moves) (now mark) (now cost) (now list) (now place) ⌝ ∗ ⌜ Room (now out) from ⌝ }
-    ensures { λ r. ⌜ Ways (ride job (now (floor .entry)) start (now (table .entry)) (now (path .entry))) r (now (table .exit)) (now (path .exit)) (now (mark .exit)) (now (cost .exit)) (now (list .exit)) (now (out .entry)) from (now (out .exit)) ⌝ }
+    requires { ⌜ openTrial job (now floor) start (now table) (now path) ≡ Verdict.Done ⌝ ∗ ⌜ Scratch (now moves) (now mark) (now cost) (now list) (now place) (now along) ⌝ ∗ ⌜ Room (now out) from ⌝ }
+    ensures { λ r. ⌜ Ways job (now (floor .entry)) (ride job (now (floor .entry)) start (now (table .entry)) (now (path .entry))) r (now (table .exit)) (now (path .exit)) (now (out .entry)) from (now (out .exit)) ⌝ }
 {
     let mut state = State {
         current: start,
@@ -128,19 +128,21 @@ fn tell_moves(
         at = say_moves(out, at, moves, n);
         moved = moves_yet(moved, n);
         let after = r.state;
+        run::note_leg(along, state.length, after.length, r.cost);
         state = after;
         decisions += 1;
         learned += r.rise as u64;
         travel += r.cost as u64;
         base = r.base;
     }
+    let last = state.length;
+    let kept = along[last] as u64;
     Way {
-        driven: Driven {
-            state: state,
+        report: Report {
             decisions: decisions,
             learned: learned,
+            kept: kept,
             travel: travel,
-            base: base,
         },
         moved: moved,
         at: at,
@@ -187,10 +189,11 @@ fn tell_on(
     cost: &mut [u16],
     list: &mut [u16],
     place: &mut [u16],
+    along: &mut [u32],
     out: &mut [u8],
     at: usize,
 ) -> Trip
-    requires { ⌜ openTrial job (now floor) start (now table) (now path) ≡ Verdict.Done ⌝ ∗ ⌜ Scratch (now moves) (now mark) (now cost) (now list) (now place) ⌝ ∗ ⌜ Room (now out) at ⌝ }
+    requires { ⌜ openTrial job (now floor) start (now table) (now path) ≡ Verdict.Done ⌝ ∗ ⌜ Scratch (now moves) (now mark) (now cost) (now list) (now place) (now along) ⌝ ∗ ⌜ Room (now out) at ⌝ }
     ensures { λ r. ⌜ Trips job (now (floor .entry)) (ride job (now (floor .entry)) start (now (table .entry)) (now (path .entry))) r (now (table .exit)) (now (path .exit)) (now (out .entry)) at (now (out .exit)) ⌝ }
 {
     let w = tell_moves(
@@ -204,28 +207,11 @@ fn tell_on(
         cost,
         list,
         place,
+        along,
         out,
         at,
     );
-    let d = w.driven;
-    let state = d.state;
-    let kept = run::kept_cost(
-        job,
-        floor,
-        path,
-        state.length,
-        state.current,
-        d.base,
-        mark,
-        cost,
-        list,
-    );
-    let report = Report {
-        decisions: d.decisions,
-        learned: d.learned,
-        kept: kept,
-        travel: d.travel,
-    };
+    let report = w.report;
     let end = say_counts(out, w.at, w.moved, report);
     Trip {
         report: report,
@@ -251,6 +237,7 @@ pub fn tell(
     let mut cost = [0u16; 4096];
     let mut list = [0u16; 8192];
     let mut place = [0u16; 4096];
+    let mut along = [0u32; 4096];
     tell_on(
         job,
         floor,
@@ -262,6 +249,7 @@ pub fn tell(
         &mut cost,
         &mut list,
         &mut place,
+        &mut along,
         out,
         at,
     )

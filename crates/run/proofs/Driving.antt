@@ -3,10 +3,14 @@
 use Prim.Native.Nat.{ℕ, _+_, _≤_, _<_}
 use mathlib.Core.Path.{_≡_, refl, sym, ap, subst, _∙_}
 use mathlib.Core.Bool.{true, false}
-use mathlib.Core.List.{List}
+use mathlib.Core.List.{List, [], _∷_, _++_}
 use native.Mathlib.Omega.{arith}
 use lib.Dec.{T}
-use lib.ListN.{length, replicate, length-replicate}
+use lib.ListN.{length, getD, replicate, length-replicate, getD-replicate}
+use lib.Seq.{length-take-le, getD-set-same}
+use Rattle.learning.specs.Path.{legs}
+use Rattle.learning.specs.Trial as learning
+use Rattle.learning.specs.Trial.{Step}
 use Rattle.learning.proofs.Bounds.{potential}
 use Rattle.answers.specs.declared.Job.{Job}
 use Rattle.answers.specs.declared.State.{State}
@@ -18,7 +22,7 @@ use Rattle.answers.specs.declared.Tried.the-variants as Td
 use Rattle.answers.specs.Says.{saysTried}
 use Rattle.model.specs.Checks.{floorOf}
 use Rattle.model.specs.Opening.{openTrial}
-use Rattle.model.specs.Decision.{atGoal, judge, act}
+use Rattle.model.specs.Decision.{atGoal, onPath, judge, act}
 use Rattle.model.specs.Ride as model
 use Rattle.model.specs.Ride.{Ride, begun, next, learningJob, ride, trialOf, trial}
 use Rattle.model.proofs.Moves.{is-true}
@@ -27,15 +31,14 @@ use Rattle.model.proofs.Held.{free-below}
 use Rattle.model.proofs.Demand.{trial-is-made}
 use Rattle.model.proofs.Openings as openings
 use Rattle.model.proofs.Meaning.{goal-means, goal-is}
-use Rattle.model.proofs.Steps.{asState}
-use Rattle.model.proofs.Rides.{Riding, yet, rest, riding-begun, riding-next, falls, keeps, judges, room, rest-begun, rest-next, ride-there, ride-riding, counts-fit}
+use Rattle.model.proofs.Steps.{asState, short, size-high}
+use Rattle.model.proofs.Rides.{Riding, yet, rest, riding-begun, riding-next, does, falls, keeps, judges, room, rest-begun, rest-next, ride-there, kept-low, counts-fit}
 use Rattle.decision.specs.declared.Acted.{Acted}
 use Rattle.decision.specs.Ready.{Ready, Acts}
 use Rattle.decision.proofs.Judging.{ready}
 use Rattle.decision.proofs.Acting.{fresh-zeros}
-use Rattle.run.specs.declared.Driven.{Driven}
-use Rattle.run.specs.Trials.{Chained, keptAlong, Scratch, Drove, Rode, IsTrial}
-use Rattle.run.proofs.Legs.{chained}
+use Rattle.run.specs.Trials.{Fits, noted, Scratch, Rode, IsTrial}
+use Rattle.run.proofs.Legs.{Sums, sums-none, sum-last, note-more, noted-size, noted-sums}
 
 -- The loop's invariant, of the state, the counts and the lists.
 pub record Driving (j : Job) (bytes : List ℕ) (start : ℕ) (lent-table lent-path : List ℕ) (s : State) (decisions learned travel : ℕ) (table path : List ℕ) : Type 0 where
@@ -51,6 +54,11 @@ pub record Driving (j : Job) (bytes : List ℕ) (start : ℕ) (lent-table lent-p
   pub travel-is : at .travel ≡ travel
   pub table-is : at .table ≡ table
   pub path-is : at .path ≡ path
+
+-- And what the legs come to up to each place of the path and the current cell is noted.
+pub record Along (j : Job) (bytes : List ℕ) (s : State) (path along : List ℕ) : Type 0 where
+  pub size : length along ≡ 4096
+  pub sums : Sums (learningJob j bytes .leg) (onPath s path ++ s .current ∷ []) along
 
 -- what falls with each decision
 abbrev pub yetTo : Job → List ℕ → State → (table path : List ℕ) → ℕ
@@ -73,6 +81,9 @@ module _ (j : Job) (bytes : List ℕ) (start : ℕ) (table₀ path₀ : List ℕ
     path-is = refl;
   }
 
+  pub begins-along : {along : List ℕ} → length along ≡ 4096 → getD along 0 0 ≡ 0 → Along j bytes (record { current = start; learned = 0; length = 0 }) path₀ along
+  begins-along size none = record { size = size; sums = sums-none (learningJob j bytes .leg) start none }
+
   pub begins-at : begins .at ≡ begun start table₀ path₀
   unfolding begins
   begins-at = refl
@@ -88,12 +99,46 @@ module _ (j : Job) (bytes : List ℕ) (start : ℕ) (table₀ path₀ : List ℕ
     pub sized : length table ≡ length table₀
     sized = ap length (sym (g .table-is)) ∙ keeps j bytes start table₀ path₀ R (g .riding) .sound .size ∙ sym (R .opened .long)
 
+    -- a path is within its list, and shorter than the sums
+    short-path : (s .length ≤ length path) × (s .length < 4096)
+    short-path =
+        let H = R .opened .held in
+        let l = room j bytes start table₀ path₀ R (g .riding) in
+        let few = short j bytes H (g .at .state) (g .at .table) (g .at .path) (keeps j bytes start table₀ path₀ R (g .riding)) l in
+        omega (arith, few, l, size-high j bytes H, ap (λ u. u .length) (g .state-is), ap length (g .path-is))
+
+    pub path-fits : s .length < 4096
+    path-fits = short-path .1
+
+    pub path-size : length (onPath s path) ≡ s .length
+    path-size = length-take-le (s .length) path (short-path .0)
+
+    -- the last sum is the kept cost
+    kept-is : {along : List ℕ} → Along j bytes s path along → getD along (s .length) 0 ≡ model.kept j bytes (g .at)
+    unfolding model.kept
+    kept-is {along} S =
+        ap (λ (n : ℕ). getD along n 0) (sym path-size)
+        ∙ sum-last (learningJob j bytes .leg) (onPath s path) (s .current) (S .sums)
+        ∙ sym (λ i. legs (learningJob j bytes .leg) (onPath (g .state-is i) (g .path-is i)) (g .state-is i .current))
+
+    pub kept-fits : {along : List ℕ} → Along j bytes s path along → getD along (s .length) 0 ≤ 16917280
+    kept-fits S = omega (arith, kept-is S, kept-low j bytes start table₀ path₀ R (g .riding))
+
     -- at the goal the ride is over
     pub over : s .current ≡ j .goal → g .at ≡ ride j bytes start table₀ path₀
     over e =
         let there : atGoal j bytes (g .at .state .current) ≡ true =
         ap (λ x. atGoal j bytes x) (ap (λ u. u .current) (g .state-is) ∙ e) ∙ is-true _ (goal-is (floorOf j bytes) (j .goal) (free-below _ _ (R .opened .held .bench))) in
         sym (ride-there j bytes _ (g .at) there) ∙ g .comes
+
+    -- and the record is the ride's
+    pub rode : {along : List ℕ} → s .current ≡ j .goal → Along j bytes s path along
+        → Rode j bytes (ride j bytes start table₀ path₀) (record { decisions = decisions; learned = learned; kept = getD along (s .length) 0; travel = travel }) table path
+    rode e S = subst (λ o. Rode j bytes o _ table path) (over e) (record {
+      record-is = sym (λ i. record { decisions = g .decisions-is i; learned = g .learned-is i; kept = sym (kept-is S) i; travel = g .travel-is i });
+      table-is = sym (g .table-is);
+      path-is = sym (g .path-is);
+    })
 
     module _ (aside : s .current ≡ j .goal → ⊥) where
       pub off : atGoal j bytes (g .at .state .current) ≡ false
@@ -138,32 +183,50 @@ module _ (j : Job) (bytes : List ℕ) (start : ℕ) (table₀ path₀ : List ℕ
           subst (λ x. potential (learningJob j bytes) x < yetTo j bytes s table path) after
           (subst (λ x. yet j bytes (next j bytes (g .at)) < potential (learningJob j bytes) x) here (falls j bytes start table₀ path₀ R (g .riding) off))
 
-  -- ---- after the decisions
+  module _ {s : State} {decisions learned travel : ℕ} {table path along : List ℕ} (g : Driving j bytes start table₀ path₀ s decisions learned travel table path) (aside : s .current ≡ j .goal → ⊥)
+      {moves moves′ table′ path′ : List ℕ} {from : ℕ} {r : Acted} (a : Acts (act j bytes s table path) moves from r table′ path′ moves′) (S : Along j bytes s path along) where
+    abbrev J : learning.Job
+    J = learningJob j bytes
 
-  module _ {r : Driven} {table path mark cost list : List ℕ} (d : Drove (ride j bytes start table₀ path₀) r table path mark cost list) where
-    -- the path is a chain of legs
-    pub chains : Chained j bytes path (r .state .length) (r .state .current)
-    chains =
-        let o = ride j bytes start table₀ path₀ in
-        let g = ride-riding j bytes start table₀ path₀ R in
-        let c = chained j bytes (R .opened .held) (o .state) (o .table) (o .path) (keeps j bytes start table₀ path₀ R g) (room j bytes start table₀ path₀ R g) in
-        subst (λ p. Chained j bytes p (r .state .length) (r .state .current)) (sym (d .path-is)) (subst (λ u. Chained j bytes (o .path) (u .length) (u .current)) (sym (d .state-is)) c)
+    -- the decision as `learning` has it
+    stepped : Step J (asState s table path) (r .rise) (r .cost) (asState (r .state) table′ path′)
+    stepped =
+        let did = same g aside in
+        let here = coe 0 1 (i. Step J (asState (g .state-is i) (g .table-is i) (g .path-is i)) (did i .rise) (did i .cost) (asState (did i .state) (did i .table) (did i .path)))
+        (does j bytes start table₀ path₀ R (g .riding) (off g aside) .step) in
+        coe 1 0 (i. Step J (asState s table path) (a .rise i) (a .cost i) (asState (a .state i) (a .table i) (a .path i))) here
 
-    -- and the record is the ride's
-    pub rode : (kept : ℕ) → kept ≡ keptAlong j bytes path (r .state .length) (r .state .current)
-        → Rode j bytes (ride j bytes start table₀ path₀) (record { decisions = r .decisions; learned = r .learned; kept = kept; travel = r .travel }) table path
-    unfolding model.kept
-    rode kept e =
-        let same : kept ≡ model.kept j bytes (ride j bytes start table₀ path₀) = e ∙ (λ i. keptAlong j bytes (d .path-is i) (d .state-is i .length) (d .state-is i .current)) in
+    -- its leg is noted
+    pub notes : {along′ : List ℕ} → along′ ≡ noted along (s .length) (r .state .length) (r .cost) → Along j bytes (r .state) path′ along′
+    notes e =
+        let next = drives g aside a in
+        let room : length (onPath (r .state) path′) < length along = omega (arith, path-size next, path-fits next, S .size) in
+        let note = e ∙ (λ i. noted along (sym (path-size g) i) (sym (path-size next) i) (r .cost)) in
         record {
-          record-is = λ i. record { decisions = d .decisions-is i; learned = d .learned-is i; kept = same i; travel = d .travel-is i };
-          table-is = d .table-is;
-          path-is = d .path-is;
+          size = ap length e ∙ noted-size along (s .length) (r .state .length) (r .cost) ∙ S .size;
+          sums = subst (Sums (J .leg) (onPath (r .state) path′ ++ r .state .current ∷ [])) (sym note) (noted-sums J stepped room (S .sums));
+        }
+
+    pub may-note : Fits along (s .length) (r .state .length) (r .cost)
+    may-note =
+        let next = drives g aside a in
+        record {
+          size = S .size;
+          place = λ h. path-fits next;
+          sum = λ h.
+              let stored = ap (λ xs. getD xs (r .state .length) 0) (note-more along (s .length) (r .state .length) (r .cost) h) in
+              omega (arith, stored, getD-set-same along (r .state .length) (getD along (s .length) 0 + r .cost) 0 (omega (arith, path-fits next, S .size)), kept-fits next (notes refl));
         }
 
 -- the scratch lists that a trial starts with
-pub scratched : Scratch (replicate 288 0) (replicate 4096 0) (replicate 4096 0) (replicate 8192 0) (replicate 4096 0)
-scratched = record { room = length-replicate {A = ℕ} 288 0; fresh = fresh-zeros; places = length-replicate {A = ℕ} 4096 0 }
+pub scratched : Scratch (replicate 288 0) (replicate 4096 0) (replicate 4096 0) (replicate 8192 0) (replicate 4096 0) (replicate 4096 0)
+scratched = record {
+  room = length-replicate {A = ℕ} 288 0;
+  fresh = fresh-zeros;
+  places = length-replicate {A = ℕ} 4096 0;
+  sums = length-replicate {A = ℕ} 4096 0;
+  none-yet = getD-replicate {A = ℕ} 4096 0 0 0 (omega arith);
+}
 
 -- ---- a trial's answer, by what the opening answers
 

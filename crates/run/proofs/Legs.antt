@@ -1,120 +1,124 @@
--- The legs of a path: each of its cells leads on to the next one, and what they cost is summed from the path's end.
--- A cell of a trial's path can reach the goal, so its lookahead sees no empty ring; and the next cell is on its last ring.
-use Prim.Native.Nat.{ℕ, zero, suc, _+_, _-_, _*_, _≤_, _<_}
-use mathlib.Core.Path.{_≡_, sym, ap, subst, _∙_}
-use mathlib.Core.List.{List, [], _∷_}
+-- What the legs of a path come to up to each of its places, and that a decision's note keeps it.
+-- A decision adds a cell to the path and the current cell, or leaves a first part of them, whose sums stand as they are.
+use Prim.Native.Nat.{ℕ, zero, suc, _+_, _≤_, _<_}
+use mathlib.Core.Path.{_≡_, refl, sym, ap, subst, _∙_}
+use mathlib.Core.Bool.{Bool, true, false}
+use mathlib.Core.List.{List, [], _∷_, _++_}
+use native.Mathlib.Decide.{ℕ-discrete, decLe}
 use native.Mathlib.Omega.{arith}
-use lib.Dec.{T}
-use lib.ListN.{length, getD, take, drop, drop-of-length-le}
-use lib.Seq.{drop-cons, getD-take, length-take-le}
-use Rattle.learning.specs.Path.{first, legs, Linked, loose, link, All, end, also}
-use Rattle.learning.specs.Trial.{CanReach, LeadsOn}
-use Rattle.learning.specs.Ground.{ringOf, lastOf, legOf}
-use Rattle.learning.proofs.Walks.{turn}
-use Rattle.learning.proofs.Paths.{all-init}
-use Rattle.learning.proofs.Trials.{Keeps}
-use Rattle.learning.proofs.Never.{ring-met}
-use Rattle.learning.proofs.Look.{walk-inside}
-use Rattle.answers.specs.declared.Job.{Job}
-use Rattle.answers.specs.declared.State.{State}
-use Rattle.model.specs.Floor.{size}
-use Rattle.model.specs.Checks.{floorOf, groundIn}
-use Rattle.model.specs.Lookahead.{seen}
-use Rattle.model.specs.Decision.{atGoal, onPath}
-use Rattle.model.specs.Ride.{learningJob}
-use Rattle.model.proofs.Held.{free-below}
-use Rattle.model.proofs.Openings.{Held}
-use Rattle.model.proofs.Meaning.{goal-is}
-use Rattle.model.proofs.Rings.{empty-none}
-use Rattle.model.proofs.Judged.{reach-free}
-use Rattle.model.proofs.Steps.{asState, short, size-high}
-use Rattle.run.specs.Trials.{Leads, Chained, keptAlong}
+use borrow.Author.Tests.{lt-ltb, le-ltb}
+use lib.Dec.{ltb}
+use lib.ListN.{length, getD, set, take, length-set, length-append, length-take, List·getD-append}
+use lib.Seq.{take-all, take-at, take-append-le, take-take, getD-at, getD-take, getD-set-same, getD-set-other}
+use Rattle.learning.specs.Path.{before, keepUnless, legs}
+use Rattle.learning.specs.Trial.{Job, State, Step, forward, backOut, stay}
+use Rattle.learning.proofs.Lent.{before-take, legs-snoc}
+use Rattle.model.specs.Basics.{choose}
+use Rattle.run.specs.Trials.{noted}
 
--- ---- each cell leads on
+pub note-more : (along : List ℕ) (n m leg : ℕ) → n < m → noted along n m leg ≡ set along m (getD along n 0 + leg)
+note-more along n m leg h = ap (λ b. choose b (set along m (getD along n 0 + leg)) along) (lt-ltb n m h)
 
-linked-at : {E : ℕ → ℕ → Type 0} {xs : List ℕ} {c : ℕ} → Linked E xs c → (i : ℕ) → i < length xs → E (getD xs i 0) (first (drop (suc i) xs) c)
-linked-at loose i h = absurd (omega arith)
-linked-at (link e k) zero h = e
-linked-at (link e k) (suc i) h = linked-at k i (omega arith)
+pub note-none : (along : List ℕ) (n m leg : ℕ) → m ≤ n → noted along n m leg ≡ along
+note-none along n m leg h = ap (λ b. choose b (set along m (getD along n 0 + leg)) along) (le-ltb n m h)
 
-all-at : {P : ℕ → Type 0} {xs : List ℕ} → All P xs → (i : ℕ) → i < length xs → P (getD xs i 0)
-all-at end i h = absurd (omega arith)
-all-at (also p k) zero h = p
-all-at (also p k) (suc i) h = all-at k i (omega arith)
+pub noted-size : (along : List ℕ) (n m leg : ℕ) → length (noted along n m leg) ≡ length along
+noted-size along n m leg = by (ltb n m)
+  where
+    by : (b : Bool) → length (choose b (set along m (getD along n 0 + leg)) along) ≡ length along
+    by true = length-set along m (getD along n 0 + leg)
+    by false = refl
 
-module _ (j : Job) (bytes : List ℕ) (H : Held j bytes) where
-  pub leads : (s x : ℕ) → CanReach (learningJob j bytes) s → LeadsOn (learningJob j bytes) s x → Leads j bytes s x
-  unfolding ringOf lastOf
-  leads s x r (off, e) = record {
-    asked = record {
-      sized = H .sized;
-      start = reach-free j bytes H s r;
-      bench = H .bench;
-      apart = λ same. off (subst (λ y. T (atGoal j bytes y)) (sym same) (goal-is (floorOf j bytes) (j .goal) (free-below _ _ (H .bench))));
-      shallow = H .settings .deep;
-      deep = H .settings .shallow;
-    };
-    near = omega (arith, e);
-    full = empty-none j bytes (seen j bytes s) (seen j bytes s .last) (λ i h l.
-        let (y, at) = ring-met (H .lawful) s off r i l in
-        let near : ringOf (groundIn j bytes) (j .depth) s y ≤ lastOf (groundIn j bytes) (j .depth) s = omega arith in
-        (y, walk-inside (groundIn j bytes) (H .lawful .on-floor s r) (turn (H .lawful .windows s off r .attained y near .1)), at));
+-- a path cut at a cell of it, and that cell
+before-met : (t : ℕ) (xs : List ℕ) → length (before t xs) < length xs → before t xs ++ t ∷ [] ≡ take (suc (length (before t xs))) xs
+before-met t [] h = absurd (omega arith)
+before-met t (x ∷ xs) h = by (ℕ-discrete x t) (before-met t xs) h
+  where
+    by : (d : Dec (x ≡ t)) → (length (before t xs) < length xs → before t xs ++ t ∷ [] ≡ take (suc (length (before t xs))) xs)
+        → length (keepUnless d x (before t xs)) < length (x ∷ xs) → keepUnless d x (before t xs) ++ t ∷ [] ≡ take (suc (length (keepUnless d x (before t xs)))) (x ∷ xs)
+    by (yes e) r l = ap (λ y. y ∷ []) (sym e)
+    by (no e) r l = ap (λ ys. x ∷ ys) (r (omega arith))
+
+-- What the legs from the first of these cells to each of them cost.
+pub record Sums (leg : ℕ → ℕ → ℕ) (cells along : List ℕ) : Type 0 where
+  pub upto : (k : ℕ) → k < length cells → getD along k 0 ≡ legs leg (take k cells) (getD cells k 0)
+
+module _ (leg : ℕ → ℕ → ℕ) {along : List ℕ} where
+  pub sums-none : (c : ℕ) → getD along 0 0 ≡ 0 → Sums leg (c ∷ []) along
+  sums-none c e = record { upto = by }
+    where
+      by : (k : ℕ) → k < 1 → getD along k 0 ≡ legs leg (take k (c ∷ [])) (getD (c ∷ []) k 0)
+      by zero h = e
+      by (suc k) h = absurd (omega arith)
+
+  pub sum-last : (p : List ℕ) (c : ℕ) → Sums leg (p ++ c ∷ []) along → getD along (length p) 0 ≡ legs leg p c
+  sum-last p c s =
+      s .upto (length p) (omega (arith, length-append p (c ∷ [])))
+      ∙ (λ i. legs leg (take-at p (c ∷ []) (length p) refl i) (getD-at p c [] 0 (length p) refl i))
+
+  sums-part : (m : ℕ) (cells : List ℕ) → Sums leg cells along → Sums leg (take m cells) along
+  sums-part m cells s = record {
+    upto = λ k h.
+        let inside : (k < m) × (k < length cells) = omega (arith, length-take m cells) in
+        s .upto k (inside .1) ∙ sym (λ i. legs leg (take-take k m cells (omega arith) i) (getD-take m cells k 0 (inside .0) i));
   }
 
-  pub chained : {start : ℕ} (s : State) (table path : List ℕ) → Keeps (learningJob j bytes) start (asState s table path) → size (floorOf j bytes) ≤ length path
-      → Chained j bytes path (s .length) (s .current)
-  chained s table path k room =
-      let long : s .length ≤ length path = omega (arith, short j bytes H s table path k room) in
-      let all : length (onPath s path) ≡ s .length = length-take-le (s .length) path long in
-      record {
-        long = long;
-        short = omega (arith, short j bytes H s table path k room, size-high j bytes H);
-        leads = λ i h.
-            let at = getD-take (s .length) path i 0 h in
-            subst (λ c. Leads j bytes c (first (drop (suc i) (onPath s path)) (s .current))) at
-            (leads _ _ (all-at (all-init (onPath s path) (s .current) (k .reach)) i (omega arith)) (linked-at (k .linked) i (omega arith)));
-      }
+  sums-more : (p : List ℕ) (s t : ℕ) → suc (length p) < length along → Sums leg (p ++ s ∷ []) along
+      → Sums leg ((p ++ s ∷ []) ++ t ∷ []) (set along (suc (length p)) (getD along (length p) 0 + leg s t))
+  sums-more p s t room S = record { upto = λ k h. by k h (decLe k (length p)) }
+    where
+      cells : List ℕ
+      cells = p ++ s ∷ []
 
--- ---- their sum, from the end
+      size : length cells ≡ suc (length p)
+      size = omega (arith, length-append p (s ∷ []))
 
--- the legs from the path's cell at i on are summed, and lead from there to the cell `to`
-pub record Summed (j : Job) (bytes path : List ℕ) (n current i to sum : ℕ) : Type 0 where
-  pub upto : i ≤ n
-  pub next : to ≡ first (drop i (take n path)) current
-  pub all : sum ≡ legs (legOf (groundIn j bytes) (j .depth)) (drop i (take n path)) current
-  pub low : sum ≤ 112 * (n - i)
+      more : List ℕ
+      more = set along (suc (length p)) (getD along (length p) 0 + leg s t)
 
-module _ {j : Job} {bytes path : List ℕ} {n current : ℕ} where
-  pub summed-none : n ≤ length path → Summed j bytes path n current n current 0
-  summed-none h =
-      let few : length (take n path) ≤ n = omega (arith, length-take-le n path h) in
-      let e : drop n (take n path) ≡ [] = drop-of-length-le (take n path) few in
-      record { upto = omega arith; next = ap (λ xs. first xs current) (sym e); all = ap (λ xs. legs (legOf (groundIn j bytes) (j .depth)) xs current) (sym e); low = omega arith }
+      by : (k : ℕ) → k < length (cells ++ t ∷ []) → Dec (k ≤ length p) → getD more k 0 ≡ legs leg (take k (cells ++ t ∷ [])) (getD (cells ++ t ∷ []) k 0)
+      by k h (yes l) =
+          getD-set-other along (suc (length p)) k _ 0 (λ e. omega arith)
+          ∙ S .upto k (omega (arith, size))
+          ∙ sym (λ i. legs leg (take-append-le k cells (t ∷ []) (omega (arith, size)) i) (List·getD-append cells (t ∷ []) 0 k (omega (arith, size)) i))
+      by k h (no l) =
+          let e : k ≡ suc (length p) = omega (arith, size, length-append cells (t ∷ [])) in
+          ap (λ (i : ℕ). getD more i 0) e
+          ∙ getD-set-same along (suc (length p)) _ 0 room
+          ∙ ap (λ (n : ℕ). n + leg s t) (sum-last p s S)
+          ∙ sym (legs-snoc leg p s t)
+          ∙ sym (λ i. legs leg (take-at cells (t ∷ []) k (size ∙ sym e) i) (getD-at cells t [] 0 k (size ∙ sym e) i))
 
-  -- the cell before i leads on to where these lead from
-  pub leads-here : {i to sum s : ℕ} → Chained j bytes path n current → Summed j bytes path n current i to sum → 0 < i → s ≡ getD path (i - 1) 0 → Leads j bytes s to
-  leads-here {i} {to} C g some at =
-      let back : suc (i - 1) ≡ i = omega arith in
-      let on : first (drop (suc (i - 1)) (take n path)) current ≡ to = ap (λ (k : ℕ). first (drop k (take n path)) current) back ∙ sym (g .next) in
-      subst (λ x. Leads j bytes x to) (sym at) (subst (Leads j bytes (getD path (i - 1) 0)) on (C .leads (i - 1) (omega (arith, g .upto))))
+module _ (J : Job) where
+  -- going forward, to a cell off the path or on it
+  gone : {along : List ℕ} (p : List ℕ) (s t : ℕ) → length (before t (p ++ s ∷ [])) < length along → Sums (J .leg) (p ++ s ∷ []) along
+      → Sums (J .leg) (before t (p ++ s ∷ []) ++ t ∷ []) (noted along (length p) (length (before t (p ++ s ∷ []))) (J .leg s t))
+  gone {along} p s t room S = by (decLe (length (before t cells)) (length p))
+    where
+      cells : List ℕ
+      cells = p ++ s ∷ []
 
-  pub summed-more : (i to sum s cost : ℕ) → n ≤ length path → Summed j bytes path n current i to sum → 0 < i → s ≡ getD path (i - 1) 0
-      → cost ≡ legOf (groundIn j bytes) (j .depth) s to → cost ≤ 112 → Summed j bytes path n current (i - 1) s (sum + cost)
-  summed-more i to sum s cost h g some at e cheap =
-      let xs = take n path in
-      let back : suc (i - 1) ≡ i = omega arith in
-      let here : getD xs (i - 1) 0 ≡ s = getD-take n path (i - 1) 0 (omega (arith, g .upto)) ∙ sym at in
-      let cut : drop (i - 1) xs ≡ s ∷ drop i xs =
-      drop-cons xs (i - 1) 0 (omega (arith, g .upto, length-take-le n path h)) ∙ (λ k. here k ∷ drop (back k) xs) in
-      let leg : cost ≡ legOf (groundIn j bytes) (j .depth) s (first (drop i xs) current) = e ∙ ap (legOf (groundIn j bytes) (j .depth) s) (g .next) in
-      record {
-        upto = omega (arith, g .upto);
-        next = ap (λ ys. first ys current) (sym cut);
-        all = omega (arith, g .all, leg) ∙ ap (λ ys. legs (legOf (groundIn j bytes) (j .depth)) ys current) (sym cut);
-        low = omega (arith, g .low, g .upto);
-      }
+      size : length cells ≡ suc (length p)
+      size = omega (arith, length-append p (s ∷ []))
 
-  pub summed-all : (i to sum : ℕ) → Summed j bytes path n current i to sum → i ≤ 0 → sum ≡ keptAlong j bytes path n current
-  summed-all i to sum g none =
-      let e : i ≡ 0 = omega arith in
-      g .all ∙ ap (λ (k : ℕ). legs (legOf (groundIn j bytes) (j .depth)) (drop k (take n path)) current) e
+      by : Dec (length (before t cells) ≤ length p) → Sums (J .leg) (before t cells ++ t ∷ []) (noted along (length p) (length (before t cells)) (J .leg s t))
+      by (yes h) =
+          subst (Sums (J .leg) (before t cells ++ t ∷ [])) (sym (note-none along (length p) (length (before t cells)) (J .leg s t) h))
+          (subst (λ xs. Sums (J .leg) xs along) (sym (before-met t cells (omega (arith, size)))) (sums-part (J .leg) (suc (length (before t cells))) cells S))
+      by (no h) =
+          let all : before t cells ≡ cells = sym (before-take t cells) ∙ take-all (length (before t cells)) cells (omega (arith, size)) in
+          let many : length (before t cells) ≡ suc (length p) = ap length all ∙ size in
+          let note : noted along (length p) (length (before t cells)) (J .leg s t) ≡ set along (suc (length p)) (getD along (length p) 0 + J .leg s t) =
+          note-more along (length p) (length (before t cells)) (J .leg s t) (omega arith) ∙ ap (λ (m : ℕ). set along m (getD along (length p) 0 + J .leg s t)) many in
+          subst (Sums (J .leg) (before t cells ++ t ∷ [])) (sym note)
+          (subst (λ xs. Sums (J .leg) (xs ++ t ∷ []) (set along (suc (length p)) (getD along (length p) 0 + J .leg s t))) (sym all) (sums-more (J .leg) p s t (omega (arith, many)) S))
+
+  -- a decision, and its note
+  pub noted-sums : {x y : State} {a d : ℕ} {along : List ℕ} → Step J x a d y → length (y .path) < length along → Sums (J .leg) (x .path ++ x .cell ∷ []) along
+      → Sums (J .leg) (y .path ++ y .cell ∷ []) (noted along (length (x .path)) (length (y .path)) d)
+  noted-sums (forward {s = s} {t = t} {path = p} g A i) room S = gone p s t room S
+  noted-sums {along = along} (backOut {s = s} {l = l} {path = p} g A i) room S =
+      let less : length p ≤ length (p ++ l ∷ []) = omega (arith, length-append p (l ∷ [])) in
+      subst (Sums (J .leg) (p ++ l ∷ [])) (sym (note-none along (length (p ++ l ∷ [])) (length p) (J .leg l s) less))
+      (subst (λ xs. Sums (J .leg) xs along) (take-at (p ++ l ∷ []) (s ∷ []) (length (p ++ l ∷ [])) refl) (sums-part (J .leg) (length (p ++ l ∷ [])) ((p ++ l ∷ []) ++ s ∷ []) S))
+  noted-sums (stay g A i) room S = S

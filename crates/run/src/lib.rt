@@ -6,8 +6,7 @@ ghost use mathlib.Core.List.{_++_};
 ghost use lib.ListN.{length, set, getD, take, drop};
 ghost use Rattle.model.specs.Opening.{openTrial, openRun};
 ghost use Rattle.model.specs.Ride.{ride, trial, run};
-ghost use Rattle.lookahead.specs.Contract.{Fresh};
-ghost use Rattle.run.specs.Trials.{none, Leads, Chained, Legged, keptAlong, Scratch, Drove, Rode, IsTrial, IsRun, allowedBy, limitAfter, answered};
+ghost use Rattle.run.specs.Trials.{none, Fits, noted, Scratch, Rode, IsTrial, IsRun, allowedBy, limitAfter, answered};
 ghost use Rattle.run.specs.Numbers.{recordAt, records, put, numbers, Counted, IsCounted};
 use answers::Job;
 use answers::Ran;
@@ -15,7 +14,6 @@ use answers::Report;
 use answers::State;
 use answers::Tried;
 use answers::Verdict;
-use lookahead::Around;
 
 // One record is stored.
 pub fn store_report(reports: &mut [Report], at: usize, r: Report)
@@ -33,82 +31,17 @@ pub fn load_report(reports: &[Report], at: usize) -> Report
     reports[at]
 }
 
-// What a leg costs, and the next lookahead's base.
-struct Leg {
-    cost: u64,
-    base: u32,
-}
-
-// The leg from the cell s to the cell x, which s leads on to: one lookahead.
-fn leg_from(
-    job: Job,
-    floor: &[u8],
-    s: usize,
-    x: usize,
-    base: u32,
-    mark: &mut [u32],
-    cost: &mut [u16],
-    list: &mut [u16],
-) -> Leg
-    requires { ⌜ Leads job (now floor) s x ⌝ ∗ ⌜ Fresh base (now mark) (now cost) (now list) ⌝ }
-    ensures { λ r. ⌜ Legged job (now (floor .entry)) s x r (now (mark .exit)) (now (cost .exit)) (now (list .exit)) ⌝ }
+// The costs of the legs up to the places of the path: where a decision adds a cell, what they come to there is noted.
+pub fn note_leg(along: &mut [u32], before: usize, after: usize, leg: usize)
+    requires { ⌜ Fits (now along) before after leg ⌝ }
+    ensures { λ _. ⌜ now (along .exit) ≡ noted (now (along .entry)) before after leg ⌝ }
 {
-    match lookahead::look(job, floor, s, base, mark, cost, list) {
-        Around::Window { last, n } => {
-            let c = lookahead::leg(job, floor, s, base, mark, cost, x);
-            let next = lookahead::renew(base, mark);
-            Leg {
-                cost: c as u64,
-                base: next,
-            }
-        }
-        Around::Empty => Leg {
-            cost: 0,
-            base: base,
-        },
+    if before < after {
+        along[after] = along[before] + leg as u32;
     }
 }
 
-// Kept cost: the legs along a path of so many cells that leads to the current one, from its end to its start.
-pub fn kept_cost(
-    job: Job,
-    floor: &[u8],
-    path: &[u16],
-    n: usize,
-    current: usize,
-    base: u32,
-    mark: &mut [u32],
-    cost: &mut [u16],
-    list: &mut [u16],
-) -> u64
-    requires { ⌜ Chained job (now floor) (now path) n current ⌝ ∗ ⌜ Fresh base (now mark) (now cost) (now list) ⌝ }
-    ensures { λ r. ⌜ r ≡ keptAlong job (now (floor .entry)) (now (path .entry)) n current ⌝ }
-{
-    let mut sum: u64 = 0;
-    let mut to = current;
-    let mut next = base;
-    let mut i = n;
-    while 0 < i {
-        i -= 1;
-        let s = floor::wide16(path[i]);
-        let leg = leg_from(job, floor, s, to, next, mark, cost, list);
-        sum += leg.cost;
-        next = leg.base;
-        to = s;
-    }
-    sum
-}
-
-// Where a trial stands after its decisions: the state and the counts, and the next lookahead's base.
-pub struct Driven {
-    pub state: State,
-    pub decisions: u64,
-    pub learned: u64,
-    pub travel: u64,
-    pub base: u32,
-}
-
-// The decisions of a trial, until the goal.
+// A trial on scratch lists that are lent: decisions until the goal. The sum at the path's end is the kept cost: cells cut off lie past it.
 fn drive(
     job: Job,
     floor: &[u8],
@@ -120,9 +53,10 @@ fn drive(
     cost: &mut [u16],
     list: &mut [u16],
     place: &mut [u16],
-) -> Driven
-    requires { ⌜ openTrial job (now floor) start (now table) (now path) ≡ Verdict.Done ⌝ ∗ ⌜ Scratch (now moves) (now mark) (now cost) (now list) (now place) ⌝ }
-    ensures { λ r. ⌜ Drove (ride job (now (floor .entry)) start (now (table .entry)) (now (path .entry))) r (now (table .exit)) (now (path .exit)) (now (mark .exit)) (now (cost .exit)) (now (list .exit)) ⌝ }
+    along: &mut [u32],
+) -> Report
+    requires { ⌜ openTrial job (now floor) start (now table) (now path) ≡ Verdict.Done ⌝ ∗ ⌜ Scratch (now moves) (now mark) (now cost) (now list) (now place) (now along) ⌝ }
+    ensures { λ r. ⌜ Rode job (now (floor .entry)) (ride job (now (floor .entry)) start (now (table .entry)) (now (path .entry))) r (now (table .exit)) (now (path .exit)) ⌝ }
 {
     let mut state = State {
         current: start,
@@ -149,66 +83,20 @@ fn drive(
             place,
         );
         let after = r.state;
+        note_leg(along, state.length, after.length, r.cost);
         state = after;
         decisions += 1;
         learned += r.rise as u64;
         travel += r.cost as u64;
         base = r.base;
     }
-    Driven {
-        state: state,
+    let last = state.length;
+    let kept = along[last] as u64;
+    Report {
         decisions: decisions,
         learned: learned,
-        travel: travel,
-        base: base,
-    }
-}
-
-// A trial on scratch lists that are lent: its decisions, and its kept cost.
-fn ride_on(
-    job: Job,
-    floor: &[u8],
-    start: usize,
-    table: &mut [u32],
-    path: &mut [u16],
-    moves: &mut [u8],
-    mark: &mut [u32],
-    cost: &mut [u16],
-    list: &mut [u16],
-    place: &mut [u16],
-) -> Report
-    requires { ⌜ openTrial job (now floor) start (now table) (now path) ≡ Verdict.Done ⌝ ∗ ⌜ Scratch (now moves) (now mark) (now cost) (now list) (now place) ⌝ }
-    ensures { λ r. ⌜ Rode job (now (floor .entry)) (ride job (now (floor .entry)) start (now (table .entry)) (now (path .entry))) r (now (table .exit)) (now (path .exit)) ⌝ }
-{
-    let d = drive(
-        job,
-        floor,
-        start,
-        table,
-        path,
-        moves,
-        mark,
-        cost,
-        list,
-        place,
-    );
-    let state = d.state;
-    let kept = kept_cost(
-        job,
-        floor,
-        path,
-        state.length,
-        state.current,
-        d.base,
-        mark,
-        cost,
-        list,
-    );
-    Report {
-        decisions: d.decisions,
-        learned: d.learned,
         kept: kept,
-        travel: d.travel,
+        travel: travel,
     }
 }
 
@@ -222,7 +110,8 @@ fn ride(job: Job, floor: &[u8], start: usize, table: &mut [u32], path: &mut [u16
     let mut cost = [0u16; 4096];
     let mut list = [0u16; 8192];
     let mut place = [0u16; 4096];
-    ride_on(
+    let mut along = [0u32; 4096];
+    drive(
         job,
         floor,
         start,
@@ -233,6 +122,7 @@ fn ride(job: Job, floor: &[u8], start: usize, table: &mut [u32], path: &mut [u16
         &mut cost,
         &mut list,
         &mut place,
+        &mut along,
     )
 }
 

@@ -20,8 +20,11 @@ slice-aggregate-tell-on-4 c = search needs
 slice-aggregate-tell-on-5 : tie.Need-slice-aggregate-tell-on-5
 slice-aggregate-tell-on-5 c = search needs
 
+slice-aggregate-tell-on-6 : tie.Need-slice-aggregate-tell-on-6
+slice-aggregate-tell-on-6 c = search needs
+
 tell-on-requires : tie.Need-tell-on-requires
-tell-on-requires c κs = (c .before .before .before .before .before .before .before .before .before .before .before .before .pre .0, (scratched, c .before .before .before .before .before .before .before .before .before .before .before .before .pre .1))
+tell-on-requires c κs = (c .before .before .before .before .before .before .before .before .before .before .before .before .before .pre .0, (scratched, c .before .before .before .before .before .before .before .before .before .before .before .before .before .pre .1))
 
 same-length : tie.Need-same-length
 same-length c = search needs
@@ -44,6 +47,7 @@ tell-spec =
     slice-aggregate-tell-on-3
     slice-aggregate-tell-on-4
     slice-aggregate-tell-on-5
+    slice-aggregate-tell-on-6
     tell-on-requires
     same-length
     same-length-2

@@ -1,6 +1,5 @@
--- `journey::tell_on` meets its contract: the decisions leave a chain of legs, whose sum is the kept cost; the moves and the counts are the line.
+-- `journey::tell_on` meets its contract: the moves and the counts are the line.
 -- Assumes nothing.
-use Rattle.run.proofs.Driving.{chains, rode}
 use Rattle.journey.proofs.Telling.{told-line}
 use borrow.Author.Needs.{needs}
 use Rattle.journey.proofs.tell_on.Statement.{statement}
@@ -9,13 +8,8 @@ use Rattle.journey.proofs.tell_on.Tie as tie
 tell-moves-requires : tie.Need-tell-moves-requires
 tell-moves-requires c κs = search needs
 
-kept-cost-requires : tie.Need-kept-cost-requires
-kept-cost-requires c κs =
-    let d = c .before .before .before .before .before .before .before .before .before .before .before .before .before .before .before .before .before .before .before .before .before .before .tell-moves .ensures .drove in
-    (chains _ _ _ _ _ (c .before .before .before .before .before .before .before .before .before .before .before .before .before .before .before .before .before .before .before .before .before .before .before .before .before .before .before .before .before .before .before .before .before .before .before .before .before .before .before .before .pre .0) d, d .fresh)
-
 say-counts-requires : tie.Need-say-counts-requires
-say-counts-requires c κs = c .before .before .before .before .before .before .before .before .before .before .before .before .before .before .before .before .before .before .before .before .before .before .before .before .before .before .before .before .before .before .tell-moves .ensures .told .room
+say-counts-requires c κs = c .before .before .before .before .before .before .before .before .before .before .before .before .before .before .before .before .before .before .before .before .tell-moves .ensures .told .room
 
 same-length : tie.Need-same-length
 same-length c = search needs
@@ -41,18 +35,19 @@ same-length-7 c = search needs
 same-length-8 : tie.Need-same-length-8
 same-length-8 c = search needs
 
+same-length-9 : tie.Need-same-length-9
+same-length-9 c = search needs
+
 returns : tie.Need-returns
 returns c =
-    let w = c .before .before .before .before .before .before .before .before .before .before .before .before .before .before .before .before .before .before .before .before .before .before .before .before .before .before .before .before .before .before .before .before .before .tell-moves .ensures in
-    let r = rode _ _ _ _ _ (c .before .before .before .before .before .before .before .before .before .before .before .before .before .before .before .before .before .before .before .before .before .before .before .before .before .before .before .before .before .before .before .before .before .before .before .before .before .before .before .before .before .before .before .before .before .before .before .before .before .before .before .pre .0) (w .drove) _ (c .before .before .before .before .before .before .before .before .before .before .kept-cost .ensures) in
-    record { rode = r; told = told-line _ _ _ _ _ (w .moved) (r .record-is) (w .told) (c .before .before .say-counts .ensures) }
+    let w = c .before .before .before .before .before .before .before .before .before .before .before .before .before .before .before .before .before .before .before .before .before .before .before .tell-moves .ensures in
+    record { rode = w .rode; told = told-line _ _ _ _ _ (w .moved) (w .rode .record-is) (w .told) (c .before .before .say-counts .ensures) }
 
 pub tell-on-spec : {M : Type 1} → statement M
 tell-on-spec =
     tie.close
     (tie.spec
     tell-moves-requires
-    kept-cost-requires
     say-counts-requires
     same-length
     same-length-2
@@ -62,4 +57,5 @@ tell-on-spec =
     same-length-6
     same-length-7
     same-length-8
+    same-length-9
     returns)

@@ -5,23 +5,26 @@ use Rattle.run.proofs.Driving.{scratched}
 use Rattle.run.proofs.ride.Statement.{statement}
 use Rattle.run.proofs.ride.Tie as tie
 
-slice-aggregate-ride-on : tie.Need-slice-aggregate-ride-on
-slice-aggregate-ride-on c = search needs
+slice-aggregate-drive : tie.Need-slice-aggregate-drive
+slice-aggregate-drive c = search needs
 
-slice-aggregate-ride-on-2 : tie.Need-slice-aggregate-ride-on-2
-slice-aggregate-ride-on-2 c = search needs
+slice-aggregate-drive-2 : tie.Need-slice-aggregate-drive-2
+slice-aggregate-drive-2 c = search needs
 
-slice-aggregate-ride-on-3 : tie.Need-slice-aggregate-ride-on-3
-slice-aggregate-ride-on-3 c = search needs
+slice-aggregate-drive-3 : tie.Need-slice-aggregate-drive-3
+slice-aggregate-drive-3 c = search needs
 
-slice-aggregate-ride-on-4 : tie.Need-slice-aggregate-ride-on-4
-slice-aggregate-ride-on-4 c = search needs
+slice-aggregate-drive-4 : tie.Need-slice-aggregate-drive-4
+slice-aggregate-drive-4 c = search needs
 
-slice-aggregate-ride-on-5 : tie.Need-slice-aggregate-ride-on-5
-slice-aggregate-ride-on-5 c = search needs
+slice-aggregate-drive-5 : tie.Need-slice-aggregate-drive-5
+slice-aggregate-drive-5 c = search needs
 
-ride-on-requires : tie.Need-ride-on-requires
-ride-on-requires c κs = (c .before .before .before .before .before .before .before .before .before .before .pre, scratched)
+slice-aggregate-drive-6 : tie.Need-slice-aggregate-drive-6
+slice-aggregate-drive-6 c = search needs
+
+drive-requires : tie.Need-drive-requires
+drive-requires c κs = (c .before .before .before .before .before .before .before .before .before .before .before .pre, scratched)
 
 same-length : tie.Need-same-length
 same-length c = search needs
@@ -36,12 +39,13 @@ pub ride-spec : {M : Type 1} → statement M
 ride-spec =
     tie.close
     (tie.spec
-    slice-aggregate-ride-on
-    slice-aggregate-ride-on-2
-    slice-aggregate-ride-on-3
-    slice-aggregate-ride-on-4
-    slice-aggregate-ride-on-5
-    ride-on-requires
+    slice-aggregate-drive
+    slice-aggregate-drive-2
+    slice-aggregate-drive-3
+    slice-aggregate-drive-4
+    slice-aggregate-drive-5
+    slice-aggregate-drive-6
+    drive-requires
     same-length
     same-length-2
     returns)
