@@ -4,7 +4,7 @@ use Prim.Native.Nat.{ℕ, zero, suc, _+_, _-_, _*_, _/_, _≤_, _<_}
 use mathlib.Core.Path.{_≡_, refl, sym, ap, _∙_, subst}
 use mathlib.Core.Bool.{Bool, true, false}
 use mathlib.Core.List.{List, [], _∷_}
-use native.Mathlib.Nat.{le-refl, le-trans, mul-le-mul, mul-le-mul-left, div-mul-le-self}
+use native.Mathlib.Nat.{le-refl, le-trans, mul-le-mul, mul-le-mul-left, mul-le-mul-right, div-mul-le-self}
 use native.Mathlib.Omega.{arith}
 use lib.Dec.{T, eqb}
 use lib.ListN.{length, getD}
@@ -16,14 +16,14 @@ use Rattle.learning.proofs.Sums.{total-high, most-low}
 use Rattle.learning.proofs.Ground.{reach-true, reach-of}
 use Rattle.learning.proofs.Ceiling.{truth-high}
 use Rattle.learning.proofs.Trials.{Keeps, keeps-opened, keeps-trial, trial-on}
-use Rattle.learning.proofs.Bounds.{potential, step-falls, potential-opened, trial-learns, stays-sound, decisions-bound}
+use Rattle.learning.proofs.Bounds.{potential, step-falls, potential-opened, trial-learns, stays-sound, decisions-bound, kept-bound}
 use Rattle.learning.proofs.Travel.{trial-cost}
 use Rattle.answers.specs.declared.Job.{Job}
 use Rattle.answers.specs.declared.Verdict.the-variants as Vd
 use Rattle.model.specs.Floor.{size}
 use Rattle.model.specs.Checks.{ceiling, floorOf, groundIn}
 use Rattle.model.specs.Decision.{atGoal, judge, act}
-use Rattle.model.specs.Ride.{Ride, begun, next, rideFrom, learningJob, bound, ride, Course, courseFrom}
+use Rattle.model.specs.Ride.{Ride, begun, next, rideFrom, learningJob, bound, ride, kept, Course, courseFrom}
 use Rattle.model.specs.Opening.{openTrial}
 use Rattle.model.proofs.Openings.{Held, Ready, accepted-trial}
 use Rattle.model.proofs.Judged.{judged}
@@ -200,6 +200,17 @@ module _ (j : Job) (bytes : List ℕ) (start : ℕ) (table path : List ℕ) (R :
         let far : 14 * j .depth ≤ 112 = omega (arith, H .settings .shallow) in
         let most = trial-cost (H .lawful) 14 (dear j bytes H) (g .made) (keeps-opened (H .lawful) start table (R .opened .sound) (R .opened .reach)) in
         omega (arith, most, mul-le-mul-left (r .decisions) far)
+
+    pub kept-low : kept j bytes r ≤ 16917280
+    unfolding kept
+    kept-low =
+        omega (
+          arith,
+          kept-bound (H .lawful) (R .opened .sound) (R .opened .reach) (g .made),
+          mul-le-mul-right (kept j bytes r) (H .settings .light),
+          truth-low start,
+          mul-le-mul (H .settings .fine) (H .settings .within),
+        )
 
     -- so each fits in 64 bits
     pub counts-fit : (r .decisions < 344642261575249) × (r .learned ≤ 3757178880) × (r .travel < 38599933296427888)
