@@ -1,20 +1,33 @@
-"""Times two programs on the same jobs by turns, and prints decisions per second of each and their ratio."""
+"""Times the proved programs beside the second program, by turns on the same jobs: `run` through `calls`, and the whole of `aisle`."""
 import statistics, subprocess, sys, time
 
-ours, second = sys.argv[1:]
-jobs = [(kind, trials) for kind, trials in (('rooms', 400), ('maze', 400), ('racks', 400), ('snake', 400))]
-print(f'{"floor":7}{"depth":>6}{"decisions":>11}{"proved /s":>12}{"plain /s":>12}{"ratio":>7}')
-for kind, trials in jobs:
+calls, aisle, second = sys.argv[1:]
+
+
+def told(command, given):
+    return subprocess.run(command, input=given, capture_output=True, check=True).stdout
+
+
+def compared(ours, plain, given):
+    """What both print, which must be the same, and the median seconds that each takes."""
+    said = told(ours, given)
+    assert said == told(plain, given), 'the outputs differ'
+    took = [[], []]
+    for _ in range(9):
+        for i, command in enumerate((ours, plain)):
+            begun = time.perf_counter()
+            subprocess.run(command, input=given, stdout=subprocess.DEVNULL, check=True)
+            took[i].append(time.perf_counter() - begun)
+    return said, [statistics.median(t) for t in took]
+
+
+print(f'{"":20}{"run, decisions per second":>34}{"aisle, whole program":>30}')
+print(f'{"floor":7}{"depth":>6}{"decisions":>11}{"proved":>12}{"plain":>12}{"ratio":>7}{"proved ms":>12}{"plain ms":>11}{"ratio":>7}')
+for kind in ('rooms', 'walls', 'racks', 'maze', 'snake'):
     for depth in (1, 4, 8):
-        told = subprocess.run([second, 'time', 'run', kind, '64', '64', '1', str(trials), str(depth), '--as-aisle'], capture_output=True, check=True).stdout
-        seen = [subprocess.run(c, input=told, capture_output=True, check=True).stdout for c in ([ours], [second, 'aisle'])]
-        assert seen[0] == seen[1], f'{kind} {depth}: the outputs differ'
-        decisions = sum(int(line.split()[1]) for line in seen[0].splitlines()[:-1])
-        took = [[], []]
-        for _ in range(5):
-            for i, command in enumerate(([ours], [second, 'aisle'])):
-                begun = time.perf_counter()
-                subprocess.run(command, input=told, stdout=subprocess.DEVNULL, check=True)
-                took[i].append(time.perf_counter() - begun)
-        a, b = (decisions / statistics.median(t) for t in took)
-        print(f'{kind:7}{depth:6}{decisions:11}{a:12.0f}{b:12.0f}{a / b:7.2f}', flush=True)
+        job = [second, 'time', 'run', kind, '64', '64', '1', '400', str(depth)]
+        lines, a = compared([aisle], [second, 'aisle'], told(job + ['--as-aisle'], b''))
+        decisions = sum(int(line.split()[1]) for line in lines.splitlines()[:-1])
+        _, r = compared([calls], [second, 'calls'], told(job + ['--as-calls'], b''))
+        print(f'{kind:7}{depth:6}{decisions:11}{decisions / r[0]:12.0f}{decisions / r[1]:12.0f}{r[1] / r[0]:7.2f}'
+              f'{a[0] * 1000:12.2f}{a[1] * 1000:11.2f}{a[1] / a[0]:7.2f}', flush=True)

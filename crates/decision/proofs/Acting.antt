@@ -21,7 +21,8 @@ use Rattle.model.specs.Checks.{ceiling, floorOf}
 use Rattle.model.specs.Lookahead.{seen, ring, w, emptyRing, target}
 use Rattle.model.specs.Decision.{Deed, Outcome, atGoal, judge, refused, unchanged, rise, stored, forward, backOut, stay, goBack, learn, act, outcomeOf, decide, laid}
 use Rattle.model.proofs.Accepted.{never}
-use Rattle.model.proofs.Held.{sized-cells, free-below, free-place, at-goal}
+use Rattle.model.proofs.Moves.{sized-cells, free-below, free-few}
+use Rattle.model.proofs.Held.{at-goal}
 use Rattle.model.proofs.Meaning.{window-inside, nine-not}
 use Rattle.model.proofs.Cases.{act-arrived, act-blind, act-learns, learn-over, learn-forward, learn-back, back-stays, back-lost, back-goes, decide-refused, decide-acts}
 use Rattle.lookahead.specs.declared.Ahead.{Ahead}
@@ -66,7 +67,7 @@ module _ {j : Job} {bytes : List ℕ} {s : State} {table path : List ℕ} {moves
   opened place p = record {
     room = omega (arith, r .short, r .wide);
     short = omega (arith, r .short, sized-cells (r .sized));
-    cell = free-place (r .sized) (r .here);
+    cell = free-few _ _ (r .sized) (r .here);
     places = p;
     new = λ k h. r .fair k h .other;
   }

@@ -12,7 +12,7 @@ use Rattle.model.specs.Basics.{choose}
 use Rattle.model.specs.Floor.{Floor, Sized, size, column, row, free, clear, price, ahead, allowed, east, south}
 use Rattle.model.specs.Grounds.{clear-true}
 use Rattle.model.proofs.Cells.{cells-le, row-lt, cell-at}
-use Rattle.model.proofs.Moves.{all8, toll, Inside, both, both-of, free-lt, ahead-lt, allowed-inside, allowed-free, allowed-true, price-ahead}
+use Rattle.model.proofs.Moves.{all8, toll, Inside, both, both-of, free-below, ahead-lt, allowed-inside, allowed-free, allowed-true, price-ahead}
 use Rattle.floor.specs.declared.Spot.{Spot}
 use Rattle.floor.specs.declared.Step.the-variants.{To, Wall}
 use Rattle.floor.specs.Moves.{stepOf, Spotted, Placed, Stays}
@@ -39,7 +39,7 @@ module _ (f : Floor) (z : Sized f) (x : ℕ) (at : Spot) (P : Placed f x at) (m 
 
   pub small : (at .col < 4096) × (at .row < 4096)
   small =
-      let c = free-lt f z x (P .free) in (
+      let c = free-below f x (P .free) in (
         omega (arith, S .column, mod-lt x (z .wide), z .narrow),
         omega (arith, S .row, row-lt (f .width) (f .height) x (z .wide) c, z .low),
       )

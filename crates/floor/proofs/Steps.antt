@@ -7,8 +7,7 @@ use native.Mathlib.Omega.{arith}
 use Rattle.model.specs.Basics.{choose}
 use Rattle.model.specs.Floor.{Floor, Sized, free, price, ahead, allowed, heading, opposite}
 use Rattle.model.specs.Grounds.{price-low, price-high}
-use Rattle.model.proofs.Cells.{cells-le}
-use Rattle.model.proofs.Moves.{allowed-some, allowed-free, free-lt, opposite-ahead, opposite-allowed, opposite-lt, price-move, heading-is}
+use Rattle.model.proofs.Moves.{allowed-some, allowed-free, free-few, opposite-ahead, opposite-allowed, opposite-lt, price-move, heading-is}
 use Rattle.floor.specs.declared.Step.the-variants.{To, Wall}
 use Rattle.floor.specs.Moves.{stepOf}
 
@@ -21,10 +20,6 @@ same-to e = (cc, cc)
 chosen : (t : Bool) (a v d u : ℕ) → choose t (To a v) Wall ≡ To d u → (t ≡ true) × (a ≡ d) × (v ≡ u)
 chosen true a v d u e = (refl, cc, cc)
 chosen false a v d u e = absurd (wall≢to d u e)
-
--- a free cell is one of 4096
-pub free-few : (f : Floor) (x : ℕ) → Sized f → free f x ≡ true → x < 4096
-free-few f x z e = omega (arith, free-lt f z x e, cells-le (f .width) (f .height) (z .narrow) (z .low))
 
 -- what a step to d at cost v says
 pub record Stepped (f : Floor) (x m d v : ℕ) : Type 0 where

@@ -8,10 +8,10 @@ use borrow.Author.Count.{below-more}
 use lib.ListN.{getD}
 use Rattle.model.specs.Floor.{Floor, Sized, price, heading, opposite}
 use Rattle.model.specs.Grounds.{price-same}
-use Rattle.model.proofs.Moves.{opposite-lt}
+use Rattle.model.proofs.Moves.{opposite-lt, free-few}
 use Rattle.floor.specs.declared.Step.the-variants.{To, Wall}
 use Rattle.floor.specs.Moves.{stepOf}
-use Rattle.floor.proofs.Steps.{step-heading, price-step, wall≢to, same-to, free-few}
+use Rattle.floor.proofs.Steps.{step-heading, price-step, wall≢to, same-to}
 use Rattle.lookahead.specs.declared.Link.{Link}
 use Rattle.lookahead.specs.Marks.{In}
 use Rattle.lookahead.specs.Costs.{Costs, at}

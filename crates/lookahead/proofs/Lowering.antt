@@ -16,7 +16,8 @@ use Rattle.model.specs.Floor.{Floor, Sized, price}
 use Rattle.model.specs.Grounds.{price-same}
 use Rattle.floor.specs.declared.Step.the-variants.{To, Wall}
 use Rattle.floor.specs.Moves.{stepOf}
-use Rattle.floor.proofs.Steps.{free-few, stepped, price-step, wall≢to, same-to}
+use Rattle.model.proofs.Moves.{free-few}
+use Rattle.floor.proofs.Steps.{stepped, price-step, wall≢to, same-to}
 use Rattle.lookahead.specs.Marks.{net, In}
 use Rattle.lookahead.specs.Costs.{total, at, noteAt, Costs, Walked, Under, Followed, Eased, Easing, Lowered, Lower, Listing, Noted, Topmost, Again, Passed, Relaxed}
 use Rattle.lookahead.proofs.Stores.{by-store, set-self}

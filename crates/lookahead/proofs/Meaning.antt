@@ -24,7 +24,7 @@ use Rattle.model.specs.Grounds.{price-free, price-high}
 use Rattle.model.specs.Checks.{floorOf, groundIn}
 use Rattle.model.specs.Lookahead.{seen, ring, w, emptyRing}
 use Rattle.model.proofs.Cells.{cells-le}
-use Rattle.model.proofs.Moves.{is-true, free-lt}
+use Rattle.model.proofs.Moves.{is-true, free-below}
 use Rattle.model.proofs.Rings.{empty-none, empty-of, empty-some}
 use Rattle.model.proofs.Meaning.{goal-means}
 use Rattle.lookahead.specs.Contract.{Spent, Used, Asked, Near, Seen}
@@ -47,7 +47,7 @@ module _ (j : Job) (bytes : List ℕ) (s : ℕ) (Q : Asked j bytes s) where
   d = j .depth
 
   pub start-on : s < size (floorOf j bytes)
-  start-on = free-lt f (Q .sized) s (Q .start)
+  start-on = free-below f s (Q .start)
 
   pub not-goal : ¬ Goal (groundIn j bytes) s
   not-goal g = Q .apart (goal-means f (j .goal) s g)
@@ -198,15 +198,6 @@ module _ (j : Job) (bytes : List ℕ) (s : ℕ) (Q : Asked j bytes s) where
           record { marks = record { size = R .marks; room = room; below = λ x. omega (arith, B .empty x, B .short, Q .deep) }; costs = R .costs; cells = R .cells },
           empty-of j bytes (seen j bytes s) (seen j bytes s .last) (r + 1) (omega arith) (omega (arith, r-below)) none,
         )
-
-  -- where a ring up to the last is empty no cell is on the last ring
-  pub empty-last : emptyRing j bytes (seen j bytes s) (seen j bytes s .last) ≡ true → (x : ℕ) → ring j bytes (seen j bytes s) x ≡ seen j bytes s .last → ⊥
-  unfolding ringOf lastOf
-  empty-last e x on =
-      let (i, a, h, none) = empty-some j bytes (seen j bytes s) (seen j bytes s .last) e in
-      let (c, v) = job-window .attained x (omega (arith, on)) in
-      let t = crosses job-window {k = i} h (omega (arith, ring-self job-window)) (omega (arith, on, h)) v in
-      none (t .at) (inside (t .at) (omega (arith, t .on, h))) (t .on)
 
   -- from the model's window in the lists back to `learning`'s
   module _ (base : ℕ) (mark cost : List ℕ) (E : Seen j bytes s base mark cost) where

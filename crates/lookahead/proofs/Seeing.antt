@@ -13,7 +13,7 @@ use Rattle.learning.specs.Ground.{Goal}
 use Rattle.learning.proofs.Walks.{restate, turn, widen, least-same}
 use Rattle.model.specs.Floor.{Floor, Sized, free}
 use Rattle.model.specs.Grounds.{groundOf}
-use Rattle.model.proofs.Moves.{free-lt}
+use Rattle.model.proofs.Moves.{free-below}
 use Rattle.model.proofs.Meaning.{goal-means, goal-is}
 use Rattle.lookahead.specs.Marks.{net, State, markOf, costAt, In}
 use Rattle.lookahead.specs.Rings.{Framed}
@@ -69,7 +69,7 @@ module _ (f : Floor) (s goal depth base last : ℕ) (S : State) (F : Framed f s 
 
     ends : (last ≡ depth) ⊎ (markOf S goal ≡ base + last) → (last ≡ depth) ⊎ ((y : ℕ) × Goal (groundOf f (goal ∷ [])) y × (ring y ≡ last))
     ends (inl e) = inl e
-    ends (inr e) = inr (goal, goal-is f goal (free-lt f z goal bench), by-mark goal e)
+    ends (inr e) = inr (goal, goal-is f goal (free-below f goal bench), by-mark goal e)
 
     least : (x : ℕ) → In base (S .mark) x → Least (Leads (net f) (In base (S .mark)) x s) (at cost x)
     least = R .least s (F .marked .costs) start

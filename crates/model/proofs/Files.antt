@@ -16,7 +16,7 @@ use Rattle.model.specs.Floor.{Floor, Sized, size, free, opening}
 use Rattle.model.specs.Checks.{ceiling, figures}
 use Rattle.model.specs.Opening.{openTable}
 use Rattle.model.specs.TableFile.{halfAt, trailer, countIn, backIn, isLetters, trailerHolds, checkTrailer, findRecords, sameJob, cellIn, figureIn, recordFault, judgeRecords, changed, readVerdict, recordsOf, trailerOf, fileOf, unlike, fileRoom, writeVerdict}
-use Rattle.model.proofs.Moves.{both, both-of, free-lt}
+use Rattle.model.proofs.Moves.{both, both-of, free-below}
 use Rattle.model.proofs.Accepted.{then-done, fails, sizes-judges, scale-judges, bench-judges}
 
 pub unless-done : (b : Bool) (number : ℕ) → unless b number ≡ Vd.Done → b ≡ true
@@ -37,7 +37,7 @@ openable f q goal n e =
     let a = then-done _ _ e in
     let b = then-done _ _ (a .1) in
     let s = sizes-judges f n .gives (a .0) in
-    record { sized = s .0; scale = scale-judges q .gives (b .0) .1; bench = free-lt f (s .0) goal (bench-judges f goal .gives (b .1)); cells = s .1 }
+    record { sized = s .0; scale = scale-judges q .gives (b .0) .1; bench = free-below f goal (bench-judges f goal .gives (b .1)); cells = s .1 }
 
 -- ---- 13, the trailer
 

@@ -16,10 +16,9 @@ use Rattle.answers.specs.declared.Job.{Job}
 use Rattle.answers.specs.declared.State.{State}
 use Rattle.model.specs.Basics.{every, member, distinct}
 use Rattle.model.specs.Floor.{Floor, Sized, size, free}
-use Rattle.model.specs.Grounds.{free-inside}
 use Rattle.model.specs.Checks.{floorOf}
 use Rattle.model.specs.Decision.{atGoal, onPath, movesRoom, stateHolds}
-use Rattle.model.proofs.Cells.{cells-le}
+use Rattle.model.proofs.Moves.{free-below}
 use Rattle.model.proofs.Accepted.{Tells, Judges, le-tells, is-tells, and-tells, told, unless-judges}
 
 -- A path's cell is free, no goal and not the current cell.
@@ -37,16 +36,6 @@ pub record Held (j : Job) (bytes : List ℕ) (s : State) (path : List ℕ) : Typ
   pub within : s .learned ≤ j .q * j .quota
   pub short : s .length ≤ size (floorOf j bytes)
   pub sound : Sound j bytes (s .current) path (s .length)
-
-pub free-below : (f : Floor) (x : ℕ) → free f x ≡ true → x < size f
-free-below f x e = free-inside f x (subst T (sym e) tt)
-
--- a floor has at most 4,096 cells, so a free cell's number is below that
-pub sized-cells : {f : Floor} → Sized f → size f ≤ 4096
-sized-cells {f} z = cells-le (f .width) (f .height) (z .narrow) (z .low)
-
-pub free-place : {f : Floor} {x : ℕ} → Sized f → free f x ≡ true → x < 4096
-free-place {f} {x} z e = omega (arith, free-below f x e, sized-cells z)
 
 -- ---- a cell of the floor is at the goal just where it is the goal
 

@@ -14,7 +14,7 @@ use Rattle.learning.specs.Look.{lowest}
 use Rattle.learning.proofs.Look.{lowest-low, lowest-met}
 use Rattle.model.specs.Floor.{Floor, Sized, size, column, row, free, apart, tariff, fare, clear, price, east, south, ahead, inside, allowed, heading, opposite}
 use Rattle.model.specs.Grounds.{price-same, price-free, free-inside}
-use Rattle.model.proofs.Cells.{cell-lt, row-lt, col-at, row-at, cell-at}
+use Rattle.model.proofs.Cells.{cell-lt, cells-le, row-lt, col-at, row-at, cell-at}
 
 -- tests
 pub is-true : (b : Bool) → T b → b ≡ true
@@ -27,6 +27,16 @@ both false b e = absurd (let z : _≡_ {A = ℕ} 0 1 = cc in omega arith)
 
 pub both-of : (a b : Bool) → a ≡ true → b ≡ true → (a && b) ≡ true
 both-of a b p q = ap₂ _&&_ p q
+
+-- a free cell is on the floor, which has at most 4,096 cells
+pub free-below : (f : Floor) (x : ℕ) → free f x ≡ true → x < size f
+free-below f x e = free-inside f x (subst T (sym e) tt)
+
+pub sized-cells : {f : Floor} → Sized f → size f ≤ 4096
+sized-cells {f} z = cells-le (f .width) (f .height) (z .narrow) (z .low)
+
+pub free-few : (f : Floor) (x : ℕ) → Sized f → free f x ≡ true → x < 4096
+free-few f x z e = omega (arith, free-below f x e, sized-cells z)
 
 -- what holds of each of the eight moves
 pub all8 : (P : ℕ → Type 0) → P 0 → P 1 → P 2 → P 3 → P 4 → P 5 → P 6 → P 7 → (m : ℕ) → m < 8 → P m
@@ -235,9 +245,6 @@ module _ (f : Floor) (z : Sized f) where
   pub allowed-free : (x m : ℕ) → allowed f x m ≡ true → free f (ahead f x m) ≡ true
   allowed-free x m e = is-true _ (price-free f (ahead f x m) x (omega (arith, price-same f x (ahead f x m), allowed-some x m e)))
 
-  pub free-lt : (x : ℕ) → free f x ≡ true → x < size f
-  free-lt x e = free-inside f x (subst T (sym e) tt)
-
   -- the way back
   module _ (x m : ℕ) (l : m < 8) (e : allowed f x m ≡ true) where
     abbrev y : ℕ
@@ -253,7 +260,7 @@ module _ (f : Floor) (z : Sized f) where
     col-lt = mod-lt x (z .wide)
 
     line-lt : row f x < f .height
-    line-lt = row-lt (f .width) (f .height) x (z .wide) (free-lt x here)
+    line-lt = row-lt (f .width) (f .height) x (z .wide) (free-below f x here)
 
     back-column : column f y + east (opposite m) ≡ column f x + 1
     back-column = omega (arith, ahead-column f x m i, opposite-east m l, i .west)
@@ -302,7 +309,7 @@ module _ (f : Floor) (z : Sized f) where
   price-move x y h =
       let t = priced f x y h in
       let cx : column f y < f .width = mod-lt y (z .wide) in
-      let ry : row f y < f .height = row-lt (f .width) (f .height) y (z .wide) (free-lt y (is-true (free f y) (price-free f y x (omega (arith, price-same f x y))))) in
+      let ry : row f y < f .height = row-lt (f .width) (f .height) y (z .wide) (free-below f y (is-true (free f y) (price-free f y x (omega (arith, price-same f x y))))) in
       let dx = way-apart (column f x) (column f y) (t .columns) in
       let dy = way-apart (row f x) (row f y) (t .rows) in
       let (m, l, p, q) =

@@ -24,7 +24,7 @@ use Rattle.model.specs.Grounds.{groundOf}
 use Rattle.model.specs.Checks.{ceiling, floorOf, goals, groundIn, figures}
 use Rattle.model.specs.Opening.{soundness, accepts}
 use Rattle.model.proofs.Cells.{row-lt}
-use Rattle.model.proofs.Moves.{priced, free-lt}
+use Rattle.model.proofs.Moves.{priced, free-below}
 use Rattle.model.proofs.Accepted.{then-next, figures-done, places-judges}
 use Rattle.model.proofs.Soundness.{CanReach, Above, sound}
 
@@ -167,4 +167,4 @@ module _ (j : Job) (bytes : List ℕ) where
       ∙ sound j bytes start opened r opening-sound
     where
       small : (x : ℕ) → x < size (floorOf j bytes) → getD opened x 0 ≤ ceiling
-      small x h = omega (arith, figure-is x h, opening-within (floorOf j bytes) (j .q) (j .goal) x z fine (free-lt (floorOf j bytes) z (j .goal) bench) h)
+      small x h = omega (arith, figure-is x h, opening-within (floorOf j bytes) (j .q) (j .goal) x z fine (free-below (floorOf j bytes) (j .goal) bench) h)

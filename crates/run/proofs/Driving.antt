@@ -25,9 +25,8 @@ use Rattle.model.specs.Opening.{openTrial}
 use Rattle.model.specs.Decision.{atGoal, onPath, judge, act}
 use Rattle.model.specs.Ride as model
 use Rattle.model.specs.Ride.{Ride, begun, next, learningJob, ride, trialOf, trial}
-use Rattle.model.proofs.Moves.{is-true}
+use Rattle.model.proofs.Moves.{is-true, free-below}
 use Rattle.model.proofs.Accepted.{fails}
-use Rattle.model.proofs.Held.{free-below}
 use Rattle.model.proofs.Demand.{trial-is-made}
 use Rattle.model.proofs.Openings as openings
 use Rattle.model.proofs.Meaning.{goal-means, goal-is}

@@ -3,7 +3,7 @@
 use Prim.Native.Nat.{_*_}
 use mathlib.Core.Path.{sym}
 use native.Mathlib.Omega.{arith}
-use Rattle.model.proofs.Held.{sized-cells}
+use Rattle.model.proofs.Moves.{sized-cells}
 use Rattle.aisle.proofs.Answers.{long-part, part-told}
 use borrow.Author.Needs.{needs}
 use Rattle.aisle.proofs.on_floor.Statement.{statement}

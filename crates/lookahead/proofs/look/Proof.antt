@@ -1,7 +1,7 @@
 -- `lookahead::look` meets its contract: the rings' marks and the relaxed costs are the model's window, or a ring is empty.
 -- Assumes nothing.
 use borrow.Author.Needs.{needs}
-use Rattle.floor.proofs.Steps.{free-few}
+use Rattle.model.proofs.Moves.{free-few}
 use Rattle.model.specs.Checks.{floorOf}
 use Rattle.lookahead.proofs.Meaning.{looked, blocked}
 use Rattle.lookahead.proofs.Seeing.{framed-costs, framed-listing, framed-noted}

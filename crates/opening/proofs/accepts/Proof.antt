@@ -1,7 +1,7 @@
 -- `opening::accepts` meets its contract: one check after another, and the first refusal stands.
 -- Assumes nothing.
 use Rattle.model.proofs.Accepted.{then-stops, then-goes, places-judges}
-use Rattle.model.proofs.Moves.{free-lt}
+use Rattle.model.proofs.Moves.{free-below}
 use Rattle.model.specs.Checks.{floorOf}
 use Rattle.model.specs.Opening.{accepts}
 use borrow.Author.Needs.{needs}
@@ -44,7 +44,7 @@ soundness-requires c κs =
     let a = c .before .before .before .before .before .before .before .before .args in
     let f = floorOf (a .job) (now (a .floor)) in
     let p = c .before .before .before .before .before .before .before .before .pre in
-    let h = places-judges f (a .start) (a .job .goal) .gives (sym (c .before .before .before .before .before .places .ensures) ∙ c .before .before .before .enum-told .given .1) in record { sized = p .0; long = p .1; fine = p .2; begin = free-lt f (p .0) _ (h .0); bench = free-lt f (p .0) _ (h .1) }
+    let h = places-judges f (a .start) (a .job .goal) .gives (sym (c .before .before .before .before .before .places .ensures) ∙ c .before .before .before .enum-told .given .1) in record { sized = p .0; long = p .1; fine = p .2; begin = free-below f _ (h .0); bench = free-below f _ (h .1) }
 
 returns-3 : tie.Need-returns-3
 unfolding accepts

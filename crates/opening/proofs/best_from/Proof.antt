@@ -1,9 +1,8 @@
 -- `opening::best_from` meets its contract. The invariant: the best so far is the least of what the first m moves give.
 -- Assumes nothing.
 use Prim.Native.Nat.{_-_, _<_}
-use Rattle.floor.proofs.Steps.{free-few}
 use Rattle.floor.specs.Moves.{flat}
-use Rattle.model.proofs.Moves.{free-lt}
+use Rattle.model.proofs.Moves.{free-below, free-few}
 use Rattle.opening.proofs.Search.{BestTo, best-none, best-more, best-all, step-leading}
 use Rattle.opening.specs.Search.{throughStep}
 use borrow.Author.Needs.{needs}
@@ -28,14 +27,14 @@ mul-best c =
     let a = c .before .before .before .args in
     let f = flat (a .width) (a .height) (now (a .floor)) in
     let p = c .before .before .before .pre in
-    let h : a .cell < length (now (a .dist)) = omega (arith, free-lt f (p .0) (a .cell) (p .2), p .1 .long) in search needs
+    let h : a .cell < length (now (a .dist)) = omega (arith, free-below f (a .cell) (p .2), p .1 .long) in search needs
 
 shared-slice-read-best : tie.Need-shared-slice-read-best Inv-loop μ-loop
 shared-slice-read-best c =
     let a = c .before .before .before .before .args in
     let f = flat (a .width) (a .height) (now (a .floor)) in
     let p = c .before .before .before .before .pre in
-    omega (arith, free-lt f (p .0) (a .cell) (p .2), p .1 .long)
+    omega (arith, free-below f (a .cell) (p .2), p .1 .long)
 
 loop-holds : tie.Need-loop-holds Inv-loop μ-loop
 loop-holds c = best-none _ _ _

@@ -5,7 +5,7 @@ use native.Mathlib.Omega.{arith}
 use borrow.Author.Needs.{needs}
 use borrow.Author.Tests.{not-true, not-false}
 use Rattle.model.proofs.Accepted.{never}
-use Rattle.model.proofs.Held.{free-place}
+use Rattle.model.proofs.Moves.{free-few}
 use Rattle.decision.proofs.Noting.{stands-unfair, stands-again, stands-new}
 use Rattle.decision.proofs.held.stands.Statement.{statement}
 use Rattle.decision.proofs.held.stands.Tie as tie
@@ -36,7 +36,7 @@ noted-requires c κs =
     let at-if1 = c .before .before .before .before in
     let at-is-free = at-if1 .before in
     let start = at-is-free .before .before .before .before .before .before in
-    (omega arith, omega (arith, start .pre .1 .1 .size, free-place (start .pre .0) (sym (at-is-free .is-free .ensures) ∙ not-false _ (at-if1 .if1 .left))))
+    (omega arith, omega (arith, start .pre .1 .1 .size, free-few _ _ (start .pre .0) (sym (at-is-free .is-free .ensures) ∙ not-false _ (at-if1 .if1 .left))))
 
 same-length : tie.Need-same-length
 same-length c = search needs
@@ -58,7 +58,7 @@ slice-write-place c =
     let at-if1 = c .before .before .before .before .before .before in
     let at-is-free = at-if1 .before in
     let start = at-is-free .before .before .before .before .before .before in
-    omega (arith, start .pre .1 .1 .size, free-place (start .pre .0) (sym (at-is-free .is-free .ensures) ∙ not-false _ (at-if1 .if1 .left)))
+    omega (arith, start .pre .1 .1 .size, free-few _ _ (start .pre .0) (sym (at-is-free .is-free .ensures) ∙ not-false _ (at-if1 .if1 .left)))
 
 same-length-2 : tie.Need-same-length-2
 same-length-2 c = search needs
@@ -73,7 +73,7 @@ returns-5 c =
     let at-wide16 = at-is-free .before in
     let start = at-wide16 .before .before .before .before .before in
     let free = sym (at-is-free .is-free .ensures) ∙ not-false _ (at-if1 .if1 .left) in
-    stands-new _ _ (at-wide16 .wide16 .ensures .0) (start .pre .1 .1) (sym (at-noted .noted .ensures) ∙ c .if4 .left) (free-place (start .pre .0) free)
+    stands-new _ _ (at-wide16 .wide16 .ensures .0) (start .pre .1 .1) (sym (at-noted .noted .ensures) ∙ c .if4 .left) (free-few _ _ (start .pre .0) free)
     (record { free = free; away = at-if2 .if2 .left; other = at-if3 .if3 .left })
 
 pub stands-spec : {M : Type 1} → statement M

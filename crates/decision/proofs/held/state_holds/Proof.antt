@@ -5,7 +5,7 @@ use native.Mathlib.Omega.{arith}
 use borrow.Author.Needs.{needs}
 use borrow.Author.Tests.{not-true, not-false}
 use lib.Dec.{lit<}
-use Rattle.model.proofs.Held.{sized-cells}
+use Rattle.model.proofs.Moves.{sized-cells}
 use Rattle.decision.proofs.Judging.{checked-refused, checked-done}
 use Rattle.decision.proofs.held.state_holds.Statement.{statement}
 use Rattle.decision.proofs.held.state_holds.Tie as tie

@@ -4,7 +4,7 @@
 use Prim.Native.Nat.{ℕ, _≤_}
 use mathlib.Core.Path.{sym, _∙_}
 use native.Mathlib.Omega.{arith}
-use Rattle.floor.proofs.Steps.{free-few}
+use Rattle.model.proofs.Moves.{free-few}
 use Rattle.floor.specs.Moves.{flat}
 use Rattle.lookahead.proofs.Lowering.{relaxed, turned}
 use Rattle.lookahead.specs.Costs.{Costs, Walked, Listing, Noted, Topmost, total, at}

@@ -4,7 +4,7 @@ use Prim.Native.Nat.{_+_, _-_, _≤_, _<_}
 use mathlib.Core.Path.{_≡_, sym, _∙_, subst}
 use native.Mathlib.Omega.{arith}
 use lib.ListN.{getD}
-use Rattle.floor.proofs.Steps.{free-few}
+use Rattle.model.proofs.Moves.{free-few}
 use Rattle.floor.specs.Moves.{flat}
 use Rattle.lookahead.proofs.Levels.{level-begin, full-begin, begin-other, level-segment, level-next, full-next, level-framed, next-blocked, next-framed}
 use Rattle.lookahead.specs.Marks.{State, state, markOf}

@@ -3,7 +3,7 @@
 use Prim.Native.Nat.{_-_, _≤_}
 use mathlib.Core.Path.{_≡_, refl, subst}
 use native.Mathlib.Omega.{arith}
-use Rattle.floor.proofs.Steps.{free-few}
+use Rattle.model.proofs.Moves.{free-few}
 use Rattle.floor.specs.Moves.{flat}
 use Rattle.lookahead.proofs.Linking.{linked-none, linked-prior}
 use Rattle.lookahead.specs.Way.{Linked}

@@ -4,7 +4,8 @@ use Prim.Native.Nat.{_<_}
 use mathlib.Core.Path.{_≡_, sym, _∙_}
 use native.Mathlib.Omega.{arith}
 use borrow.Author.Needs.{needs}
-use Rattle.floor.proofs.Steps.{free-few, Stepped, stepped}
+use Rattle.model.proofs.Moves.{free-few}
+use Rattle.floor.proofs.Steps.{Stepped, stepped}
 use Rattle.floor.specs.Moves.{flat, stepOf}
 use Rattle.floor.specs.declared.Step.the-variants.{To}
 use Rattle.lookahead.proofs.Linking.{linked-out, linked-wall, linked-slack, linked-high, linked-new}
