@@ -1,10 +1,10 @@
 -- A line being read byte by byte: what each step keeps, and what the whole line says.
-use Prim.Native.Nat.{ℕ, zero, suc, _+_, _-_, _*_, _≤_, _<_}
+use Prim.Native.Nat.{ℕ, zero, suc, _+_, _*_, _≤_, _<_}
 use mathlib.Core.Path.{_≡_}
 use mathlib.Core.Logic.{_⊎_}
-use mathlib.Core.Bool.{Bool, true, false}
+use mathlib.Core.Bool.{true, false}
 use mathlib.Core.Option.{Option, none, some}
-use mathlib.Core.List.{List, [], _∷_, _++_}
+use mathlib.Core.List.{List, _∷_, _++_}
 use lib.ListN.{length, set, take, drop}
 use Rattle.answers.specs.declared.Settings.{Settings}
 use Rattle.model.specs.Line.{numbersIn, settingsOf, readLine, afterLine}

@@ -2,9 +2,9 @@
 -- Assumes nothing.
 use mathlib.Core.Path.{_≡_, refl, _∙_}
 use mathlib.Core.List.{List}
-use Prim.Native.Nat.{ℕ, zero, suc, _≤_, _<_}
+use Prim.Native.Nat.{ℕ, zero, suc}
 use native.Mathlib.Omega.{arith}
-use lib.ListN.{length, getD, replicate, length-replicate}
+use lib.ListN.{getD, replicate, length-replicate}
 use Rattle.answers.specs.declared.Job.{Job}
 use Rattle.lookahead.specs.declared.Around.{Around}
 use Rattle.lookahead.specs.declared.Around.the-variants as A

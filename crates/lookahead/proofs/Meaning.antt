@@ -12,7 +12,6 @@ use Rattle.learning.specs.Walk.{Walk, stop, move, Any}
 use Rattle.learning.specs.Ahead.{Window}
 use Rattle.learning.specs.Ground.{Ground, Goal, netOf, ringOf, lastOf, legOf}
 use Rattle.learning.proofs.Walks.{turn, widen}
-use Rattle.learning.proofs.Sound.{ring-self, crosses}
 use Rattle.learning.proofs.Unique.{last-unique, ring-unique, cost-unique}
 use Rattle.learning.proofs.Ground.{window}
 use Rattle.learning.proofs.Look.{walk-inside}
@@ -25,7 +24,7 @@ use Rattle.model.specs.Checks.{floorOf, groundIn}
 use Rattle.model.specs.Lookahead.{seen, ring, w, emptyRing}
 use Rattle.model.proofs.Cells.{cells-le}
 use Rattle.model.proofs.Moves.{is-true, free-below}
-use Rattle.model.proofs.Rings.{empty-none, empty-of, empty-some}
+use Rattle.model.proofs.Rings.{empty-none, empty-of}
 use Rattle.model.proofs.Meaning.{goal-means}
 use Rattle.lookahead.specs.Contract.{Spent, Used, Asked, Near, Seen}
 use Rattle.lookahead.specs.Contract as contract

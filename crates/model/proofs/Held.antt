@@ -7,7 +7,7 @@ use mathlib.Core.Bool.{Bool, true, false, not, _&&_, _||_}
 use mathlib.Core.List.{List, [], _∷_}
 use native.Mathlib.Omega.{arith}
 use borrow.Author.Tests.{lt-ltb, eqb-false, ne-eqb, not-true}
-use lib.Dec.{T, eqb}
+use lib.Dec.{eqb}
 use lib.ListN.{length, getD, take}
 use lib.Seq.{length-take-le, getD-take}
 use Rattle.learning.specs.Path.{All, end, also, Distinct, alone, apart}
@@ -15,7 +15,7 @@ use Rattle.learning.proofs.Count.{distinct-length}
 use Rattle.answers.specs.declared.Job.{Job}
 use Rattle.answers.specs.declared.State.{State}
 use Rattle.model.specs.Basics.{every, member, distinct}
-use Rattle.model.specs.Floor.{Floor, Sized, size, free}
+use Rattle.model.specs.Floor.{Floor, size, free}
 use Rattle.model.specs.Checks.{floorOf}
 use Rattle.model.specs.Decision.{atGoal, onPath, movesRoom, stateHolds}
 use Rattle.model.proofs.Moves.{free-below}

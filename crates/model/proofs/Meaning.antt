@@ -28,7 +28,7 @@ use Rattle.model.specs.Checks.{floorOf, groundIn}
 use Rattle.model.specs.Lookahead.{seen, ring, w, emptyRing, newFigure, target, route}
 use Rattle.model.specs.Opening.{distances, reaches}
 use Rattle.model.specs.Decision.{atGoal}
-use Rattle.model.proofs.Moves.{both, toll, price-move, price-toll, allowed-inside, allowed-some, is-true}
+use Rattle.model.proofs.Moves.{toll, price-move, price-toll, allowed-inside, allowed-some}
 use Rattle.model.proofs.Held.{or-false}
 use Rattle.model.proofs.Soundness.{reaches-of, reaches-means}
 use Rattle.model.proofs.Rings.{Bare, empty-none, empty-some, empty-full, empty-of}

@@ -1,9 +1,9 @@
 -- The lookahead from the cell s: what `learning` computes on the floor's ground, point by point.
 use Prim.Native.Nat.{ℕ, zero, suc}
-use mathlib.Core.Bool.{Bool, true, false, _||_}
+use mathlib.Core.Bool.{Bool, false, _||_}
 use mathlib.Core.List.{List, [], _∷_}
 use lib.Dec.{leb, eqb}
-use Rattle.learning.specs.Ground.{Ground, View, viewOf, ringIn, costIn}
+use Rattle.learning.specs.Ground.{View, viewOf, ringIn, costIn}
 use Rattle.learning.specs.Look.{lowest, newIn, targetIn}
 use Rattle.learning.specs.Route.{routeIn}
 use Rattle.answers.specs.declared.Job.{Job}

@@ -1,6 +1,6 @@
 -- `numbers::number` meets its contract: by what stands at the cursor's place.
 -- Assumes nothing.
-use mathlib.Core.Path.{_≡_, ap, _∙_}
+use mathlib.Core.Path.{ap, _∙_}
 use native.Mathlib.Omega.{arith}
 use borrow.Author.Tests.{not-true, not-false}
 use Rattle.numbers.proofs.Laws.{number-not, number-read, number-over, number-none, number-bad}

@@ -1,6 +1,5 @@
 -- `probe::probe_plan` is safe: the window that `look` leaves is what `aim` and `trace` take.
 -- Assumes nothing.
-use mathlib.Core.Path.{_≡_}
 use native.Mathlib.Omega.{arith}
 use borrow.Author.Needs.{needs}
 use Rattle.probe.specs.Plain.{plain}

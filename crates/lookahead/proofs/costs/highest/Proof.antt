@@ -1,6 +1,6 @@
 -- `lookahead::costs::highest` meets its contract. The loop's invariant: no cost of the first i cells is above the greatest so far.
 -- Assumes nothing.
-use Prim.Native.Nat.{_-_, _≤_, _<_}
+use Prim.Native.Nat.{_-_, _≤_}
 use mathlib.Core.Path.{ap}
 use native.Mathlib.Omega.{arith}
 use borrow.Author.Count.{below-more}

@@ -1,6 +1,6 @@
 -- The proof of the cycle of calls {follow}: the cell before is written before the move from it. The measure is the cost of the cell that the route leads to.
 -- Assumes nothing.
-use Prim.Native.Nat.{ℕ, _+_, _≤_, _<_}
+use Prim.Native.Nat.{ℕ, _+_, _<_}
 use native.Mathlib.Omega.{arith}
 use lib.ListN.{length-set}
 use Rattle.lookahead.specs.Costs.{at}
