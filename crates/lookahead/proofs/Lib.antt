@@ -9,5 +9,6 @@ mod Seeing
 pub mod Meaning
 mod Aiming
 mod Linking
+mod Copying
 mod Tracing
 pub mod Fresh

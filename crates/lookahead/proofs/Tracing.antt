@@ -1,45 +1,34 @@
 -- The route is written one move more at a time: the cell before is the model's, so the moves are those of its route.
 -- Assumes nothing.
 use mathlib.Core.Path.{_≡_, ap, ap₂, sym, _∙_, subst}
-use mathlib.Core.List.{List, [], _∷_, _++_}
+use mathlib.Core.List.{List, [], _∷_, _++_, append-nil}
 use mathlib.Core.Logic.{_≢_}
-use Prim.Native.Nat.{ℕ, zero, suc, _+_, _*_, _≤_, _<_}
+use Prim.Native.Nat.{ℕ, suc, _+_, _-_, _*_, _≤_, _<_}
 use native.Mathlib.Omega.{arith}
-use native.Mathlib.Numerals.{add-one}
-use lib.ListN.{length, getD, set, drop, length-append, length-drop}
-use lib.Seq.{set-append-seam, drop-cons, append-snoc}
+use lib.ListN.{length, getD, set, take, drop, length-set, length-drop, drop-of-length-le, List·getD-eq-default}
+use lib.Seq.{take-all, getD-drop, getD-set-same, drop-set-lt, drop-cons, append-snoc}
 use Rattle.learning.specs.Ground.{Ground, viewOf, ringOf, lastOf, legOf}
 use Rattle.learning.specs.Route.{priorIn}
-use Rattle.learning.proofs.Walks.{costs-least}
-use Rattle.learning.proofs.Routes.{chain-walk, prior-before, prior-is, route-none, route-more, route-chain, route-short}
+use Rattle.learning.proofs.Routes.{prior-before, prior-is, route-none, route-more, route-chain}
 use Rattle.answers.specs.declared.Job.{Job}
 use Rattle.model.specs.Floor.{Floor, free, heading}
 use Rattle.model.specs.Grounds.{price-low}
 use Rattle.model.specs.Checks.{floorOf, groundIn}
 use Rattle.model.specs.Lookahead.{seen, route, movesAlong}
-use Rattle.model.proofs.Steps.{moves-more, moves-length}
+use Rattle.model.proofs.Steps.{moves-more}
 use Rattle.lookahead.specs.declared.Link.{Link}
 use Rattle.lookahead.specs.Contract.{Asked, Near, Seen, movesTo, Traced}
 use Rattle.lookahead.specs.Marks.{In}
 use Rattle.lookahead.specs.Costs.{at, Costs}
-use Rattle.lookahead.specs.Way.{Before, Prior}
+use Rattle.lookahead.specs.Way.{Before, Prior, Collecting, Collected}
+use Rattle.lookahead.proofs.Stores.{by-store}
 use Rattle.lookahead.proofs.Meaning.{start-on, not-goal, near-leg, near-free, near-of}
 
--- a store right behind the front
-seam : (ms out : List ℕ) (m : ℕ) → length ms < length out
-    → set (ms ++ drop (length ms) out) (length ms) m ≡ (ms ++ (m ∷ [])) ++ drop (length (ms ++ (m ∷ []))) out
-seam ms out m h =
-    ap (λ l. set (ms ++ l) (length ms) m) (drop-cons out (length ms) 0 h)
-    ∙ set-append-seam ms (getD out (length ms) 0) (drop (suc (length ms)) out) m
-    ∙ sym (append-snoc ms m (drop (suc (length ms)) out))
-    ∙ ap (λ k. (ms ++ (m ∷ [])) ++ drop k out) (sym (length-append ms (m ∷ []) ∙ add-one (length ms)))
-
--- an entry of a list with one more at its end is one of the list's, or that one
-snoc-at : (ms : List ℕ) (m : ℕ) → ((i : ℕ) → getD ms i 0 < 8) → m < 8 → (i : ℕ) → getD (ms ++ m ∷ []) i 0 < 8
-snoc-at [] m h l zero = l
-snoc-at [] m h l (suc i) = omega arith
-snoc-at (k ∷ ms) m h l zero = h 0
-snoc-at (k ∷ ms) m h l (suc i) = snoc-at ms m (λ n. h (suc n)) l i
+-- a store right ahead of a last part
+ahead : (way : List ℕ) (k m : ℕ) → k < length way → drop k (set way k m) ≡ m ∷ drop (suc k) way
+ahead way k m l =
+    drop-cons (set way k m) k 0 (omega (arith, length-set way k m))
+    ∙ ap₂ (λ a b. a ∷ b) (getD-set-same way k m 0 l) (drop-set-lt (suc k) way k m (omega arith))
 
 module _ (j : Job) (bytes : List ℕ) (s : ℕ) (Q : Asked j bytes s) (base : ℕ) (mark cost : List ℕ) (E : Seen j bytes s base mark cost) where
   abbrev f : Floor
@@ -72,36 +61,37 @@ module _ (j : Job) (bytes : List ℕ) (s : ℕ) (Q : Asked j bytes s) (base : �
       let p = prior-before G d s (Q .shallow) (start-on j bytes s Q) (not-goal j bytes s Q) x h o in
       (p .at, record { inside = in-of (p .at) (p .near); move = omega (arith, p .edge .0, p .edge .1); exact = omega (arith, E .costs (p .at) (p .near), E .costs x h, p .exact, p .edge .1) })
 
-  -- a route has few moves, and costs 10 for each at least
-  route-low : (x : ℕ) → Near j bytes s x → length (movesTo j bytes s x) * 10 ≤ at cost x
-  unfolding ringOf lastOf legOf
-  route-low x h =
-      omega (
-        arith,
-        moves-length f s (route j bytes s (seen j bytes s) x),
-        costs-least (chain-walk (route-chain G d s (Q .shallow) (start-on j bytes s Q) (not-goal j bytes s Q) x h)),
-        E .costs x h,
-      )
-
-  route-few : (x : ℕ) → Near j bytes s x → length (movesTo j bytes s x) ≤ 11
-  unfolding ringOf lastOf
-  route-few x h =
-      omega (
-        arith,
-        moves-length f s (route j bytes s (seen j bytes s) x),
-        route-short G d s (Q .shallow) (start-on j bytes s Q) (not-goal j bytes s Q) x h,
-        Q .deep,
-      )
-
-  -- nothing is written
-  pub traced-none : (x : ℕ) (out : List ℕ) → x ≡ s → Traced j bytes s x out out 0
+  -- no move leads from s to itself
+  moves-none : movesTo j bytes s s ≡ []
   unfolding movesAlong
-  traced-none x out e =
-      let r : movesTo j bytes s x ≡ [] = ap (λ y. movesTo j bytes s y) e ∙ ap (movesAlong f s) (route-none G d s (Q .shallow) (start-on j bytes s Q) (not-goal j bytes s Q)) in record {
-        count = sym (ap length r);
-        written = sym (ap (λ ms. ms ++ out) r);
-        few = omega arith;
-        moves = λ i. rw r (omega arith);
+  moves-none = ap (movesAlong f s) (route-none G d s (Q .shallow) (start-on j bytes s Q) (not-goal j bytes s Q))
+
+  pub collects-none : (x : ℕ) (way : List ℕ) → Near j bytes s x → length way ≡ 11 → Collecting j bytes s cost x 11 x way
+  collects-none x way h l = record {
+    near = h;
+    fits = omega arith;
+    size = l;
+    room = omega (arith, E .costs x h, near-leg j bytes s Q x h);
+    moves = sym (ap (λ r. movesTo j bytes s x ++ r) (drop-of-length-le way {i = 11} (omega (arith, l))) ∙ append-nil (movesTo j bytes s x));
+    low = λ i p. rw (List·getD-eq-default way 0 {n = i} (omega (arith, l))) (omega arith);
+  }
+
+  pub collected : (x k cell : ℕ) (way : List ℕ) → cell ≡ s → Collecting j bytes s cost x k cell way → Collected j bytes s x way k
+  collected x k cell way e c = record {
+    size = c .size;
+    fits = c .fits;
+    moves = c .moves ∙ ap (λ ms. ms ++ drop k way) (ap (λ y. movesTo j bytes s y) e ∙ moves-none);
+    low = c .low;
+  }
+
+  -- copied to the front, they are the route
+  pub traced : (x k n : ℕ) (way out out′ : List ℕ) → Collected j bytes s x way k → n ≡ 11 - k → out′ ≡ take n (drop k way) ++ drop n out → Traced j bytes s x out out′ n
+  traced x k n way out out′ c e w =
+      let count : n ≡ length (movesTo j bytes s x) = omega (arith, e, c .size, c .fits, ap length (c .moves), length-drop k way) in record {
+        count = count;
+        written = w ∙ ap (λ l. l ++ drop n out) (take-all n (drop k way) (omega (arith, count, ap length (c .moves))) ∙ sym (c .moves));
+        few = omega (arith, e);
+        moves = λ i. rw (c .moves, getD-drop k way i 0) (c .low (k + i) (omega arith));
       }
 
   module _ (x : ℕ) (h : Near j bytes s x) (o : x ≢ s) (b : Link) (P : Prior (floorOf j bytes) base mark cost x b) where
@@ -126,26 +116,25 @@ module _ (j : Job) (bytes : List ℕ) (s : ℕ) (Q : Asked j bytes s) (base : �
         ∙ moves-more f x (route-chain G d s (Q .shallow) (start-on j bytes s Q) (not-goal j bytes s Q) (b .cell) prior-near)
         ∙ ap (λ m. movesTo j bytes s (b .cell) ++ m ∷ []) (sym (P .from .heading))
 
-    module _ (out out′ : List ℕ) (n : ℕ) (room : at cost x < 10 * length out + 10) (T : Traced j bytes s (b .cell) out out′ n) where
-      abbrev ms : List ℕ
-      ms = movesTo j bytes s (b .cell)
+    -- the move from it comes ahead of the moves that stand there
+    moves-ahead : (way : List ℕ) (k : ℕ) → k < length way → movesTo j bytes s x ++ drop (suc k) way ≡ movesTo j bytes s (b .cell) ++ drop k (set way k (b .m))
+    moves-ahead way k l =
+        ap (λ ms. ms ++ drop (suc k) way) moves-same
+        ∙ append-snoc (movesTo j bytes s (b .cell)) (b .m) (drop (suc k) way)
+        ∙ ap (λ r. movesTo j bytes s (b .cell) ++ r) (sym (ahead way k (b .m) l))
 
-      longer : length (movesTo j bytes s x) ≡ n + 1
-      longer = ap length moves-same ∙ length-append ms (b .m ∷ []) ∙ ap (λ k. k + 1) (sym (T .count))
-
-      short : n < length out
-      short = omega (arith, T .count, route-low (b .cell) prior-near, prior-cheap, room)
-
-      pub traced-room : n < length out′
-      traced-room = rw (T .written, length-append, length-drop) (omega (arith, short, T .count))
-
-      pub traced-more : Traced j bytes s x out (set out′ n (b .m)) (n + 1)
-      traced-more = record {
-        count = sym longer;
-        written = ap (λ l. set l n (b .m)) (T .written)
-            ∙ ap (λ k. set (ms ++ drop k out) k (b .m)) (T .count)
-            ∙ seam ms out (b .m) (subst (λ k. k < length out) (T .count) short)
-            ∙ ap₂ (λ l k. l ++ drop k out) (sym moves-same) (ap length (sym moves-same) ∙ longer);
-        few = omega (arith, longer, route-few x h);
-        moves = subst (λ l. (i : ℕ) → getD l i 0 < 8) (sym moves-same) (snoc-at ms (b .m) (T .moves) (P .from .one));
-      }
+    pub collects-more : (y k : ℕ) (way : List ℕ) → Collecting j bytes s cost y k x way → (1 ≤ k) × Collecting j bytes s cost y (k - 1) (b .cell) (set way (k - 1) (b .m))
+    collects-more y k way c =
+        let l : 1 ≤ k = omega (arith, c .room, prior-cheap) in
+        let t : k - 1 < length way = omega (arith, c .size, c .fits) in
+        let e : suc (k - 1) ≡ k = omega arith in (
+          l,
+          record {
+            near = prior-near;
+            fits = omega (arith, c .fits);
+            size = simp length-set (c .size);
+            room = omega (arith, c .room, prior-cheap);
+            moves = c .moves ∙ ap (λ i. movesTo j bytes s x ++ drop i way) (sym e) ∙ moves-ahead way (k - 1) t;
+            low = λ i p. by-store (λ v. v < 8) way (k - 1) (b .m) i t (λ q. P .from .one) (λ q. c .low i (omega (arith, q)));
+          },
+        )

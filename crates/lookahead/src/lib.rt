@@ -165,5 +165,9 @@ pub fn trace(
     requires { ⌜ Asked job (now floor) s ⌝ ∗ ⌜ Seen job (now floor) s base (now mark) (now cost) ⌝ ∗ ⌜ Near job (now floor) s x ⌝ ∗ ⌜ 11 ≤ length (now out) ⌝ }
     ensures { λ r. ⌜ Traced job (now (floor .entry)) s x (now (out .entry)) (now (out .exit)) r ⌝ }
 {
-    route::follow(job, floor, s, base, mark, cost, x, out)
+    let mut way = [0u8; 11];
+    let k = route::collect(job, floor, s, base, mark, cost, x, &mut way);
+    let n = 11 - k;
+    route::copy(&way, k, n, out);
+    n
 }

@@ -1,13 +1,14 @@
 // The route to a cell of the window, found backward: each time the lowest cell from which one move gives exactly the cost of the cell reached.
 ghost use mathlib.Core.Path.{_≡_};
-ghost use Prim.Native.Nat.{ℕ, _<_, _≤_, _+_, _*_};
-ghost use lib.ListN.{length, getD};
+ghost use Prim.Native.Nat.{ℕ, _<_, _≤_, _+_};
+ghost use mathlib.Core.List.{_++_};
+ghost use lib.ListN.{length, take, drop};
 ghost use Rattle.model.specs.Floor.{Sized};
 ghost use Rattle.floor.specs.Moves.{flat};
-ghost use Rattle.lookahead.specs.Contract.{Asked, Near, Seen, Traced};
+ghost use Rattle.lookahead.specs.Contract.{Asked, Near, Seen};
 ghost use Rattle.lookahead.specs.Marks.{In};
 ghost use Rattle.lookahead.specs.Costs.{Costs, Cell};
-ghost use Rattle.lookahead.specs.Way.{Before, Linked, Prior};
+ghost use Rattle.lookahead.specs.Way.{Before, Linked, Prior, Collected};
 use super::Link;
 use answers::Job;
 use floor::Spot;
@@ -75,8 +76,8 @@ fn back(
     b
 }
 
-// The route from s to x is written at the front of out; its number of moves.
-pub(crate) fn follow(
+// The moves of the route from s to x, found backward, are written at the end of way; where the first of them stands.
+pub(crate) fn collect(
     job: Job,
     floor: &[u8],
     s: usize,
@@ -84,19 +85,30 @@ pub(crate) fn follow(
     mark: &[u32],
     cost: &[u16],
     x: usize,
-    out: &mut [u8],
+    way: &mut [u8],
 ) -> usize
-    requires { ⌜ Asked job (now floor) s ⌝ ∗ ⌜ Seen job (now floor) s base (now mark) (now cost) ⌝ ∗ ⌜ Near job (now floor) s x ⌝
-        ∗ ⌜ getD (now cost) x 0 < 10 * length (now out) + 10 ⌝ }
-    ensures { λ r. ⌜ Traced job (now (floor .entry)) s x (now (out .entry)) (now (out .exit)) r ⌝ }
+    requires { ⌜ Asked job (now floor) s ⌝ ∗ ⌜ Seen job (now floor) s base (now mark) (now cost) ⌝ ∗ ⌜ Near job (now floor) s x ⌝ ∗ ⌜ length (now way) ≡ 11 ⌝ }
+    ensures { λ r. ⌜ Collected job (now (floor .entry)) s x (now (way .exit)) r ⌝ }
 {
-    if x == s {
-        return 0;
+    let mut cell = x;
+    let mut k = 11;
+    while cell != s {
+        let l = back(job.width, job.height, floor, base, mark, cost, cell);
+        k -= 1;
+        way[k] = l.m as u8;
+        cell = l.cell;
     }
-    let l = back(job.width, job.height, floor, base, mark, cost, x);
-    let y = l.cell;
-    let m = l.m;
-    let n = follow(job, floor, s, base, mark, cost, y, out);
-    out[n] = m as u8;
-    n + 1
+    k
+}
+
+// The n moves from place k of way on are copied to the front of out.
+pub(crate) fn copy(way: &[u8], k: usize, n: usize, out: &mut [u8])
+    requires { ⌜ (k + n ≤ length (now way)) × (length (now way) ≤ 11) × (n ≤ length (now out)) ⌝ }
+    ensures { λ _. ⌜ now (out .exit) ≡ take n (drop k (now (way .entry))) ++ drop n (now (out .entry)) ⌝ }
+{
+    let mut i = 0;
+    while i < n {
+        out[i] = way[k + i];
+        i += 1;
+    }
 }
