@@ -2,12 +2,11 @@
 -- Assumes nothing.
 use Prim.Native.Nat.{ℕ, zero, suc, _+_, _-_, _*_, _≤_}
 use mathlib.Core.Path.{_≡_, refl, sym, ap, subst, _∙_}
-use mathlib.Core.Bool.{Bool, true, false, _&&_}
+use mathlib.Core.Bool.{Bool, true, false}
 use mathlib.Core.Option.{none, some}
 use mathlib.Core.List.{List, [], _∷_, _++_}
 use native.Mathlib.Omega.{arith}
-use lib.Dec.{leb, eqb}
-use lib.ListN.{length, take, drop, getD, replicate, length-append, length-replicate}
+use lib.ListN.{length, take, drop, replicate, length-append, length-replicate}
 use lib.Seq.{take-at, length-take-le}
 use Rattle.learning.proofs.Spread.{list-length}
 use Rattle.answers.specs.declared.Job.{Job}
@@ -20,14 +19,15 @@ use Rattle.answers.specs.declared.Verdict.the-variants as Vd
 use Rattle.answers.specs.declared.FloorRead.{FloorRead}
 use Rattle.answers.specs.declared.FloorRead.the-variants as Fr
 use Rattle.answers.proofs.One.{floor-one}
-use Rattle.model.specs.Basics.{choose, between, then}
+use Rattle.model.specs.Basics.{then}
 use Rattle.model.specs.Floor.{size, free, opening, openingTable}
 use Rattle.model.specs.Checks.{floorOf, goals, sizes, settings, scale, benches, places}
 use Rattle.model.specs.Opening.{accepts, openJob, openTrial, openTable, filled, trialsHold}
-use Rattle.model.specs.FloorText.{LF, isDigit, typeAndHeight, andWidth, andMap, begins, sizeIn, widthIn, heightIn, afterHeight, afterWidth, rowsIn, header, cellsOf, floorVerdict, floorFrom, readFloor}
+use Rattle.model.specs.FloorText.{LF, typeAndHeight, andWidth, andMap, begins, widthIn, heightIn, afterHeight, afterWidth, rowsIn, header, cellsOf, floorVerdict, floorFrom, readFloor}
 use Rattle.model.specs.Line.{field, placeField, refusalLine, jobIn, readLine, afterLine, judgeAisle, printed, aisle}
 use Rattle.model.proofs.Accepted.{not-refused, then-next, then-refused, then-done, le-tells, is-tells, and-tells, unless-judges, sizes-judges, path-judges, settings-judges, trials-judges, scale-judges, bench-judges, places-judges}
 use Rattle.model.proofs.Parts.{rest}
+use Rattle.model.proofs.Cut.{size-most, malformed-is, asked-is, aisle-cut}
 use Rattle.floor_text.specs.Reads.{Reads}
 use Rattle.floor_text.proofs.Laws.{rows-there, length-cells}
 use Rattle.opening.specs.Promise.{Fills}
@@ -38,7 +38,7 @@ use Rattle.line.specs.Printing.{Printed}
 use Rattle.line.proofs.Decimals.{field-few}
 use Rattle.journey.specs.Telling.{Ended}
 use Rattle.journey.proofs.Telling.{ended}
-use Rattle.aisle.specs.Answers.{lineHolds, toldOf, openedLines, Readied}
+use Rattle.aisle.specs.Answers.{lineHolds, toldOf, openedLines, Readied, Answered}
 
 -- ---- a refusal
 
@@ -151,22 +151,6 @@ pub part-told : (s : Settings) (w h : ℕ) (bytes : List ℕ) {out out′ : List
 part-told s w h bytes few t = told-as (ap (λ p. openedLines (jobIn s w h) bytes (s .start) (s .trials) p) (taken-zeros (w * h) 4096 few)) t
 
 -- ---- the floor text
-
-size-most : (text : List ℕ) → sizeIn text ≤ 64
-unfolding sizeIn
-size-most text = by (between 49 a 57 && eqb b LF) (between 49 a 57 && isDigit b && eqb (getD text 2 0) LF && leb (10 * (a - 48) + (b - 48)) 64) refl refl
-  where
-    a : ℕ
-    a = getD text 0 0
-
-    b : ℕ
-    b = getD text 1 0
-
-    by : (x y : Bool) → (between 49 a 57 && eqb b LF) ≡ x → (between 49 a 57 && isDigit b && eqb (getD text 2 0) LF && leb (10 * (a - 48) + (b - 48)) 64) ≡ y
-        → choose x (a - 48) (choose y (10 * (a - 48) + (b - 48)) 0) ≤ 64
-    by true y e f = let t = and-tells (and-tells (le-tells 49 a) (le-tells a 57)) (is-tells (eqb b LF)) .holds e in omega (arith, t .0 .1)
-    by false true e f = and-tells (is-tells (between 49 a 57 && isDigit b && eqb (getD text 2 0) LF)) (le-tells (10 * (a - 48) + (b - 48)) 64) .holds f .1
-    by false false e f = omega arith
 
 -- a floor text that is read
 pub record Read (text : List ℕ) (w h : ℕ) (bytes : List ℕ) : Type 0 where
@@ -284,6 +268,10 @@ module _ (s : Settings) (text : List ℕ) where
           (openingTable (floorOf (jobIn s (widthIn text) (heightIn text)) (cellsOf (widthIn text) (heightIn text) (rowsIn text))) (s .q) (goals (jobIn s (widthIn text) (heightIn text))))))
           ∙ ap (λ u. printed u s text) (sym (text-next ∙ then-next _ (R .done)))) h
 
+-- the bytes that are read decide
+answered : {read out out′ : List ℕ} {n : ℕ} → Ended out 0 (aisle read) out′ n → Answered read out out′ n
+answered h = record { read = h; whole = λ input e. told-as (ap aisle (sym e) ∙ aisle-cut 8192 input (omega arith)) h }
+
 -- the input's line
 pub line-none : {input : List ℕ} {l : Line} → reading.Reads input l → l ≡ Ln.Malformed → none ≡ readLine input
 line-none r e = ap reading.asked (sym e) ∙ r .settings
@@ -301,17 +289,9 @@ pub line-rest : {input : List ℕ} {l : Line} {s : Settings} {t : ℕ} → readi
 line-rest {input} {l} {s} {t} r e = rest t input ∙ line-text r e .0
 
 module _ (input : List ℕ) where
-  none-is : readLine input ≡ none → aisle input ≡ refusalLine (record { number = 3; place = P.Nowhere })
-  unfolding aisle
-  none-is e = rw (e, aisle)
-
-  some-is : (s : Settings) → readLine input ≡ some s → aisle input ≡ printed (judgeAisle s (afterLine input)) s (afterLine input)
-  unfolding aisle
-  some-is s e = rw (e, aisle)
-
-  pub malformed : {out out′ : List ℕ} {at : ℕ} → none ≡ readLine input → Ended out 0 (refusalLine (record { number = 3; place = P.Nowhere })) out′ at → Ended out 0 (aisle input) out′ at
-  malformed e h = told-as (sym (none-is (sym e))) h
+  pub malformed : {out out′ : List ℕ} {at : ℕ} → none ≡ readLine input → Ended out 0 (refusalLine (record { number = 3; place = P.Nowhere })) out′ at → Answered input out out′ at
+  malformed e h = answered (told-as (sym (malformed-is input (sym e))) h)
 
   pub asked-told : {out out′ : List ℕ} {at : ℕ} (text : List ℕ) (s : Settings) → some s ≡ readLine input → text ≡ afterLine input
-      → Ended out 0 (printed (judgeAisle s text) s text) out′ at → Ended out 0 (aisle input) out′ at
-  asked-told text s e f h = told-as (ap (λ t. printed (judgeAisle s t) s t) f ∙ sym (some-is s (sym e))) h
+      → Ended out 0 (printed (judgeAisle s text) s text) out′ at → Answered input out out′ at
+  asked-told text s e f h = answered (told-as (ap (λ t. printed (judgeAisle s t) s t) f ∙ sym (asked-is input s (sym e))) h)

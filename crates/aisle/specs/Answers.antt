@@ -2,7 +2,7 @@
 use Prim.Native.Nat.{ℕ, _≤_}
 use mathlib.Core.Path.{_≡_}
 use mathlib.Core.List.{List}
-use lib.ListN.{length}
+use lib.ListN.{length, take}
 use Rattle.answers.specs.declared.Job.{Job}
 use Rattle.answers.specs.declared.Settings.{Settings}
 use Rattle.answers.specs.declared.Verdict.{Verdict}
@@ -12,7 +12,8 @@ use Rattle.model.specs.Floor.{Sized, size, openingTable}
 use Rattle.model.specs.Checks.{floorOf, goals, settings}
 use Rattle.model.specs.Opening.{trialsHold, openJob}
 use Rattle.model.specs.Ride.{courseFrom}
-use Rattle.model.specs.Line.{jobIn, refusalLine, courseLines}
+use Rattle.model.specs.Line.{jobIn, refusalLine, courseLines, aisle}
+use Rattle.journey.specs.Telling.{Ended}
 
 -- 3: the line's settings; the sizes of a floor are no part of them
 abbrev pub lineHolds : Settings → Verdict
@@ -41,3 +42,8 @@ pub record Lent (j : Job) (bytes table path out : List ℕ) : Type 0 where
   pub figures : length table ≡ size (floorOf j bytes)
   pub places : length path ≡ size (floorOf j bytes)
   pub room : length out ≡ 65536
+
+-- what is told of the bytes that are read: that of every input that they are the first 8,192 bytes of, or all of it where it is shorter
+pub record Answered (bytes out out′ : List ℕ) (n : ℕ) : Type 0 where
+  pub read : Ended out 0 (aisle bytes) out′ n
+  pub whole : (input : List ℕ) → take 8192 input ≡ bytes → Ended out 0 (aisle input) out′ n

@@ -2,9 +2,9 @@
 ghost use mathlib.Core.Path.{_≡_};
 ghost use Prim.Native.Nat.{_*_};
 ghost use lib.ListN.{length, replicate};
-ghost use Rattle.model.specs.Line.{jobIn, judgeAisle, printed, aisle};
+ghost use Rattle.model.specs.Line.{jobIn, judgeAisle, printed};
 ghost use Rattle.journey.specs.Telling.{Ended};
-ghost use Rattle.aisle.specs.Answers.{lineHolds, openedLines, Readied, Lent};
+ghost use Rattle.aisle.specs.Answers.{lineHolds, openedLines, Readied, Lent, Answered};
 use answers::FloorRead;
 use answers::Job;
 use answers::Place;
@@ -114,7 +114,7 @@ fn asked(s: Settings, text: &[u8], out: &mut [u8]) -> usize
 // All that is told of an input: what is not written out yet stands in the list's first places, and how many.
 fn answer(input: &[u8], out: &mut [u8]) -> usize
     requires { ⌜ length (now out) ≡ 65536 ⌝ }
-    ensures { λ r. ⌜ Ended (now (out .entry)) 0 (aisle (now (input .entry))) (now (out .exit)) r ⌝ }
+    ensures { λ r. ⌜ Answered (now (input .entry)) (now (out .entry)) (now (out .exit)) r ⌝ }
 {
     match line::read_line(input) {
         Line::Malformed => print::refusal_line(
@@ -129,8 +129,7 @@ fn answer(input: &[u8], out: &mut [u8]) -> usize
     }
 }
 
-// A good line has at most 56 bytes and a good floor text at most 4,195, so what an input is refused for stands in its first 4,252 bytes:
-// the first 8,192 are answered as the whole would be.
+// What decides stands in the first 4,252 bytes of any input, so what is told of the first 8,192 is told of the whole.
 fn main() {
     let mut input = [0u8; 8192];
     let mut out = io::large_buffer();

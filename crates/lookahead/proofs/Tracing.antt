@@ -1,11 +1,11 @@
 -- The route is written one move more at a time: the cell before is the model's, so the moves are those of its route.
 -- Assumes nothing.
-use mathlib.Core.Path.{_≡_, ap, ap₂, sym, _∙_, subst}
+use mathlib.Core.Path.{_≡_, ap, ap₂, sym, _∙_}
 use mathlib.Core.List.{List, [], _∷_, _++_, append-nil}
 use mathlib.Core.Logic.{_≢_}
-use Prim.Native.Nat.{ℕ, suc, _+_, _-_, _*_, _≤_, _<_}
+use Prim.Native.Nat.{ℕ, suc, _+_, _-_, _≤_, _<_}
 use native.Mathlib.Omega.{arith}
-use lib.ListN.{length, getD, set, take, drop, length-set, length-drop, drop-of-length-le, List·getD-eq-default}
+use lib.ListN.{length, set, take, drop, length-set, length-drop, drop-of-length-le, List·getD-eq-default}
 use lib.Seq.{take-all, getD-drop, getD-set-same, drop-set-lt, drop-cons, append-snoc}
 use Rattle.learning.specs.Ground.{Ground, viewOf, ringOf, lastOf, legOf}
 use Rattle.learning.specs.Route.{priorIn}
@@ -14,7 +14,7 @@ use Rattle.answers.specs.declared.Job.{Job}
 use Rattle.model.specs.Floor.{Floor, free, heading}
 use Rattle.model.specs.Grounds.{price-low}
 use Rattle.model.specs.Checks.{floorOf, groundIn}
-use Rattle.model.specs.Lookahead.{seen, route, movesAlong}
+use Rattle.model.specs.Lookahead.{movesAlong}
 use Rattle.model.proofs.Steps.{moves-more}
 use Rattle.lookahead.specs.declared.Link.{Link}
 use Rattle.lookahead.specs.Contract.{Asked, Near, Seen, movesTo, Traced}

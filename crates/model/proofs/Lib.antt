@@ -25,3 +25,5 @@ pub mod Demand
 pub mod Files
 pub mod Records
 pub mod RoundTrip
+-- The program `aisle`: which of its input's bytes decide.
+pub mod Cut

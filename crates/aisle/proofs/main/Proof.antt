@@ -32,7 +32,7 @@ array-share-prefix-out : tie.Need-array-share-prefix-out
 array-share-prefix-out c = search needs
 
 slice-aggregate-write-all : tie.Need-slice-aggregate-write-all
-slice-aggregate-write-all c = sym (length-take-le _ _ (omega (arith, c .before .before .answer .ensures .size, c .before .before .answer .ensures .within)))
+slice-aggregate-write-all c = sym (length-take-le _ _ (omega (arith, c .before .before .answer .ensures .read .size, c .before .before .answer .ensures .read .within)))
 
 write-all-requires : tie.Need-write-all-requires
 write-all-requires c κs = search needs
