@@ -30,7 +30,7 @@ pub fn compare(plan: &Plan) -> bool {
     for seed in plan.from..plan.from.saturating_add(plan.count) {
         if plan.seconds.is_some_and(|seconds| begun.elapsed() >= Duration::from_secs(seconds)) {
             println!("stopped early at seed {seed}: the time given is used up");
-            break;
+            return false;
         }
         let program = make::program_of(seed);
         let other = match program {

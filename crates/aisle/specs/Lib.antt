@@ -1,1 +1,2 @@
+-- What the functions of `aisle` promise.
 pub mod Answers

@@ -1,1 +1,2 @@
+-- What an answer says fixes the answer.
 pub mod One

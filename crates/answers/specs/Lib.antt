@@ -1,1 +1,2 @@
+-- What each answer says in the numbers of document 01.
 pub mod Says

@@ -1,0 +1,1 @@
+-- Nothing: the proofs of the functions stand in folders of their own.

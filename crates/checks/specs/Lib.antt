@@ -1,0 +1,1 @@
+-- Nothing: the checks promise the definitions of `model` themselves.

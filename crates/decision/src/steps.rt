@@ -13,7 +13,7 @@ use answers::Job;
 use answers::State;
 use lookahead::Ahead;
 
-// The new figure is stored where it is greater than the cell's.
+// The new figure is stored where it is greater than the cell's. It is at most 919,072: the ceiling, and 16 × 112 for the way there.
 pub(crate) fn store(table: &mut [u32], cell: usize, figure: usize)
     requires { ⌜ (cell < length (now table)) × (figure ≤ 919072) ⌝ }
     ensures { λ _. ⌜ now (table .exit) ≡ model.stored (now (table .entry)) cell figure ⌝ }

@@ -138,7 +138,7 @@ fn leads_off(width: usize, height: usize, at: Spot, m: usize) -> bool
     height < y
 }
 
-// The move m from a free cell that stands there.
+// The move m from a free cell, whose column and row the spot has.
 pub fn step_from(width: usize, height: usize, floor: &[u8], cell: usize, at: Spot, m: usize) -> Step
     requires { ⌜ Sized (flat width height (now floor)) ⌝ ∗ ⌜ Placed (flat width height (now floor)) cell at ⌝ ∗ ⌜ m < 8 ⌝ }
     ensures { λ r. ⌜ r ≡ stepOf (flat width height (now (floor .entry))) cell m ⌝ }

@@ -1,1 +1,2 @@
+-- What reading a floor text promises.
 pub mod Reads

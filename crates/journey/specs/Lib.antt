@@ -1,1 +1,2 @@
+-- What is told of a trial, and where.
 pub mod Telling

@@ -22,7 +22,8 @@ use answers::Verdict;
 use libc::STDOUT_FILENO;
 use line::print;
 
-// Where fewer than 512 places are left, what is told is written out; the next place.
+// Where fewer than 512 of the list's 65,536 places are left, what is told is written out; the next place. What is told at once, the moves of a
+// decision or the counts of a trial, needs fewer.
 fn spill(out: &[u8], at: usize) -> usize
     requires { ⌜ at ≤ length (now out) ⌝ }
     ensures { λ r. ⌜ Spilt at r ⌝ }

@@ -46,7 +46,8 @@ fn clear(mark: &mut [u32])
     }
 }
 
-// The next lookahead's base. Where the marks would run out of numbers they are cleared, and it starts again.
+// The next lookahead's base, 16 further on, since a lookahead's marks go up to base + 8. Where the 32 bits of a mark would run out, the marks are
+// cleared, and it starts again.
 pub fn renew(base: u32, mark: &mut [u32]) -> u32
     requires { ⌜ Spent base (now mark) ⌝ }
     ensures { λ r. ⌜ Marks r (now (mark .exit)) ⌝ }
@@ -108,7 +109,7 @@ pub fn on_last(
     floor::wide32(mark[x]) == floor::wide32(base) + last
 }
 
-// What the way to the cell x of the window costs.
+// What the way to the cell x of the window costs: at most 112, 14 for each of 8 moves.
 pub fn leg(
     job: Job,
     floor: &[u8],
@@ -151,7 +152,8 @@ pub fn aim(
     }
 }
 
-// The moves of the route to the cell x of the window are written at the front of out; their number.
+// The moves of the route to the cell x of the window are written at the front of out; their number. A route costs at most 112 and each of its moves
+// 10 or more, so there are at most 11.
 pub fn trace(
     job: Job,
     floor: &[u8],

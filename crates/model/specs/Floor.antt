@@ -72,7 +72,7 @@ ahead f x m = (row f x + south m - 1) * f .width + (column f x + east m - 1)
 unfoldable pub inside : Floor → ℕ → ℕ → Bool
 inside f x m = leb 1 (column f x + east m) && leb (column f x + east m) (f .width) && leb 1 (row f x + south m) && leb (row f x + south m) (f .height)
 
--- a move is allowed when the cell moved into is on the floor and there is a price for it
+-- "A move is allowed when the cell moved into is on the floor and free": where there is a price for it, which asks that the cell left is free too
 unfoldable pub allowed : Floor → ℕ → ℕ → Bool
 allowed f x m = inside f x m && leb 1 (price f x (ahead f x m))
 
@@ -90,7 +90,7 @@ octile f q g x =
     let dy = apart (row f x) (row f g) in
     q * (14 * min dx dy + 10 * apart dx dy)
 
--- the least over the goals
+-- the least over the goals; document 01 names one, and a list of several changes no definition
 unfoldable pub opening : Floor → ℕ → List ℕ → ℕ → ℕ
 opening f q [] x = 0
 opening f q (g ∷ []) x = octile f q g x

@@ -64,7 +64,7 @@ readLine input = elim (numbersIn 0 0 input) [ none ↦ none | some ns ↦ settin
 abbrev pub jobIn : Settings → (width height : ℕ) → Job
 jobIn s width height = record { width = width; height = height; goal = s .goal; depth = s .depth; p = s .p; q = s .q; quota = s .quota }
 
--- a number in decimal; 20 digits are enough for any count
+-- a number in decimal; 20 digits are enough for any count (`counts-fit` of Rides)
 unfoldable pub decimalIn : (most n : ℕ) → List ℕ
 decimalIn zero n = []
 decimalIn (suc most) n = elim (leb n 9) [ true ↦ (48 + n) ∷ [] | false ↦ decimalIn most (n / 10) ++ (48 + n % 10) ∷ [] ]
@@ -107,7 +107,8 @@ placeField (P.Record x) = field x
 unfoldable pub refusalLine : Refusal → List ℕ
 refusalLine r = 114 ∷ 101 ∷ 102 ∷ 117 ∷ 115 ∷ 101 ∷ 100 ∷ (field (r .number) ++ (placeField (r .place) ++ (LF ∷ [])))
 
--- `aisle` judges its line with its settings, then the floor text, then the rest; its table is the opening one
+-- `aisle` judges its line with its settings, then the floor text, then the rest; its table is the opening one. Its buffer has the 4,096 places of
+-- the largest floor, so 2 is never answered
 unfoldable pub judgeAisle : Settings → (text : List ℕ) → Verdict
 judgeAisle s text =
     let j = jobIn s (widthIn text) (heightIn text) in

@@ -21,7 +21,7 @@ ring j bytes v x = ringIn (groundIn j bytes) (j .depth) (v .rings) x
 abbrev pub w : Job → List ℕ → View → ℕ → ℕ
 w j bytes v x = costIn (groundIn j bytes) (v .costs) x
 
--- whether one of the rings 1 to k is empty: number 9 asks it of the last ring, since a ring is up to the depth with the goal in none before it just where it is up to the last
+-- whether one of the rings 1 to k is empty. Number 9 asks it of the last ring, which is the depth's or the goal's (`nine-means`)
 unfoldable pub emptyRing : Job → List ℕ → View → ℕ → Bool
 emptyRing j bytes v zero = false
 emptyRing j bytes v (suc k) =

@@ -184,7 +184,7 @@ fn judge_distances(q: usize, start: usize, dist: &[u32], table: &[u32]) -> Verdi
     unsound(q, dist, table)
 }
 
-// 6: no walk from start to goal exists. 7: as above. The list lent is for the true distances.
+// 6: no walk from start to goal exists. 7: a figure that the true distances refuse. The list lent is for those distances.
 fn judge_in(job: Job, floor: &[u8], start: usize, table: &[u32], dist: &mut [u32]) -> Verdict
     requires { ⌜ Openable job (now floor) start (now table) × (length (now dist) ≡ job .width * job .height) ⌝ }
     ensures { λ r. ⌜ r ≡ soundness job (now (floor .entry)) start (now (table .entry)) ⌝ }
@@ -193,14 +193,14 @@ fn judge_in(job: Job, floor: &[u8], start: usize, table: &[u32], dist: &mut [u32
     judge_distances(job.q, start, &dist[..], table)
 }
 
-// A list with a place for each cell of the largest floor.
+// A list of zeros with a place for each cell of the largest floor, for true distances to be found in.
 fn no_distances() -> [u32; 4096]
     ensures { λ r. ⌜ length r ≡ 4096 ⌝ }
 {
     [0u32; 4096]
 }
 
-// The same, with a list of its own.
+// The checks 6 and 7, with a list of distances of its own.
 fn soundness(job: Job, floor: &[u8], start: usize, table: &[u32]) -> Verdict
     requires { ⌜ Openable job (now floor) start (now table) ⌝ }
     ensures { λ r. ⌜ r ≡ soundness job (now (floor .entry)) start (now (table .entry)) ⌝ }

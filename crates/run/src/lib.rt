@@ -23,14 +23,6 @@ pub fn store_report(reports: &mut [Report], at: usize, r: Report)
     reports[at] = r;
 }
 
-// One record is read.
-pub fn load_report(reports: &[Report], at: usize) -> Report
-    requires { ⌜ at < length (now reports) ⌝ }
-    ensures { λ r. ⌜ r ≡ getD (now (reports .entry)) at none ⌝ }
-{
-    reports[at]
-}
-
 // The costs of the legs up to the places of the path: where a decision adds a cell, what they come to there is noted.
 pub fn note_leg(along: &mut [u32], before: usize, after: usize, leg: usize)
     requires { ⌜ Fits (now along) before after leg ⌝ }
@@ -223,7 +215,7 @@ fn report_at(counts: &[u64], i: usize) -> Report
     }
 }
 
-// The first n records of a list of numbers, in an array that has room for 1,001.
+// The first n records of a list of numbers, in an array that has room for 1,001: the most trials, and one more.
 fn reports_of(counts: &[u64], n: usize) -> [Report; 1001]
     requires { ⌜ Counted n (now counts) ⌝ }
     ensures { λ r. ⌜ take n r ≡ records (now (counts .entry)) n ⌝ }

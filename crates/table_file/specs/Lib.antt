@@ -1,1 +1,2 @@
+-- What the calls of the table file promise.
 pub mod Promises
