@@ -79,6 +79,8 @@ pub record PinsDecision : Type 0 where
   pub greatest : clear 4 1 3 2 0 (0 ∷ 50 ∷ 0 ∷ 0 ∷ []) .answer ≡ A.Forward 2 60 2
   -- p × w(x) + figure(x), p and q apart
   pub weight : decide (job 1 2 3 1000) hall (state 6 0 0) (0 ∷ 30 ∷ 60 ∷ 30 ∷ 42 ∷ 72 ∷ 60 ∷ 72 ∷ 84 ∷ []) fresh buffer 0 .answer ≡ A.Forward 7 32 1
+  -- and so for the target: by p it is 5, one diagonal move away, by q it would be 8
+  pub weight-target : on (job 1 1 2 1000) (state 7 0 0) (set (set figures 6 100) 8 30) fresh .answer ≡ A.Forward 5 14 1
   -- the route goes by the lowest-numbered window cell
   pub lowest : clear 3 2 5 2 0 (0 ∷ 0 ∷ 10 ∷ 0 ∷ 0 ∷ 0 ∷ []) ≡ leaves (A.Forward 5 24 2) (state 5 24 1) (24 ∷ 0 ∷ 10 ∷ 0 ∷ 0 ∷ 0 ∷ []) (path1 0) (2 ∷ 3 ∷ replicate 288 9)
   -- If the new figure is greater than the current cell's, store it; else the learned amount is 0 and no table entry is touched
@@ -130,6 +132,7 @@ pinsDecision = record {
   goal-passed-by = refl;
   greatest = refl;
   weight = refl;
+  weight-target = refl;
   lowest = refl;
   unraised = refl;
   quota-met = refl;

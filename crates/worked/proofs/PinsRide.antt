@@ -1,12 +1,23 @@
 -- What trial and run answer and leave, past their checks.
+use Prim.Native.Nat.{ℕ}
 use mathlib.Core.Path.{_≡_, refl}
 use mathlib.Core.Bool.{true, false}
-use mathlib.Core.List.{[], _∷_}
+use mathlib.Core.List.{List, [], _∷_}
 use lib.ListN.{set, replicate}
+use Rattle.answers.specs.declared.Job.{Job}
 use Rattle.answers.specs.declared.Ran.the-variants as Rn
+use Rattle.answers.specs.declared.Tried.the-variants as Td
 use Rattle.model.specs.Ride.{trial, run}
 use Rattle.model.specs.Compute.{compute}
-use Rattle.worked.proofs.Hall.{hall, job, figures, fresh, made, rowJob, blank, learnt}
+use Rattle.worked.proofs.Hall.{hall, job, openingOf, figures, fresh, made, rowJob, blank, learnt}
+
+-- rows `.@.@@@@`, `..@.@@@`, `.@@@.@@`, `.@@@@.@`, `.@@@@@.`, `@.....@`, `@@@@@@.`: from 0 to 40 in seven diagonal moves (98), or in nine, one of them diagonal (94)
+abbrev twoWays : List ℕ
+twoWays =
+    0 ∷ 1 ∷ 0 ∷ 1 ∷ 1 ∷ 1 ∷ 1 ∷ 0 ∷ 0 ∷ 1 ∷ 0 ∷ 1 ∷ 1 ∷ 1 ∷ 0 ∷ 1 ∷ 1 ∷ 1 ∷ 0 ∷ 1 ∷ 1 ∷ 0 ∷ 1 ∷ 1 ∷ 1 ∷ 1 ∷ 0 ∷ 1 ∷ 0 ∷ 1 ∷ 1 ∷ 1 ∷ 1 ∷ 1 ∷ 0 ∷ 1 ∷ 0 ∷ 0 ∷ 0 ∷ 0 ∷ 0 ∷ 1 ∷ 1 ∷ 1 ∷ 1 ∷ 1 ∷ 1 ∷ 1 ∷ 0 ∷ []
+
+abbrev twoWaysJob : Job
+twoWaysJob = record { width = 7; height = 7; goal = 48; depth = 7; p = 1; q = 1; quota = 1000 }
 
 pub record PinsRide : Type 0 where
   -- Start equal to goal gives one trial, all four 0
@@ -21,8 +32,13 @@ pub record PinsRide : Type 0 where
   -- trials until the number asked for is used: one that learns more than 0 is not settled
   pub unsettled : run (job 1 1 1 0) hall 6 1 figures fresh (blank ∷ [])
       ≡ record { answer = Rn.Made 1 false; table = learnt; path = 6 ∷ 7 ∷ 5 ∷ 1 ∷ replicate 5 77; reports = record { decisions = 8; learned = 42; kept = 48; travel = 68 } ∷ [] }
+  -- the number asked for, though more records are lent
+  pub records-to-spare : run (job 1 1 1 0) hall 6 1 figures fresh (blank ∷ blank ∷ []) .answer ≡ Rn.Made 1 false
   -- kept cost: the legs along the path at the end, each at its own cost
   pub kept : trial (job 2 1 1 1000) hall 6 figures fresh ≡ made 2 28 48 48 (set figures 6 48) (6 ∷ 5 ∷ replicate 7 77)
+  -- seen at the job's own depth: 98 to 40, since 39, on the way that costs 94, is on ring 8
+  pub kept-depth : trial twoWaysJob twoWays 0 (set (openingOf twoWaysJob twoWays) 40 0) (replicate 49 77) .answer
+      ≡ Td.Made (record { decisions = 2; learned = 34; kept = 112; travel = 112 })
   -- each trial goes on with the table and the path list that the one before left: rows `.@.`, `.@.`, `...`, from 8
   pub carried : run (job 1 1 1 1000) (0 ∷ 1 ∷ 0 ∷ 0 ∷ 1 ∷ 0 ∷ 0 ∷ 0 ∷ 0 ∷ []) 8 5 figures fresh (blank ∷ blank ∷ blank ∷ blank ∷ blank ∷ [])
       ≡ record {
@@ -40,6 +56,8 @@ pinsRide = record {
   nothing-left = refl;
   there-and-back = refl;
   unsettled = refl;
+  records-to-spare = refl;
   kept = refl;
+  kept-depth = refl;
   carried = refl;
 }
