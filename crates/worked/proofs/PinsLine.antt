@@ -58,7 +58,7 @@ pub record PinsLine : Type 0 where
   -- a path longer than width and height together
   pub long-path : prints "0 12 1 1 1 1000000 1\n" "type octile\nheight 4\nwidth 4\nmap\n.@..\n....\n@@@.\n....\n" ≡ bytes "4220244566 10 74 104 104\nunsettled 1\n"
   -- a floor wider than high
-  pub oblong : prints "0 2\n" "type octile\nheight 1\nwidth 3\nmap\n...\n" ≡ bytes "22 2 0 20 20\nsettled 1\n"
+  pub oblong : prints "3 7\n" "type octile\nheight 2\nwidth 4\nmap\n....\n@@@.\n" ≡ bytes "4 1 0 10 10\nsettled 1\n"
   -- its table is the opening one, by q
   pub scaled : onHall "6 0 1 1 2 0 10\n" ≡ bytes "262176 8 46 48 68\n2176 4 0 48 48\nsettled 2\n"
   -- the last line is `settled` or `unsettled` and the trials made
