@@ -1,10 +1,9 @@
 // The checks that several calls make, each equal to its definition in the model.
 ghost use mathlib.Core.Path.{_≡_};
 ghost use mathlib.Core.Bool.{true};
-ghost use mathlib.Core.List.{[], _∷_};
 ghost use lib.ListN.{length};
 ghost use Rattle.model.specs.Basics.{refuseAt};
-ghost use Rattle.model.specs.Floor.{Floor, size, Sized};
+ghost use Rattle.model.specs.Floor.{Floor, size, Sized, goalsOf};
 ghost use Rattle.model.specs.Checks.{sizes, pathRoom, settings, scale, benches, places, figures};
 ghost use Rattle.floor.specs.Moves.{flat};
 use answers::Job;
@@ -107,7 +106,7 @@ pub fn scale(q: usize) -> Verdict
 // 4 where the goal is all that is taken: it is off the floor or blocked.
 pub fn bench(width: usize, height: usize, floor: &[u8], goal: usize) -> Verdict
     requires { ⌜ Sized (flat width height (now floor)) ⌝ }
-    ensures { λ r. ⌜ r ≡ benches (flat width height (now (floor .entry))) (goal ∷ []) ⌝ }
+    ensures { λ r. ⌜ r ≡ benches (flat width height (now (floor .entry))) (goalsOf goal) ⌝ }
 {
     if floor::is_free(width, height, floor, goal) {
         return Verdict::Done;
@@ -118,7 +117,7 @@ pub fn bench(width: usize, height: usize, floor: &[u8], goal: usize) -> Verdict
 // 4: start or current cell, or goal off the floor or blocked.
 pub fn places(width: usize, height: usize, floor: &[u8], cell: usize, goal: usize) -> Verdict
     requires { ⌜ Sized (flat width height (now floor)) ⌝ }
-    ensures { λ r. ⌜ r ≡ places (flat width height (now (floor .entry))) cell (goal ∷ []) ⌝ }
+    ensures { λ r. ⌜ r ≡ places (flat width height (now (floor .entry))) cell (goalsOf goal) ⌝ }
 {
     if floor::is_free(width, height, floor, cell) {
         return bench(width, height, floor, goal);

@@ -138,7 +138,7 @@ pub(crate) fn go_back(
             base: base,
         };
     }
-    let l = floor::wide16(path[length - 1]);
+    let l = notation::wide16(path[length - 1]);
     let next = lookahead::renew(base, mark);
     match lookahead::look(job, floor, l, next, mark, cost, list) {
         Around::Window { last, n: _ } => back_to(

@@ -17,9 +17,9 @@ pub(crate) fn noted(path: &[u16], place: &[u16], n: usize, c: usize) -> bool
     requires { ⌜ n ≤ length (now path) ⌝ ∗ ⌜ c < length (now place) ⌝ }
     ensures { λ r. ⌜ r ≡ isNoted (now (path .entry)) (now (place .entry)) n c ⌝ }
 {
-    let k = floor::wide16(place[c]);
+    let k = notation::wide16(place[c]);
     if k < n {
-        return floor::wide16(path[k]) == c;
+        return notation::wide16(path[k]) == c;
     }
     false
 }
@@ -29,7 +29,7 @@ fn stands(job: Job, floor: &[u8], current: usize, path: &[u16], i: usize, place:
     requires { ⌜ Sized (floorOf job (now floor)) ⌝ ∗ ⌜ (i < length (now path)) × (i < 4096) ⌝ ∗ ⌜ Places (now place) (now path) i ⌝ }
     ensures { λ r. ⌜ Stands job (now (floor .entry)) current (now (path .entry)) i (now (place .exit)) r ⌝ }
 {
-    let c = floor::wide16(path[i]);
+    let c = notation::wide16(path[i]);
     if !floor::is_free(job.width, job.height, floor, c) {
         return false;
     }

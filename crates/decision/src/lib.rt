@@ -20,6 +20,7 @@ use answers::Place;
 use answers::Refusal;
 use answers::State;
 use answers::Verdict;
+use floor::CEILING;
 use lookahead::Around;
 
 // What a decision past the checks comes to: its answer, the state after it, its rise, what its moves cost, and the next lookahead's base.
@@ -123,7 +124,7 @@ fn too_high(old: usize, figure: usize) -> bool
     if figure <= old {
         return false;
     }
-    917280 < figure
+    CEILING < figure
 }
 
 fn rise_of(old: usize, figure: usize) -> usize
@@ -160,7 +161,7 @@ fn learn(
 {
     let s = state.current;
     let aim = lookahead::aim(job, floor, s, table, base, mark, cost, list, n, last);
-    let old = floor::wide32(table[s]);
+    let old = notation::wide32(table[s]);
     if too_high(old, aim.figure) {
         return refuse(state, 10, base);
     }

@@ -18,7 +18,7 @@ pub(crate) fn store(table: &mut [u32], cell: usize, figure: usize)
     requires { ⌜ (cell < length (now table)) × (figure ≤ 919072) ⌝ }
     ensures { λ _. ⌜ now (table .exit) ≡ model.stored (now (table .entry)) cell figure ⌝ }
 {
-    if figure <= floor::wide32(table[cell]) {
+    if figure <= notation::wide32(table[cell]) {
         return;
     }
     table[cell] = figure as u32;
@@ -32,7 +32,7 @@ fn extend(path: &mut [u16], place: &mut [u16], n: usize, current: usize, target:
     path[n] = current as u16;
     place[current] = n as u16;
     if super::held::noted(path, place, n + 1, target) {
-        return floor::wide16(place[target]);
+        return notation::wide16(place[target]);
     }
     n + 1
 }

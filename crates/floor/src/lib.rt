@@ -1,12 +1,13 @@
 // The floor: one move with its cost, whether a cell is free, and the opening figure of a cell.
 ghost use mathlib.Core.Path.{_≡_};
 ghost use mathlib.Core.Bool.{true};
-ghost use mathlib.Core.List.{List, [], _∷_};
+ghost use mathlib.Core.List.{List};
 ghost use Prim.Native.Nat.{ℕ, _<_, _≤_, _*_, min};
-ghost use Rattle.model.specs.Floor.{Sized, free, apart};
+ghost use Rattle.model.specs.Floor.{Sized, free, apart, goalsOf};
 ghost use Rattle.model.specs.Floor as model;
 ghost use Rattle.model.proofs.Moves.{toll};
 ghost use Rattle.floor.specs.Moves.{flat, Inner, Spotted, Placed, Off, stepOf};
+ghost use Rattle.model.specs.Basics.{member};
 
 // What a move leads to: the cell moved into and what the move costs, or nothing that may be moved into.
 pub enum Step {
@@ -21,24 +22,26 @@ pub struct Spot {
     pub inner: bool,
 }
 
-// The same number in more bits.
-pub fn wide8(x: u8) -> usize
-    ensures { λ r. ⌜ (r ≡ x) × (r < 256) ⌝ }
-{
-    x as usize
-}
+// A straight move costs 10, a diagonal one 14; the least and the dearest price of a move.
+const STRAIGHT: u16 = 10;
 
-pub fn wide16(x: u16) -> usize
-    ensures { λ r. ⌜ (r ≡ x) × (r < 65536) ⌝ }
-{
-    x as usize
-}
+const DIAGONAL: u16 = 14;
 
-pub fn wide32(x: u32) -> usize
-    ensures { λ r. ⌜ (r ≡ x) × (r < 4294967296) ⌝ }
-{
-    x as usize
-}
+pub const LEAST_PRICE: u16 = STRAIGHT;
+
+pub const DEAREST_PRICE: u16 = DIAGONAL;
+
+// The first two in more bits, for figures.
+const STRAIGHTS: usize = STRAIGHT as usize;
+
+const DIAGONALS: usize = DIAGONAL as usize;
+
+// The greatest depth and the greatest q; and the ceiling for any figure.
+pub const DEEPEST: usize = 8;
+
+pub const FINEST: usize = 16;
+
+pub const CEILING: usize = DIAGONALS * 4095 * FINEST;
 
 // Whether a cell is on the floor and free.
 pub fn is_free(width: usize, height: usize, floor: &[u8], cell: usize) -> bool
@@ -49,6 +52,13 @@ pub fn is_free(width: usize, height: usize, floor: &[u8], cell: usize) -> bool
         return false;
     }
     floor[cell] == 0
+}
+
+// Whether a cell is a goal.
+pub fn is_goal(goal: usize, cell: usize) -> bool
+    ensures { λ r. ⌜ r ≡ member cell (goalsOf goal) ⌝ }
+{
+    cell == goal
 }
 
 // How far the move m goes east, counted so that 1 is not at all.
@@ -81,7 +91,7 @@ fn toll(m: usize) -> u16
     requires { ⌜ m < 8 ⌝ }
     ensures { λ r. ⌜ r ≡ toll m ⌝ }
 {
-    if m % 2 == 0 { 10 } else { 14 }
+    if m % 2 == 0 { STRAIGHT } else { DIAGONAL }
 }
 
 // Whether no move leads off the floor from a cell at this column and row.
@@ -173,9 +183,9 @@ fn smaller(a: usize, b: usize) -> usize
 // The opening figure of a cell, which does not depend on the floor's bytes.
 pub fn opening(width: usize, height: usize, goal: usize, q: usize, cell: usize) -> usize
     requires { ⌜ 1 ≤ width ⌝ ∗ ⌜ width ≤ 64 ⌝ ∗ ⌜ height ≤ 64 ⌝ ∗ ⌜ q ≤ 16 ⌝ ∗ ⌜ (cell < width * height) × (goal < width * height) ⌝ }
-    ensures { λ r. ⌜ ((bytes : List ℕ) → r ≡ model.opening (flat width height bytes) q (goal ∷ []) cell) ⌝ }
+    ensures { λ r. ⌜ ((bytes : List ℕ) → r ≡ model.opening (flat width height bytes) q (goalsOf goal) cell) ⌝ }
 {
     let dx = gap(cell % width, goal % width);
     let dy = gap(cell / width, goal / width);
-    q * (14 * smaller(dx, dy) + 10 * gap(dx, dy))
+    q * (DIAGONALS * smaller(dx, dy) + STRAIGHTS * gap(dx, dy))
 }

@@ -1,7 +1,7 @@
 -- From the marked rings and the relaxed costs to `learning`'s window, with the rings that the marks say and the costs in the list.
 -- Assumes nothing.
 use mathlib.Core.Path.{_≡_, refl, sym, subst}
-use mathlib.Core.List.{List, [], _∷_}
+use mathlib.Core.List.{List}
 use mathlib.Core.Bool.{true}
 use mathlib.Core.Logic.{_⊎_, inl, inr, ⊎-elim}
 use Prim.Native.Nat.{ℕ, _+_, _-_, _≤_}
@@ -11,7 +11,7 @@ use Rattle.learning.specs.Walk.{stop, Least, Leads}
 use Rattle.learning.specs.Ahead.{Window}
 use Rattle.learning.specs.Ground.{Goal}
 use Rattle.learning.proofs.Walks.{restate, turn, widen, least-same}
-use Rattle.model.specs.Floor.{Floor, Sized, free}
+use Rattle.model.specs.Floor.{Floor, Sized, free, goalsOf}
 use Rattle.model.specs.Grounds.{groundOf}
 use Rattle.model.proofs.Moves.{free-below}
 use Rattle.model.proofs.Meaning.{goal-means, goal-is}
@@ -67,14 +67,14 @@ module _ (f : Floor) (s goal depth base last : ℕ) (S : State) (F : Framed f s 
     goal-ring (yes p) = omega (arith, by-mark goal (F .nearer p))
     goal-ring (no p) = omega (arith, p, F .within, deep)
 
-    ends : (last ≡ depth) ⊎ (markOf S goal ≡ base + last) → (last ≡ depth) ⊎ ((y : ℕ) × Goal (groundOf f (goal ∷ [])) y × (ring y ≡ last))
+    ends : (last ≡ depth) ⊎ (markOf S goal ≡ base + last) → (last ≡ depth) ⊎ ((y : ℕ) × Goal (groundOf f (goalsOf goal)) y × (ring y ≡ last))
     ends (inl e) = inl e
     ends (inr e) = inr (goal, goal-is f goal (free-below f goal bench), by-mark goal e)
 
     least : (x : ℕ) → In base (S .mark) x → Least (Leads (net f) (In base (S .mark)) x s) (at cost x)
     least = R .least s (F .marked .costs) start
 
-    pub array-window : Window (net f) (Goal (groundOf f (goal ∷ []))) depth s last (ringAt base (S .mark)) (at cost)
+    pub array-window : Window (net f) (Goal (groundOf f (goalsOf goal))) depth s last (ringAt base (S .mark)) (at cost)
     array-window = record {
       some = F .some;
       depth = F .within;

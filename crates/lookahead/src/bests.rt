@@ -30,8 +30,8 @@ fn weigh(
     ensures { λ _. ⌜ now (best .exit) ≡ set (now (best .entry)) (ringAt base (now (mark .entry)) c)
         (min (key (now (cost .entry)) (now (table .entry)) p c) (getD (now (best .entry)) (ringAt base (now (mark .entry)) c) 0)) ⌝ }
 {
-    let k = floor::wide32(mark[c] - base);
-    let v = p * floor::wide16(cost[c]) + floor::wide32(table[c]);
+    let k = notation::wide32(mark[c] - base);
+    let v = p * notation::wide16(cost[c]) + notation::wide32(table[c]);
     enter(best, k, v * 4096 + c);
 }
 
@@ -52,7 +52,7 @@ pub(crate) fn weigh_all(
 {
     let mut i = 0;
     while i < n {
-        let c = floor::wide16(list[i]);
+        let c = notation::wide16(list[i]);
         weigh(table, p, base, mark, cost, c, best);
         i += 1;
     }

@@ -101,7 +101,7 @@ fn ease_again(
     ensures { λ r. ⌜ Again (flat width height (now (floor .entry))) base (now (mark .entry)) i
         (now (cost .entry)) (now (list .entry)) changed (now (cost .exit)) (now (list .exit)) r ⌝ }
 {
-    let c = floor::wide16(list[i]);
+    let c = notation::wide16(list[i]);
     let w = cost[c];
     if list[i + 4096] <= w {
         return changed;
@@ -154,7 +154,7 @@ fn highest(base: u32, mark: &[u32], cost: &[u16], list: &[u16], n: usize) -> u16
     let mut high = 0;
     let mut i = 0;
     while i < n {
-        let c = floor::wide16(list[i]);
+        let c = notation::wide16(list[i]);
         high = larger(high, cost[c]);
         i += 1;
     }

@@ -106,7 +106,7 @@ pub fn on_last(
     requires { ⌜ Seen job (now floor) s base (now mark) (now cost) ⌝ ∗ ⌜ last ≡ model.seen job (now floor) s .last ⌝ ∗ ⌜ last ≤ 8 ⌝ ∗ ⌜ x < 4096 ⌝ }
     ensures { λ r. ⌜ r ≡ eqb (model.ring job (now (floor .entry)) (model.seen job (now (floor .entry)) s) x) (model.seen job (now (floor .entry)) s .last) ⌝ }
 {
-    floor::wide32(mark[x]) == floor::wide32(base) + last
+    notation::wide32(mark[x]) == notation::wide32(base) + last
 }
 
 // What the way to the cell x of the window costs: at most 112, 14 for each of 8 moves.
@@ -122,7 +122,7 @@ pub fn leg(
     requires { ⌜ Asked job (now floor) s ⌝ ∗ ⌜ Seen job (now floor) s base (now mark) (now cost) ⌝ ∗ ⌜ Near job (now floor) s x ⌝ }
     ensures { λ r. ⌜ (r ≡ model.w job (now (floor .entry)) (model.seen job (now (floor .entry)) s) x) × (r ≤ 112) ⌝ }
 {
-    floor::wide16(cost[x])
+    notation::wide16(cost[x])
 }
 
 // The new figure and the target, in a window that is worked out.
@@ -148,7 +148,7 @@ pub fn aim(
     Ahead {
         figure: top / 4096,
         target: target,
-        leg: floor::wide16(cost[target]),
+        leg: notation::wide16(cost[target]),
     }
 }
 

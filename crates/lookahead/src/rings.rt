@@ -135,7 +135,7 @@ fn spread(
     let mut end = to;
     let mut i = from;
     while i < to {
-        let c = floor::wide16(list[i]);
+        let c = notation::wide16(list[i]);
         let w = cost[c];
         end = visit(width, height, floor, base, mark, cost, list, end, c, k, w);
         list[i + 4096] = w;

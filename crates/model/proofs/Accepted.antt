@@ -3,7 +3,7 @@
 use Prim.Native.Nat.{ℕ, zero, suc, _≤_, _<_, min}
 use mathlib.Core.Path.{_≡_, refl, sym, ap, ap₂, subst, _∙_}
 use mathlib.Core.Bool.{Bool, true, false, _&&_}
-use mathlib.Core.List.{List, [], _∷_}
+use mathlib.Core.List.{List}
 use native.Mathlib.Omega.{arith}
 use native.Mathlib.Decide.{decLe}
 use borrow.Author.Tests.{leb-true, ltb-true, eqb-true, ltb-false, le-leb, lt-ltb, le-ltb, eq-eqb}
@@ -18,8 +18,8 @@ use Rattle.answers.specs.declared.Place.the-variants as P
 use Rattle.answers.specs.declared.Verdict.{Verdict}
 use Rattle.answers.specs.declared.Verdict.the-variants as Vd
 use Rattle.model.specs.Basics.{choose, between, every, then, refuseAt, unless, naming}
-use Rattle.model.specs.Floor.{Floor, size, Sized, free}
-use Rattle.model.specs.Checks.{ceiling, sizes, pathRoom, settings, scale, benches, places, figures}
+use Rattle.model.specs.Floor.{Floor, size, Sized, free, goalsOf}
+use Rattle.model.specs.Checks.{ceiling, sizes, pathRoom, settings, scale, benches, places, figures, deepest, finest, largestQuota}
 use Rattle.model.specs.Opening.{reportsRoom, trialsHold}
 use Rattle.model.proofs.Moves.{is-true, both, both-of}
 
@@ -86,11 +86,11 @@ unless-judges false number t = record {
 
 pub record Settings (j : Job) : Type 0 where
   pub deep : 1 ≤ j .depth
-  pub shallow : j .depth ≤ 8
+  pub shallow : j .depth ≤ deepest
   pub light : 1 ≤ j .p
   pub weight : j .p ≤ j .q
-  pub fine : j .q ≤ 16
-  pub within : j .quota ≤ 1000000
+  pub fine : j .q ≤ finest
+  pub within : j .quota ≤ largestQuota
 
 between-tells : (a x b : ℕ) → Tells (between a x b) ((a ≤ x) × (x ≤ b))
 between-tells a x b = and-tells (le-tells a x) (le-tells x b)
@@ -117,7 +117,7 @@ unfolding settings
 settings-judges j =
     unless-judges _ 3
     (told
-    (and-tells (and-tells (and-tells (and-tells (between-tells 1 (j .depth) 8) (le-tells 1 (j .p))) (le-tells (j .p) (j .q))) (le-tells (j .q) 16)) (le-tells (j .quota) 1000000))
+    (and-tells (and-tells (and-tells (and-tells (between-tells 1 (j .depth) deepest) (le-tells 1 (j .p))) (le-tells (j .p) (j .q))) (le-tells (j .q) finest)) (le-tells (j .quota) largestQuota))
     (λ h. record { deep = h .0 .0 .0 .0 .0; shallow = h .0 .0 .0 .0 .1; light = h .0 .0 .0 .1; weight = h .0 .0 .1; fine = h .0 .1; within = h .1 })
     (λ h. (((((h .deep, h .shallow), h .light), h .weight), h .fine), h .within)))
 
@@ -130,15 +130,15 @@ unfolding scale
 scale-judges q = unless-judges _ 3 (between-tells 1 q 16)
 
 -- of the one goal g
-one-tells : (f : Floor) (g : ℕ) → Tells (every (free f) (g ∷ [])) (free f g ≡ true)
+one-tells : (f : Floor) (g : ℕ) → Tells (every (free f) (goalsOf g)) (free f g ≡ true)
 unfolding every
 one-tells f g = told (and-tells (is-tells (free f g)) (is-tells true)) (λ h. h .0) (λ h. (h, refl))
 
-pub bench-judges : (f : Floor) (g : ℕ) → Judges (benches f (g ∷ [])) 4 (free f g ≡ true)
+pub bench-judges : (f : Floor) (g : ℕ) → Judges (benches f (goalsOf g)) 4 (free f g ≡ true)
 unfolding benches
 bench-judges f g = unless-judges _ 4 (one-tells f g)
 
-pub places-judges : (f : Floor) (x g : ℕ) → Judges (places f x (g ∷ [])) 4 ((free f x ≡ true) × (free f g ≡ true))
+pub places-judges : (f : Floor) (x g : ℕ) → Judges (places f x (goalsOf g)) 4 ((free f x ≡ true) × (free f g ≡ true))
 unfolding places
 places-judges f x g = unless-judges _ 4 (and-tells (is-tells (free f x)) (one-tells f g))
 

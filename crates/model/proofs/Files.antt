@@ -12,7 +12,7 @@ use lib.ListN.{length, getD, take, drop, length-append}
 use Rattle.answers.specs.declared.Place.the-variants as P
 use Rattle.answers.specs.declared.Verdict.the-variants as Vd
 use Rattle.model.specs.Basics.{choose, refuseAt, unless, naming}
-use Rattle.model.specs.Floor.{Floor, Sized, size, free, opening}
+use Rattle.model.specs.Floor.{Floor, Sized, size, free, opening, goalsOf}
 use Rattle.model.specs.Checks.{ceiling, figures}
 use Rattle.model.specs.Opening.{openTable}
 use Rattle.model.specs.TableFile.{halfAt, trailer, countIn, backIn, isLetters, trailerHolds, checkTrailer, findRecords, sameJob, cellIn, figureIn, recordFault, judgeRecords, changed, readVerdict, recordsOf, trailerOf, fileOf, unlike, fileRoom, writeVerdict}
@@ -31,7 +31,7 @@ pub record Openable (f : Floor) (q goal n : ℕ) : Type 0 where
   pub bench : goal < size f
   pub cells : n ≡ size f
 
-pub openable : (f : Floor) (q goal n : ℕ) → openTable f q (goal ∷ []) n ≡ Vd.Done → Openable f q goal n
+pub openable : (f : Floor) (q goal n : ℕ) → openTable f q (goalsOf goal) n ≡ Vd.Done → Openable f q goal n
 unfolding openTable
 openable f q goal n e =
     let a = then-done _ _ e in

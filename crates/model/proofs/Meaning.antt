@@ -23,7 +23,7 @@ use Rattle.learning.proofs.Look.{answer-if, walk-inside}
 use Rattle.learning.proofs.Routes.{route-chain, route-none, route-more, prior-least}
 use Rattle.answers.specs.declared.Job.{Job}
 use Rattle.model.specs.Basics.{member}
-use Rattle.model.specs.Floor.{Floor, size, Sized, price, ahead, allowed}
+use Rattle.model.specs.Floor.{Floor, size, Sized, price, ahead, allowed, goalsOf}
 use Rattle.model.specs.Checks.{floorOf, groundIn}
 use Rattle.model.specs.Lookahead.{seen, ring, w, emptyRing, newFigure, target, route}
 use Rattle.model.specs.Opening.{distances, reaches}
@@ -44,11 +44,11 @@ price-means f z x y h =
 
 -- ---- the goal
 
-pub goal-means : (f : Floor) (goal x : ℕ) → Goal (groundOf f (goal ∷ [])) x → x ≡ goal
+pub goal-means : (f : Floor) (goal x : ℕ) → Goal (groundOf f (goalsOf goal)) x → x ≡ goal
 unfolding member
 goal-means f goal x t = eqb→eq x goal (subst T (or-false (eqb x goal)) (second-true (ltb x (size f)) _ t))
 
-pub goal-is : (f : Floor) (goal : ℕ) → goal < size f → Goal (groundOf f (goal ∷ [])) goal
+pub goal-is : (f : Floor) (goal : ℕ) → goal < size f → Goal (groundOf f (goalsOf goal)) goal
 unfolding member
 goal-is f goal h = rw (lt-ltb goal (size f) h, or-false (eqb goal goal)) (eqb-refl goal)
 

@@ -12,7 +12,7 @@ use borrow.Author.Tests.{leb-true, eqb-true, le-leb, eq-eqb}
 use Rattle.learning.specs.Ground.{pick}
 use Rattle.learning.specs.Look.{lowest}
 use Rattle.learning.proofs.Look.{lowest-low, lowest-met}
-use Rattle.model.specs.Floor.{Floor, Sized, size, column, row, free, apart, tariff, fare, clear, price, east, south, ahead, inside, allowed, heading, opposite}
+use Rattle.model.specs.Floor.{Floor, Sized, size, column, row, free, apart, tariff, fare, clear, price, east, south, ahead, inside, allowed, heading, opposite, straight, diagonal}
 use Rattle.model.specs.Grounds.{price-same, price-free, free-inside}
 use Rattle.model.proofs.Cells.{cell-lt, cells-le, row-lt, col-at, row-at, cell-at}
 
@@ -58,7 +58,7 @@ south-le = all8 (λ m. south m ≤ 2) (lit≤ tt) (lit≤ tt) (lit≤ tt) (lit�
 
 -- a straight move costs 10, a diagonal one 14
 abbrev pub toll : ℕ → ℕ
-toll m = getD (10 ∷ 14 ∷ 10 ∷ 14 ∷ 10 ∷ 14 ∷ 10 ∷ 14 ∷ []) m 0
+toll m = getD (straight ∷ diagonal ∷ straight ∷ diagonal ∷ straight ∷ diagonal ∷ straight ∷ diagonal ∷ []) m 0
 
 toll-some : (m : ℕ) → m < 8 → 1 ≤ toll m
 toll-some = all8 (λ m. 1 ≤ toll m) (lit≤ tt) (lit≤ tt) (lit≤ tt) (lit≤ tt) (lit≤ tt) (lit≤ tt) (lit≤ tt) (lit≤ tt)

@@ -19,9 +19,9 @@ use Rattle.learning.proofs.Ground.{on-floor, dist-least}
 use Rattle.answers.specs.declared.Job.{Job}
 use Rattle.answers.specs.declared.Verdict.the-variants as Vd
 use Rattle.model.specs.Basics.{member, then}
-use Rattle.model.specs.Floor.{Floor, size, Sized, column, row, free, apart, tariff, price, octile, opening, openingTable}
+use Rattle.model.specs.Floor.{Floor, size, Sized, column, row, free, apart, tariff, price, octile, opening, openingTable, straight, diagonal, goalsOf}
 use Rattle.model.specs.Grounds.{groundOf}
-use Rattle.model.specs.Checks.{ceiling, floorOf, goals, groundIn, figures}
+use Rattle.model.specs.Checks.{ceiling, floorOf, goals, groundIn, figures, finest}
 use Rattle.model.specs.Opening.{soundness, accepts}
 use Rattle.model.proofs.Cells.{row-lt}
 use Rattle.model.proofs.Moves.{priced, free-below}
@@ -33,7 +33,7 @@ use Rattle.model.proofs.Soundness.{CanReach, Above, sound}
 pub gap-lt : (n a b : ℕ) → a < n → b < n → apart a b < n
 gap-lt n a b h k = omega arith
 
-pub opening-high : (f : Floor) → 1 ≤ f .width → f .width ≤ 64 → f .height ≤ 64 → (q g x : ℕ) → q ≤ 16 → g < size f → x < size f → opening f q (g ∷ []) x ≤ 24192
+pub opening-high : (f : Floor) → 1 ≤ f .width → f .width ≤ 64 → f .height ≤ 64 → (q g x : ℕ) → q ≤ 16 → g < size f → x < size f → opening f q (goalsOf g) x ≤ finest * (diagonal * 63)
 unfolding opening octile
 opening-high f some narrow low q g x fine hg hx =
     let dx : apart (column f x) (column f g) < 64 = gap-lt 64 (column f x) (column f g) (omega (arith, mod-lt x {m = f .width} some)) (omega (arith, mod-lt g {m = f .width} some)) in
@@ -41,25 +41,25 @@ opening-high f some narrow low q g x fine hg hx =
     gap-lt 64 (row f x) (row f g) (omega (arith, row-lt (f .width) (f .height) x some hx)) (omega (arith, row-lt (f .width) (f .height) g some hg)) in
     mul-le-mul fine (far (apart (column f x) (column f g)) (apart (row f x) (row f g)) dx dy)
   where
-    far : (dx dy : ℕ) → dx < 64 → dy < 64 → 14 * min dx dy + 10 * apart dx dy ≤ 1512
+    far : (dx dy : ℕ) → dx < 64 → dy < 64 → diagonal * min dx dy + straight * apart dx dy ≤ diagonal * 63
     far dx dy h k = omega arith
 
 -- so within the ceiling
-pub opening-within : (f : Floor) (q g x : ℕ) → Sized f → q ≤ 16 → g < size f → x < size f → opening f q (g ∷ []) x ≤ ceiling
+pub opening-within : (f : Floor) (q g x : ℕ) → Sized f → q ≤ 16 → g < size f → x < size f → opening f q (goalsOf g) x ≤ ceiling
 opening-within f q g x z fine hg hx = omega (arith, opening-high f (z .wide) (z .narrow) (z .low) q g x fine hg hx)
 
 -- ---- no move lowers the octile distance by more than its price
 
 -- of dx columns and dy rows
 span : ℕ → ℕ → ℕ
-span dx dy = 14 * min dx dy + 10 * apart dx dy
+span dx dy = diagonal * min dx dy + straight * apart dx dy
 
 -- going one column and one row less at most
 span-mono : (x y x′ y′ : ℕ) → x ≤ x′ → y ≤ y′ → span x y ≤ span x′ y′
 unfolding span
 span-mono x y x′ y′ h k = omega arith
 
-span-step : (x y : ℕ) → (span (x + 1) y ≤ 10 + span x y) × (span x (y + 1) ≤ 10 + span x y) × (span (x + 1) (y + 1) ≤ 14 + span x y)
+span-step : (x y : ℕ) → (span (x + 1) y ≤ straight + span x y) × (span x (y + 1) ≤ straight + span x y) × (span (x + 1) (y + 1) ≤ diagonal + span x y)
 unfolding span
 span-step x y = (omega arith, omega arith, omega arith)
 

@@ -14,7 +14,7 @@ use Rattle.answers.specs.declared.Verdict.{Verdict}
 use Rattle.answers.specs.declared.Verdict.the-variants as Vd
 use Rattle.model.specs.Basics.{choose, between, every, then, refuseAt, unless, naming}
 use Rattle.model.specs.Floor.{Floor, size, free}
-use Rattle.model.specs.Checks.{floorOf, goals, sizes, pathRoom, settings, places, figures}
+use Rattle.model.specs.Checks.{floorOf, goals, sizes, pathRoom, settings, places, figures, deepest, finest, largestQuota}
 use Rattle.model.specs.Opening.{soundness, accepts, openJob, openTrial, reportsRoom, trialsHold, openRun}
 use Rattle.model.proofs.Accepted.{not-refused}
 
@@ -56,7 +56,7 @@ module _ (j : Job) (bytes : List ℕ) (start : ℕ) (table : List ℕ) (r : Refu
   past-settings : (w : Verdict) → then (settings j) w ≡ Vd.Refused r → w ≡ Vd.Refused r
   unfolding settings
   past-settings w =
-      later _ (early-unless (between 1 (j .depth) 8 && leb 1 (j .p) && leb (j .p) (j .q) && leb (j .q) 16 && leb (j .quota) 1000000) 3 (omega arith)) h
+      later _ (early-unless (between 1 (j .depth) deepest && leb 1 (j .p) && leb (j .p) (j .q) && leb (j .q) finest && leb (j .quota) largestQuota) 3 (omega arith)) h
 
   by-accepts : accepts j bytes start table ≡ Vd.Refused r → soundness j bytes start table ≡ Vd.Refused r
   unfolding accepts places figures

@@ -20,14 +20,29 @@ use Rattle.learning.proofs.Bounds.{potential, step-falls, potential-opened, tri
 use Rattle.learning.proofs.Travel.{trial-cost}
 use Rattle.answers.specs.declared.Job.{Job}
 use Rattle.answers.specs.declared.Verdict.the-variants as Vd
-use Rattle.model.specs.Floor.{size}
-use Rattle.model.specs.Checks.{ceiling, floorOf, groundIn}
+use Rattle.model.specs.Floor.{size, leastPrice, dearestPrice}
+use Rattle.model.specs.Checks.{ceiling, floorOf, groundIn, farthest, finest, largestQuota}
 use Rattle.model.specs.Decision.{atGoal, judge, act}
 use Rattle.model.specs.Ride.{Ride, begun, next, rideFrom, learningJob, bound, ride, kept, Course, courseFrom}
 use Rattle.model.specs.Opening.{openTrial}
 use Rattle.model.proofs.Openings.{Held, Ready, accepted-trial}
 use Rattle.model.proofs.Judged.{judged}
 use Rattle.model.proofs.Steps.{asState, Does, act-does, new-fits, stored-fits, size-high, dear}
+use Rattle.model.specs.Lookahead.{dearestLeg}
+
+-- ---- what a trial's counts come to at most
+
+-- each of 4,096 figures rises from 0 to the ceiling
+abbrev pub mostLearned : ℕ
+mostLearned = 4096 * ceiling
+
+-- K × (R + 1)
+abbrev pub mostDecisions : ℕ
+mostDecisions = suc (ceiling / leastPrice) * (mostLearned + 1)
+
+-- (cheapest distance from the start + quota) × q / p
+abbrev pub dearestKept : ℕ
+dearestKept = finest * (farthest + largestQuota)
 
 -- ---- a ride, decision by decision
 
@@ -164,44 +179,44 @@ module _ (j : Job) (bytes : List ℕ) (start : ℕ) (table path : List ℕ) (R :
   truth-low : (x : ℕ) → truth J x ≤ ceiling
   truth-low x = by (reachOf (groundIn j bytes) x) refl
     where
-      far : 14 * (size (floorOf j bytes) - 1) ≤ 57330
+      far : dearestPrice * (size (floorOf j bytes) - 1) ≤ farthest
       far = omega (arith, size-high j bytes H)
 
       by : (b : Bool) → reachOf (groundIn j bytes) x ≡ b → truth J x ≤ ceiling
       by true e =
-          le-trans (truth-high (H .lawful) 14 (dear j bytes H) x (reach-true (groundIn j bytes) x (subst T (sym e) tt))) (mul-le-mul (H .settings .fine) far)
+          le-trans (truth-high (H .lawful) dearestPrice (dear j bytes H) x (reach-true (groundIn j bytes) x (subst T (sym e) tt))) (mul-le-mul (H .settings .fine) far)
       by false e = omega (arith, ap (λ (d : ℕ). j .q * d) (H .lawful .no-dist x (λ r. subst T e (reach-of (groundIn j bytes) x r))))
 
-  left-low : left J table ≤ 3757178880
+  left-low : left J table ≤ mostLearned
   left-low =
       le-trans (total-high (J .cells) ceiling (λ x. truth J x - getD table x 0) (λ x. omega (arith, truth-low x)))
       (mul-le-mul (size-high j bytes H) (le-refl ceiling))
 
-  factor-low : factor J ≤ 91729
+  factor-low : factor J ≤ suc (ceiling / leastPrice)
   factor-low =
       let m = most (J .cells) (truth J) in
-      let u : 10 ≤ unit J = omega (arith, H .settings .light) in
+      let u : leastPrice ≤ unit J = omega (arith, H .settings .light) in
       omega (arith, div-mul-le-self m (unit J), mul-le-mul-left (m / unit J) u, most-low (J .cells) ceiling (truth J) truth-low)
 
-  pub bound-low : bound j bytes table ≤ 344642261575249
+  pub bound-low : bound j bytes table ≤ mostDecisions
   unfolding bound
-  bound-low = let few : left J table + 1 ≤ 3757178881 = omega (arith, left-low) in mul-le-mul factor-low few
+  bound-low = let few : left J table + 1 ≤ mostLearned + 1 = omega (arith, left-low) in mul-le-mul factor-low few
 
   module _ {r : Ride} (g : Riding j bytes start table path r) where
     pub decisions-low : r .decisions < bound j bytes table
     unfolding bound
     decisions-low = decisions-bound (H .lawful) (R .opened .sound) (R .opened .reach) (g .made)
 
-    pub learned-low : r .learned ≤ 3757178880
+    pub learned-low : r .learned ≤ mostLearned
     learned-low = omega (arith, left-low, trial-learns (H .lawful) (g .made) (keeps-opened (H .lawful) start table (R .opened .sound) (R .opened .reach)))
 
-    pub travel-low : r .travel ≤ 112 * r .decisions
+    pub travel-low : r .travel ≤ dearestLeg * r .decisions
     travel-low =
-        let far : 14 * j .depth ≤ 112 = omega (arith, H .settings .shallow) in
-        let most = trial-cost (H .lawful) 14 (dear j bytes H) (g .made) (keeps-opened (H .lawful) start table (R .opened .sound) (R .opened .reach)) in
+        let far : dearestPrice * j .depth ≤ dearestLeg = omega (arith, H .settings .shallow) in
+        let most = trial-cost (H .lawful) dearestPrice (dear j bytes H) (g .made) (keeps-opened (H .lawful) start table (R .opened .sound) (R .opened .reach)) in
         omega (arith, most, mul-le-mul-left (r .decisions) far)
 
-    pub kept-low : kept j bytes r ≤ 16917280
+    pub kept-low : kept j bytes r ≤ dearestKept
     unfolding kept
     kept-low =
         omega (
@@ -213,7 +228,7 @@ module _ (j : Job) (bytes : List ℕ) (start : ℕ) (table path : List ℕ) (R :
         )
 
     -- so each fits in 64 bits
-    pub counts-fit : (r .decisions < 344642261575249) × (r .learned ≤ 3757178880) × (r .travel < 38599933296427888)
+    pub counts-fit : (r .decisions < mostDecisions) × (r .learned ≤ mostLearned) × (r .travel < dearestLeg * mostDecisions)
     counts-fit = (omega (arith, decisions-low, bound-low), learned-low, omega (arith, travel-low, decisions-low, bound-low))
 
   -- ---- what it leaves is accepted again

@@ -12,7 +12,7 @@ use lib.Seq.{take-at, drop-at, length-take-le, drop-drop}
 use Rattle.learning.proofs.Spread.{list-at, list-length}
 use Rattle.answers.specs.declared.Verdict.{Verdict}
 use Rattle.answers.specs.declared.Verdict.the-variants as Vd
-use Rattle.model.specs.Floor.{Floor, size, opening, openingTable}
+use Rattle.model.specs.Floor.{Floor, size, opening, openingTable, goalsOf}
 use Rattle.model.specs.Checks.{ceiling}
 use Rattle.model.specs.Opening.{openTable}
 use Rattle.model.specs.TableFile.{half, word, halfAt, wordAt, trailer, countIn, backIn, isLetters, findRecords, judgeRecords, applied, readVerdict, readOf, readTable, changed, recordsOf, trailerOf, fileOf, unlike, fileRoom, writeVerdict}
@@ -25,7 +25,7 @@ use Rattle.model.proofs.Records.{half-read, word-read, half-written, wo
 
 module _ (f : Floor) (q goal : ℕ) where
   abbrev gs : List ℕ
-  gs = goal ∷ []
+  gs = goalsOf goal
 
   -- the checks of the reader, and of the writer, all passed
   read-all : (file : List ℕ) (n : ℕ) → openTable f q gs n ≡ Vd.Done → Trailer file → Same f q gs (trailer file) → judgeRecords f q gs (countIn file) 0 0 (findRecords file) ≡ Vd.Done → readVerdict f q gs file n ≡ Vd.Done
@@ -239,19 +239,19 @@ module _ (f : Floor) (q goal : ℕ) where
 -- ---- the round trip
 
 -- "A written table reads back the same": for the same floor, goal and q it is accepted, whatever older bytes stand ahead of it, and gives the same table.
-pub written-table-reads-back : (f : Floor) (q goal : ℕ) (table : List ℕ) (room : ℕ) → writeVerdict f q (goal ∷ []) table room ≡ Vd.Done → (older other : List ℕ) → length other ≡ length table
-    → (readVerdict f q (goal ∷ []) (older ++ fileOf f q (goal ∷ []) table) (length other) ≡ Vd.Done) × (readTable f q (goal ∷ []) (older ++ fileOf f q (goal ∷ []) table) other ≡ table)
+pub written-table-reads-back : (f : Floor) (q goal : ℕ) (table : List ℕ) (room : ℕ) → writeVerdict f q (goalsOf goal) table room ≡ Vd.Done → (older other : List ℕ) → length other ≡ length table
+    → (readVerdict f q (goalsOf goal) (older ++ fileOf f q (goalsOf goal) table) (length other) ≡ Vd.Done) × (readTable f q (goalsOf goal) (older ++ fileOf f q (goalsOf goal) table) other ≡ table)
 written-table-reads-back f q goal table room e older other z =
     (written-accepted f q goal table room e older (length other) z, written-reads-back f q goal table room e older other z)
 
 -- "An accepted table's bytes, from its first record on, are what writing it again gives".
-pub accepted-table-writes-again : (f : Floor) (q goal : ℕ) (file table : List ℕ) → Bytes file → readVerdict f q (goal ∷ []) file (length table) ≡ Vd.Done
-    → fileOf f q (goal ∷ []) (readTable f q (goal ∷ []) file table) ≡ drop (length file - backIn file) file
+pub accepted-table-writes-again : (f : Floor) (q goal : ℕ) (file table : List ℕ) → Bytes file → readVerdict f q (goalsOf goal) file (length table) ≡ Vd.Done
+    → fileOf f q (goalsOf goal) (readTable f q (goalsOf goal) file table) ≡ drop (length file - backIn file) file
 accepted-table-writes-again f q goal file table b e =
-    ap (fileOf f q (goal ∷ [])) (reads-made f q goal file (length table) e b table refl) ∙ accepted-writes-again f q goal file (length table) e b
+    ap (fileOf f q (goalsOf goal)) (reads-made f q goal file (length table) e b table refl) ∙ accepted-writes-again f q goal file (length table) e b
 
 -- What the reader accepts, the writer accepts where it has room.
-pub accepted-table-is-writable : (f : Floor) (q goal : ℕ) (file table : List ℕ) → Bytes file → readVerdict f q (goal ∷ []) file (length table) ≡ Vd.Done
-    → (room : ℕ) → backIn file ≤ room → writeVerdict f q (goal ∷ []) (readTable f q (goal ∷ []) file table) room ≡ Vd.Done
+pub accepted-table-is-writable : (f : Floor) (q goal : ℕ) (file table : List ℕ) → Bytes file → readVerdict f q (goalsOf goal) file (length table) ≡ Vd.Done
+    → (room : ℕ) → backIn file ≤ room → writeVerdict f q (goalsOf goal) (readTable f q (goalsOf goal) file table) room ≡ Vd.Done
 accepted-table-is-writable f q goal file table b e room h =
-    ap (λ (t : List ℕ). writeVerdict f q (goal ∷ []) t room) (reads-made f q goal file (length table) e b table refl) ∙ accepted-writable f q goal file (length table) e b room h
+    ap (λ (t : List ℕ). writeVerdict f q (goalsOf goal) t room) (reads-made f q goal file (length table) e b table refl) ∙ accepted-writable f q goal file (length table) e b room h

@@ -30,10 +30,10 @@ use Rattle.answers.specs.declared.Job.{Job}
 use Rattle.answers.specs.declared.State.{State}
 use Rattle.answers.specs.declared.Answer.the-variants as A
 use Rattle.model.specs.Basics.{choose}
-use Rattle.model.specs.Floor.{Floor, size, Sized, heading, opposite}
+use Rattle.model.specs.Floor.{Floor, size, Sized, heading, opposite, dearestPrice}
 use Rattle.model.specs.Grounds.{price-high, groundOf}
-use Rattle.model.specs.Checks.{ceiling, floorOf, goals, groundIn}
-use Rattle.model.specs.Lookahead.{seen, ring, emptyRing, newFigure, target, route, movesAlong}
+use Rattle.model.specs.Checks.{ceiling, floorOf, goals, groundIn, farthest}
+use Rattle.model.specs.Lookahead.{seen, ring, emptyRing, newFigure, target, route, movesAlong, mostMoves}
 use Rattle.model.specs.Decision.{atGoal, onPath, Deed, rise, stored, forward, backOut, stay, act}
 use Rattle.model.specs.Ride.{learningJob}
 use Rattle.model.proofs.Moves.{opposite-lt, price-move, heading-is}
@@ -65,7 +65,7 @@ pub record Does (j : Job) (bytes : List ℕ) (s : State) (table path : List ℕ)
   pub stores : d .table ≡ stored table (s .current) (newHere j bytes s table)
   pub places : length (d .path) ≡ length path
   pub says : Says d
-  pub few : length (d .way) ≤ 11
+  pub few : length (d .way) ≤ mostMoves
   pub low : All (λ m. m < 8) (d .way)
 
 pub stored-raised : (table : List ℕ) (s new : ℕ) → stored table s new ≡ raised table s new
@@ -128,11 +128,11 @@ module _ (j : Job) (bytes : List ℕ) (H : Held j bytes) where
   pub size-high : size (floorOf j bytes) ≤ 4096
   size-high = mul-le-mul (H .sized .narrow) (H .sized .low)
 
-  pub dear : (a b c : ℕ) → J .net .Edge a b c → c ≤ 14
+  pub dear : (a b c : ℕ) → J .net .Edge a b c → c ≤ dearestPrice
   dear a b c e = omega (arith, e .1, price-high (floorOf j bytes) a b)
 
   route-few : (s x : ℕ) → CanReach J s → ¬ J .Goal s → ringOf (groundIn j bytes) (j .depth) s x ≤ lastOf (groundIn j bytes) (j .depth) s
-      → length (movesAlong (floorOf j bytes) s (route j bytes s (seen j bytes s) x)) ≤ 11
+      → length (movesAlong (floorOf j bytes) s (route j bytes s (seen j bytes s) x)) ≤ mostMoves
   route-few s x r g l =
       omega (
         arith,
@@ -174,8 +174,8 @@ module _ (j : Job) (bytes : List ℕ) (H : Held j bytes) where
 
       pub new-fits : newHere j bytes s table ≤ ceiling
       new-fits =
-          let far : 14 * (size (floorOf j bytes) - 1) ≤ 57330 = omega (arith, size-high) in
-          le-trans (new-high (H .lawful) k 14 dear off looked) (mul-le-mul (H .settings .fine) far)
+          let far : dearestPrice * (size (floorOf j bytes) - 1) ≤ farthest = omega (arith, size-high) in
+          le-trans (new-high (H .lawful) k dearestPrice dear off looked) (mul-le-mul (H .settings .fine) far)
 
       below : (ltb (getD table (s .current) 0) (newHere j bytes s table) && ltb ceiling (newHere j bytes s table)) ≡ false
       below = not-both (ltb (getD table (s .current) 0) (newHere j bytes s table)) _ (λ e. le-ltb ceiling (newHere j bytes s table) new-fits)

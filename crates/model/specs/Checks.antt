@@ -1,5 +1,5 @@
 -- The settings and the numbers that several calls answer: 1, 2, 3, 4 and 5.
-use Prim.Native.Nat.{ℕ}
+use Prim.Native.Nat.{ℕ, _*_}
 use mathlib.Core.Bool.{_&&_}
 use mathlib.Core.List.{List, [], _∷_}
 use lib.Dec.{leb, ltb, eqb}
@@ -8,19 +8,34 @@ use Rattle.learning.specs.Ground.{Ground}
 use Rattle.answers.specs.declared.Job.{Job}
 use Rattle.answers.specs.declared.Verdict.{Verdict}
 use Rattle.model.specs.Basics.{between, every, unless, naming}
-use Rattle.model.specs.Floor.{Floor, size, free}
+use Rattle.model.specs.Floor.{Floor, size, dearestPrice, free, goalsOf}
 use Rattle.model.specs.Grounds.{groundOf}
+
+-- the greatest depth, and the greatest q
+abbrev pub deepest : ℕ
+deepest = 8
+
+abbrev pub finest : ℕ
+finest = 16
+
+-- the greatest quota
+abbrev pub largestQuota : ℕ
+largestQuota = 1000000
+
+-- the greatest true distance: each of the 4,095 other cells is entered once, at the dearest price
+abbrev pub farthest : ℕ
+farthest = dearestPrice * 4095
 
 -- Ceiling for any figure 917,280 (14 × 4,095 × 16)
 abbrev pub ceiling : ℕ
-ceiling = 917280
+ceiling = farthest * finest
 
--- the floor of a job and of the bytes lent beside it; its goals, a list with one element; and their ground
+-- the floor of a job and of the bytes lent beside it; its goals; and their ground
 abbrev pub floorOf : Job → List ℕ → Floor
 floorOf j bytes = record { width = j .width; height = j .height; bytes = bytes }
 
 abbrev pub goals : Job → List ℕ
-goals j = j .goal ∷ []
+goals j = goalsOf (j .goal)
 
 abbrev pub groundIn : Job → List ℕ → Ground
 groundIn j bytes = groundOf (floorOf j bytes) (goals j)
@@ -35,11 +50,11 @@ pathRoom f places = unless (leb (size f) places) 2
 
 -- 3: depth d 1 to 8; weight p/q with 1 ≤ p ≤ q ≤ 16; quota T 0 to 1,000,000
 unfoldable pub settings : Job → Verdict
-settings j = unless (between 1 (j .depth) 8 && leb 1 (j .p) && leb (j .p) (j .q) && leb (j .q) 16 && leb (j .quota) 1000000) 3
+settings j = unless (between 1 (j .depth) deepest && leb 1 (j .p) && leb (j .p) (j .q) && leb (j .q) finest && leb (j .quota) largestQuota) 3
 
 -- 3 where q is all that is taken
 unfoldable pub scale : ℕ → Verdict
-scale q = unless (between 1 q 16) 3
+scale q = unless (between 1 q finest) 3
 
 -- 4: start, current cell or goal off the floor or blocked; the table calls take the goals alone
 unfoldable pub benches : Floor → List ℕ → Verdict

@@ -67,14 +67,16 @@ unchanged s table path a = record { answer = a; state = s; table = table; path =
 abbrev pub refused : State → (table path : List ℕ) → ℕ → Deed
 refused s table path number = unchanged s table path (A.Refused (record { number = number; place = P.Nowhere }))
 
--- the rise, and the table with the new figure stored where it is greater than the current cell's; no other entry is touched
+-- 2: "If the new figure is greater than the current cell's, store it; the learned amount a is the rise, else 0. No other table entry is touched."
 abbrev pub rise : List ℕ → ℕ → ℕ → ℕ
 rise table s new = new - getD table s 0
 
 abbrev pub stored : List ℕ → ℕ → ℕ → List ℕ
 stored table s new = choose (ltb (getD table s 0) new) (set table s new) table
 
--- 3: forward to t. The current cell is written after the path's last; the length grows by one, or is cut to what stands before t
+-- 3: "go forward. The current cell is written at the place after the path's last, the length grows by one, u grows by a, and the cart takes the route.
+-- If the target is already on the path, the length is cut so that the target and all after it are off the path; old entries remain in the list beyond
+-- the length."
 unfoldable pub forward : Job → List ℕ → State → View → (table path : List ℕ) → (new t : ℕ) → Deed
 forward j bytes s v table path new t =
     let a = rise table (s .current) new in
@@ -90,7 +92,8 @@ forward j bytes s v table path new t =
       cost = w j bytes v t;
     }
 
--- 4: back to l, the path's last cell, by the reverse of l's own route to where the cart stands, seen by v from l. With no path it stays
+-- 4: "u stays. With a path, the last cell is taken off (only the length changes, its entry stays in the list), and the cart goes there by the reverse
+-- of that cell's own route to where it stands. With none it stays." The last cell is l, and v what is seen from there
 unfoldable pub backOut : Job → List ℕ → State → View → (table path : List ℕ) → (new l : ℕ) → Deed
 backOut j bytes s v table path new l =
     let a = rise table (s .current) new in
@@ -120,7 +123,8 @@ goBack j bytes s table path new =
       | false ↦ elim (eqb (ring j bytes v (s .current)) (v .last)) [ true ↦ backOut j bytes s v table path new l | false ↦ refused s table path 8 ]
     ]
 
--- with the lookahead's new figure and target. 10: the new figure is greater than the one stored, and passes the ceiling
+-- with the lookahead's new figure and target. 10: the new figure is greater than the one stored, and passes the ceiling. Then the quota's test:
+-- "If u + a ≤ q × T: go forward." "Otherwise back out"
 unfoldable pub learn : Job → List ℕ → State → View → (table path : List ℕ) → (new t : ℕ) → Deed
 learn j bytes s v table path new t =
     elim (ltb (getD table (s .current) 0) new && ltb ceiling new) [

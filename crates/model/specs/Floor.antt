@@ -39,11 +39,25 @@ free f x = ltb x (size f) && eqb (getD (f .bytes) x 0) 0
 abbrev pub apart : ℕ → ℕ → ℕ
 apart a b = (a - b) + (b - a)
 
--- by the columns and rows moved, together: a straight move costs 10, a diagonal one 14
+-- a straight move costs 10, a diagonal one 14
+abbrev pub straight : ℕ
+straight = 10
+
+abbrev pub diagonal : ℕ
+diagonal = 14
+
+-- the least and the dearest price of a move: what is bounded by a price is bounded by these
+abbrev pub leastPrice : ℕ
+leastPrice = straight
+
+abbrev pub dearestPrice : ℕ
+dearestPrice = diagonal
+
+-- by the columns and rows moved, together
 abbrev pub tariff : ℕ → ℕ
 tariff zero = 0
-tariff (suc zero) = 10
-tariff (suc (suc zero)) = 14
+tariff (suc zero) = straight
+tariff (suc (suc zero)) = diagonal
 tariff (suc (suc (suc n))) = 0
 
 -- of two cells dx columns and dy rows apart: the cost of the move from one to the other where the way is clear, and 0 where there is none
@@ -88,9 +102,13 @@ unfoldable pub octile : Floor → ℕ → ℕ → ℕ → ℕ
 octile f q g x =
     let dx = apart (column f x) (column f g) in
     let dy = apart (row f x) (row f g) in
-    q * (14 * min dx dy + 10 * apart dx dy)
+    q * (diagonal * min dx dy + straight * apart dx dy)
 
--- the least over the goals; document 01 names one, and a list of several changes no definition
+-- the goals as a list: document 01 names one, and a list of several changes no other definition
+abbrev pub goalsOf : ℕ → List ℕ
+goalsOf goal = goal ∷ []
+
+-- the least over the goals
 unfoldable pub opening : Floor → ℕ → List ℕ → ℕ → ℕ
 opening f q [] x = 0
 opening f q (g ∷ []) x = octile f q g x

@@ -1,4 +1,4 @@
--- A floor with its goals is a ground: moves go both ways at one price, at least 10 and at most 14.
+-- A floor with its goals is a ground: moves go both ways at one price, between the least and the dearest.
 -- So rings, w, true distances, routes and trials are those that `learning` computes and proves, over `price`.
 use Prim.Native.Nat.{ℕ, zero, suc, _+_, _-_, _≤_, _<_}
 use mathlib.Core.Path.{_≡_, refl, ap, ap₂, _∙_}
@@ -9,32 +9,32 @@ use native.Mathlib.Omega.{arith}
 use lib.Dec.{T, leb, ltb, ltb→lt}
 use Rattle.learning.specs.Ground.{Ground, pick}
 use Rattle.model.specs.Basics.{member}
-use Rattle.model.specs.Floor.{Floor, size, column, row, free, apart, tariff, fare, clear, price}
+use Rattle.model.specs.Floor.{Floor, size, column, row, free, apart, leastPrice, dearestPrice, tariff, fare, clear, price}
 
-tariff-low : (n : ℕ) → 1 ≤ tariff n → 10 ≤ tariff n
+tariff-low : (n : ℕ) → 1 ≤ tariff n → leastPrice ≤ tariff n
 tariff-low zero h = absurd (omega arith)
 tariff-low (suc zero) h = omega arith
 tariff-low (suc (suc zero)) h = omega arith
 tariff-low (suc (suc (suc n))) h = absurd (omega arith)
 
-tariff-high : (n : ℕ) → tariff n ≤ 14
+tariff-high : (n : ℕ) → tariff n ≤ dearestPrice
 tariff-high zero = omega arith
 tariff-high (suc zero) = omega arith
 tariff-high (suc (suc zero)) = omega arith
 tariff-high (suc (suc (suc n))) = omega arith
 
-pick-low : (b : Bool) (n : ℕ) → 1 ≤ pick b (tariff n) 0 → 10 ≤ pick b (tariff n) 0
+pick-low : (b : Bool) (n : ℕ) → 1 ≤ pick b (tariff n) 0 → leastPrice ≤ pick b (tariff n) 0
 pick-low true n h = tariff-low n h
 pick-low false n h = absurd (omega arith)
 
-pick-high : (b : Bool) (n : ℕ) → pick b (tariff n) 0 ≤ 14
+pick-high : (b : Bool) (n : ℕ) → pick b (tariff n) 0 ≤ dearestPrice
 pick-high true n = tariff-high n
 pick-high false n = omega arith
 
-fare-low : (t : Bool) (dx dy : ℕ) → 1 ≤ fare t dx dy → 10 ≤ fare t dx dy
+fare-low : (t : Bool) (dx dy : ℕ) → 1 ≤ fare t dx dy → leastPrice ≤ fare t dx dy
 fare-low t dx dy = pick-low (t && leb dx 1 && leb dy 1) (dx + dy)
 
-fare-high : (t : Bool) (dx dy : ℕ) → fare t dx dy ≤ 14
+fare-high : (t : Bool) (dx dy : ℕ) → fare t dx dy ≤ dearestPrice
 fare-high t dx dy = pick-high (t && leb dx 1 && leb dy 1) (dx + dy)
 
 fare-clear : (t : Bool) (dx dy : ℕ) → 1 ≤ fare t dx dy → T t
@@ -74,11 +74,11 @@ clear-true f a b = ap₂ _&&_
 
 -- ---- the price
 
-pub price-low : (f : Floor) (a b : ℕ) → 1 ≤ price f a b → 10 ≤ price f a b
+pub price-low : (f : Floor) (a b : ℕ) → 1 ≤ price f a b → leastPrice ≤ price f a b
 unfolding price
 price-low f a b = fare-low (clear f a b) (apart (column f a) (column f b)) (apart (row f a) (row f b))
 
-pub price-high : (f : Floor) (a b : ℕ) → price f a b ≤ 14
+pub price-high : (f : Floor) (a b : ℕ) → price f a b ≤ dearestPrice
 unfolding price
 price-high f a b = fare-high (clear f a b) (apart (column f a) (column f b)) (apart (row f a) (row f b))
 
@@ -104,8 +104,8 @@ groundOf f goals = record {
   cells = size f;
   price = price f;
   goal = isGoal f goals;
-  least = 10;
-  dearest = 14;
+  least = leastPrice;
+  dearest = dearestPrice;
   positive = omega arith;
   low = price-low f;
   high = price-high f;

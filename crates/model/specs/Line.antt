@@ -14,7 +14,7 @@ use Rattle.answers.specs.declared.Verdict.{Verdict}
 use Rattle.answers.specs.declared.Verdict.the-variants as Vd
 use Rattle.model.specs.Basics.{choose, then}
 use Rattle.model.specs.Floor.{openingTable}
-use Rattle.model.specs.Checks.{floorOf, goals, settings}
+use Rattle.model.specs.Checks.{floorOf, goals, settings, largestQuota}
 use Rattle.model.specs.Opening.{trialsHold, openJob}
 use Rattle.model.specs.Ride.{Ride, Course, kept, courseFrom}
 use Rattle.model.specs.FloorText.{LF, isDigit, widthIn, heightIn, rowsIn, floorVerdict, cellsOf}
@@ -49,10 +49,10 @@ defaultDepth = 1
 abbrev pub settingsOf : List ℕ → Option Settings
 settingsOf [] = none
 settingsOf (s ∷ []) = none
-settingsOf (s ∷ g ∷ []) = asked s g defaultDepth 1 1 1000000 10
-settingsOf (s ∷ g ∷ d ∷ []) = asked s g d 1 1 1000000 10
+settingsOf (s ∷ g ∷ []) = asked s g defaultDepth 1 1 largestQuota 10
+settingsOf (s ∷ g ∷ d ∷ []) = asked s g d 1 1 largestQuota 10
 settingsOf (s ∷ g ∷ d ∷ p ∷ []) = none
-settingsOf (s ∷ g ∷ d ∷ p ∷ q ∷ []) = asked s g d p q 1000000 10
+settingsOf (s ∷ g ∷ d ∷ p ∷ q ∷ []) = asked s g d p q largestQuota 10
 settingsOf (s ∷ g ∷ d ∷ p ∷ q ∷ t ∷ []) = asked s g d p q t 10
 settingsOf (s ∷ g ∷ d ∷ p ∷ q ∷ t ∷ k ∷ []) = asked s g d p q t k
 settingsOf (s ∷ g ∷ d ∷ p ∷ q ∷ t ∷ k ∷ x ∷ xs) = none

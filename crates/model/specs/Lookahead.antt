@@ -1,5 +1,5 @@
 -- The lookahead from the cell s: what `learning` computes on the floor's ground, point by point.
-use Prim.Native.Nat.{ℕ, zero, suc}
+use Prim.Native.Nat.{ℕ, zero, suc, _+_, _*_, _/_}
 use mathlib.Core.Bool.{Bool, false, _||_}
 use mathlib.Core.List.{List, [], _∷_}
 use lib.Dec.{leb, eqb}
@@ -7,10 +7,11 @@ use Rattle.learning.specs.Ground.{View, viewOf, ringIn, costIn}
 use Rattle.learning.specs.Look.{lowest, newIn, targetIn}
 use Rattle.learning.specs.Route.{routeIn}
 use Rattle.answers.specs.declared.Job.{Job}
-use Rattle.model.specs.Floor.{Floor, size, heading}
-use Rattle.model.specs.Checks.{floorOf, groundIn}
+use Rattle.model.specs.Floor.{Floor, size, leastPrice, dearestPrice, heading}
+use Rattle.model.specs.Checks.{deepest, finest, ceiling, floorOf, groundIn}
 
--- 1 and 2: rings, the last ring, the window and w
+-- 1: "A cell's ring is the fewest moves to it from s. The last ring m is d, or the goal's ring if that is smaller. The window is all cells of ring
+-- 0 to m." 2: "w(x) is the least cost of a walk from s to x that stays in the window. It may use more moves than x's ring."
 abbrev pub seen : Job → List ℕ → ℕ → View
 seen j bytes s = viewOf (groundIn j bytes) (j .depth) s
 
@@ -28,18 +29,30 @@ emptyRing j bytes v (suc k) =
     let n = size (floorOf j bytes) in
     emptyRing j bytes v k || leb n (lowest n (λ x. eqb (ring j bytes v x) (suc k)))
 
--- 3: the new figure
+-- 3: "For each ring k from 1 to m, the ring's best is the least p × w(x) + figure(x) over its cells. The new figure is the greatest of the m bests."
 abbrev pub newFigure : Job → List ℕ → View → List ℕ → ℕ
 newFigure j bytes v table = newIn (groundIn j bytes) (j .depth) (j .p) v table
 
--- 4: the target
+-- 4: "The target is the cell of ring m with the least p × w + figure; ties go to the lower cell number."
 abbrev pub target : Job → List ℕ → View → List ℕ → ℕ
 target j bytes v table = targetIn (groundIn j bytes) (j .depth) (j .p) v table
 
--- 5: the route from s to x, the cells after s in order; and as moves
+-- 5: "The route is found backward from the target: each time the lowest-numbered window cell from which one allowed move, added to its w, gives
+-- exactly the w of the cell reached." Here the cells after s in order, to any cell x of the window; and as moves
 abbrev pub route : Job → List ℕ → ℕ → View → ℕ → List ℕ
 route j bytes s v x = routeIn (groundIn j bytes) (j .depth) s v x
 
 unfoldable pub movesAlong : Floor → ℕ → List ℕ → List ℕ
 movesAlong f a [] = []
 movesAlong f a (b ∷ bs) = heading f a b ∷ movesAlong f b bs
+
+-- what a leg costs at most, w of any cell of a window; and how many moves its route has at most
+abbrev pub dearestLeg : ℕ
+dearestLeg = dearestPrice * deepest
+
+abbrev pub mostMoves : ℕ
+mostMoves = dearestLeg / leastPrice
+
+-- what a new figure comes to at most: the greatest figure, and the greatest p times the dearest leg
+abbrev pub highestNew : ℕ
+highestNew = ceiling + finest * dearestLeg

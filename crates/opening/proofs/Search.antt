@@ -16,7 +16,7 @@ use Rattle.learning.specs.Ground.{Goal, netOf, listOf}
 use Rattle.learning.proofs.Spread.{list-at, list-length, list-off}
 use Rattle.learning.proofs.Certificate.{Certified, certificate}
 use Rattle.model.specs.Basics.{choose}
-use Rattle.model.specs.Floor.{Floor, size, Sized, free, price, ahead, allowed}
+use Rattle.model.specs.Floor.{Floor, size, Sized, free, price, ahead, allowed, goalsOf}
 use Rattle.model.specs.Grounds.{groundOf, isGoal, price-high, price-same, price-free, free-inside}
 use Rattle.model.proofs.Accepted.{never}
 use Rattle.model.proofs.Cells.{cells-le}
@@ -227,20 +227,20 @@ module _ (f : Floor) (goal : ℕ) (inside : goal < size f) where
       by y (yes h) = omega (arith, list-off (size f) (λ x. far) y 0 h)
       by y (no h) = omega (arith, list-at (size f) (λ x. far) y 0 (omega arith))
 
-  start-going : Going f (goal ∷ []) start
+  start-going : Going f (goalsOf goal) start
   start-going = record {
     zeros = λ z t. omega (arith, ap (λ y. getD start y 0) (goal-means f goal z t), getD-set-same blank goal 0 0 on);
     met =
-        after-set (λ y v. y < size f → v < far → Arrives (netOf (groundOf f (goal ∷ []))) (Goal (groundOf f (goal ∷ []))) y v) blank goal 0 on
+        after-set (λ y v. y < size f → v < far → Arrives (netOf (groundOf f (goalsOf goal))) (Goal (groundOf f (goalsOf goal))) y v) blank goal 0 on
         (λ i near. (goal, goal-is f goal inside, (0, stop tt))) (λ y i near. absurd (omega (arith, list-at (size f) (λ x. far) y 0 i)));
   }
 
   -- from there, a search that has settled has found the true distances
-  pub settled-distances : Sized f → (d e : List ℕ) → d ≡ start → Settled f d e → Distances f (goal ∷ []) e
+  pub settled-distances : Sized f → (d e : List ℕ) → d ≡ start → Settled f d e → Distances f (goalsOf goal) e
   settled-distances z d e q t =
       let s : Settled f start e = subst (λ y. Settled f y e) q t in
       let large : 14 * size f < far = omega (arith, mul-le-mul-left 14 (cells-le (f .width) (f .height) (z .narrow) (z .low))) in
       record {
         long = lowered-spread (s .lowered) start-spread .long;
-        each = certificate (groundOf f (goal ∷ [])) far (λ x. getD e x 0) large (certified f (goal ∷ []) start-spread start-going s);
+        each = certificate (groundOf f (goalsOf goal)) far (λ x. getD e x 0) large (certified f (goalsOf goal) start-spread start-going s);
       }

@@ -1,12 +1,12 @@
 // Opening a job: true distances, the checks 1 to 7, and the table of opening figures.
 ghost use mathlib.Core.Path.{_≡_};
 ghost use mathlib.Core.Bool.{true, _||_};
-ghost use mathlib.Core.List.{List, [], _∷_};
+ghost use mathlib.Core.List.{List};
 ghost use Prim.Native.Nat.{ℕ, _*_, _≤_, _<_};
 ghost use lib.ListN.{length, getD};
 ghost use Rattle.learning.specs.Ground.{listOf};
 ghost use Rattle.model.specs.Basics.{naming};
-ghost use Rattle.model.specs.Floor.{Sized, free, openingTable};
+ghost use Rattle.model.specs.Floor.{Sized, free, openingTable, goalsOf};
 ghost use Rattle.model.specs.Checks.{floorOf};
 ghost use Rattle.model.specs.Opening.{soundness, accepts, openJob, openTrial, reportsRoom, trialsHold, openRun, openTable};
 ghost use Rattle.floor.specs.Moves.{flat};
@@ -139,7 +139,7 @@ fn fill_far(dist: &mut [u32])
 // The true distance of every cell, and FAR where no walk to the goal exists.
 pub fn find_distances(width: usize, height: usize, floor: &[u8], goal: usize, dist: &mut [u32])
     requires { ⌜ Sized (flat width height (now floor)) × (length (now dist) ≡ width * height) × (goal < width * height) ⌝ }
-    ensures { λ r. ⌜ Distances (flat width height (now (floor .entry))) (goal ∷ []) (now (dist .exit)) ⌝ }
+    ensures { λ r. ⌜ Distances (flat width height (now (floor .entry))) (goalsOf goal) (now (dist .exit)) ⌝ }
 {
     fill_far(dist);
     dist[goal] = 0;
@@ -152,7 +152,7 @@ fn is_above(q: usize, d: u32, figure: u32) -> bool
     ensures { λ r. ⌜ r ≡ above q d figure ⌝ }
 {
     if d < FAR {
-        q * floor::wide32(d) < floor::wide32(figure)
+        q * notation::wide32(d) < notation::wide32(figure)
     } else {
         false
     }
@@ -327,7 +327,7 @@ pub fn open_table(
     floor: &[u8],
     figures: usize,
 ) -> Verdict
-    ensures { λ r. ⌜ r ≡ openTable (flat width height (now (floor .entry))) q (goal ∷ []) figures ⌝ }
+    ensures { λ r. ⌜ r ≡ openTable (flat width height (now (floor .entry))) q (goalsOf goal) figures ⌝ }
 {
     let v = checks::sizes(width, height, floor, figures);
     let Verdict::Done = v else {
@@ -343,7 +343,7 @@ pub fn open_table(
 // Fills a table with opening figures.
 pub fn fill_figures(width: usize, height: usize, goal: usize, q: usize, table: &mut [u32])
     requires { ⌜ (1 ≤ width) × (width ≤ 64) × (height ≤ 64) × (q ≤ 16) × (goal < width * height) × (length (now table) ≡ width * height) ⌝ }
-    ensures { λ r. ⌜ ((bytes : List ℕ) → now (table .exit) ≡ openingTable (flat width height bytes) q (goal ∷ [])) ⌝ }
+    ensures { λ r. ⌜ ((bytes : List ℕ) → now (table .exit) ≡ openingTable (flat width height bytes) q (goalsOf goal)) ⌝ }
 {
     let mut x = 0;
     while x < table.len() {
@@ -361,7 +361,7 @@ pub fn fill_opening(
     floor: &[u8],
     table: &mut [u32],
 ) -> Verdict
-    ensures { λ r. ⌜ Fills (flat width height (now (floor .entry))) q (goal ∷ []) (now (table .entry)) r (now (table .exit)) ⌝ }
+    ensures { λ r. ⌜ Fills (flat width height (now (floor .entry))) q (goalsOf goal) (now (table .entry)) r (now (table .exit)) ⌝ }
 {
     let v = open_table(width, height, goal, q, floor, table.len());
     let Verdict::Done = v else {

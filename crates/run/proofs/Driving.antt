@@ -1,6 +1,6 @@
 -- What holds while a trial's decisions are made: the code stands where a ride of the model stands, and what is left of that ride is what the whole ride comes to.
 -- The ride keeps its moves, which the code does not. Each decision lowers the ride's potential, so the loop ends; and the counts fit in 64 bits.
-use Prim.Native.Nat.{ℕ, _+_, _≤_, _<_}
+use Prim.Native.Nat.{ℕ, _+_, _≤_, _<_, _*_}
 use mathlib.Core.Path.{_≡_, refl, sym, ap, subst, _∙_}
 use mathlib.Core.Bool.{true, false}
 use mathlib.Core.List.{List, [], _∷_, _++_}
@@ -31,13 +31,14 @@ use Rattle.model.proofs.Demand.{trial-is-made}
 use Rattle.model.proofs.Openings as openings
 use Rattle.model.proofs.Meaning.{goal-means, goal-is}
 use Rattle.model.proofs.Steps.{asState, short, size-high}
-use Rattle.model.proofs.Rides.{Riding, yet, rest, riding-begun, riding-next, does, falls, keeps, judges, room, rest-begun, rest-next, ride-there, kept-low, counts-fit}
+use Rattle.model.proofs.Rides.{Riding, yet, rest, riding-begun, riding-next, does, falls, keeps, judges, room, rest-begun, rest-next, ride-there, kept-low, counts-fit, mostLearned, mostDecisions, dearestKept}
 use Rattle.decision.specs.declared.Acted.{Acted}
 use Rattle.decision.specs.Ready.{Ready, Acts}
 use Rattle.decision.proofs.Judging.{ready}
 use Rattle.decision.proofs.Acting.{fresh-zeros}
 use Rattle.run.specs.Trials.{Fits, noted, Scratch, Rode, IsTrial}
 use Rattle.run.proofs.Legs.{Sums, sums-none, sum-last, note-more, noted-size, noted-sums}
+use Rattle.model.specs.Lookahead.{dearestLeg}
 
 -- The loop's invariant, of the state, the counts and the lists.
 pub record Driving (j : Job) (bytes : List ℕ) (start : ℕ) (lent-table lent-path : List ℕ) (s : State) (decisions learned travel : ℕ) (table path : List ℕ) : Type 0 where
@@ -89,7 +90,7 @@ module _ (j : Job) (bytes : List ℕ) (start : ℕ) (table₀ path₀ : List ℕ
 
   module _ {s : State} {decisions learned travel : ℕ} {table path : List ℕ} (g : Driving j bytes start table₀ path₀ s decisions learned travel table path) where
     -- the counts fit
-    pub fits : (decisions < 344642261575249) × (learned ≤ 3757178880) × (travel < 38599933296427888)
+    pub fits : (decisions < mostDecisions) × (learned ≤ mostLearned) × (travel < dearestLeg * mostDecisions)
     fits = omega (arith, counts-fit j bytes start table₀ path₀ R (g .riding), g .decisions-is, g .learned-is, g .travel-is)
 
     pub long : length path ≡ length path₀
@@ -120,7 +121,7 @@ module _ (j : Job) (bytes : List ℕ) (start : ℕ) (table₀ path₀ : List ℕ
         ∙ sum-last (learningJob j bytes .leg) (onPath s path) (s .current) (S .sums)
         ∙ sym (λ i. legs (learningJob j bytes .leg) (onPath (g .state-is i) (g .path-is i)) (g .state-is i .current))
 
-    pub kept-fits : {along : List ℕ} → Along j bytes s path along → getD along (s .length) 0 ≤ 16917280
+    pub kept-fits : {along : List ℕ} → Along j bytes s path along → getD along (s .length) 0 ≤ dearestKept
     kept-fits S = omega (arith, kept-is S, kept-low j bytes start table₀ path₀ R (g .riding))
 
     -- at the goal the ride is over

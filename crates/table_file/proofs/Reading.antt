@@ -1,7 +1,7 @@
 -- Where the reader's loops stand: what is left to judge, or to put, answers like the whole.
 use mathlib.Core.Path.{_≡_, refl, sym, _∙_, ap}
 use mathlib.Core.Bool.{true, false}
-use mathlib.Core.List.{List, [], _∷_}
+use mathlib.Core.List.{List}
 use Prim.Native.Nat.{ℕ, suc, _+_, _-_, _*_, _≤_, _<_}
 use native.Mathlib.Numerals.{add-one}
 use native.Mathlib.Omega.{arith}
@@ -13,7 +13,7 @@ use Rattle.answers.specs.declared.Refusal.{Refusal}
 use Rattle.answers.specs.declared.Verdict.{Verdict}
 use Rattle.answers.specs.declared.Verdict.the-variants as Vd
 use Rattle.model.specs.Basics.{refuseAt}
-use Rattle.model.specs.Floor.{Floor, size, free, opening, openingTable}
+use Rattle.model.specs.Floor.{Floor, size, free, opening, openingTable, goalsOf}
 use Rattle.model.specs.TableFile.{cellIn, figureIn, countIn, backIn, trailerHolds, findRecords, recordFault, judgeRecords, applied, readVerdict, readOf, readTable}
 use Rattle.model.specs.Opening.{openTable}
 use Rattle.model.specs.Checks.{ceiling, scale}
@@ -22,7 +22,7 @@ use Rattle.model.proofs.Files.{openable, Lawful, judge-more, judge-stop, traile
 use Rattle.table_file.specs.Promises.{Opened, startOf, Reads}
 
 -- what an opened table gives
-pub opened : (f : Floor) (q goal n : ℕ) → openTable f q (goal ∷ []) n ≡ Vd.Done → Opened f q goal × (n ≡ size f)
+pub opened : (f : Floor) (q goal n : ℕ) → openTable f q (goalsOf goal) n ≡ Vd.Done → Opened f q goal × (n ≡ size f)
 opened f q goal n e = let o = openable f q goal n e in (record { sized = o .sized; scale = o .scale; bench = o .bench }, o .cells)
 
 -- where the records begin, and that the part found begins there

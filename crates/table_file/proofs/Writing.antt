@@ -17,7 +17,7 @@ use Rattle.answers.specs.declared.Verdict.{Verdict}
 use Rattle.answers.specs.declared.Verdict.the-variants as Vd
 use Rattle.answers.specs.declared.Written.the-variants as Wr
 use Rattle.model.specs.Basics.{refuseAt}
-use Rattle.model.specs.Floor.{Floor, size, free, opening}
+use Rattle.model.specs.Floor.{Floor, size, free, opening, goalsOf}
 use Rattle.model.specs.TableFile.{half, word, changed, recordsOf, trailerOf, fileOf, unlike, fileRoom, writeVerdict, writeTable}
 use Rattle.model.proofs.Files.{changed-same, changed-more, changed-few, length-records, length-file, write-gives}
 use Rattle.model.proofs.Cells.{cells-le}
@@ -137,14 +137,14 @@ ample f q gs table n room e h = roomy f q gs table (length (changed f q gs table
 
 -- the trailer's two parts after the records are the whole file
 pub whole : (f : Floor) (q goal n : ℕ) (table b₀ b₁ b₂ b₃ : List ℕ)
-    → n ≡ length (changed f q (goal ∷ []) table (size f) 0) → b₁ ≡ recordsOf table (changed f q (goal ∷ []) table (size f) 0) ++ drop (6 * n) b₀
+    → n ≡ length (changed f q (goalsOf goal) table (size f) 0) → b₁ ≡ recordsOf table (changed f q (goalsOf goal) table (size f) 0) ++ drop (6 * n) b₀
     → b₂ ≡ put (6 * n) (f .width % 256 ∷ f .height % 256 ∷ (half goal ++ (q % 256 ∷ 1 ∷ []))) b₁
     → b₃ ≡ put (6 * n + 6) (half n ++ (word (16 + 6 * n) ++ (80 ∷ 68 ∷ 76 ∷ 84 ∷ []))) b₂
     → (f .width ≤ 64) × (f .height ≤ 64) × (q ≤ 16) × (16 + 6 * n ≤ length b₁)
-    → b₃ ≡ fileOf f q (goal ∷ []) table ++ drop (length (fileOf f q (goal ∷ []) table)) b₀
+    → b₃ ≡ fileOf f q (goalsOf goal) table ++ drop (length (fileOf f q (goalsOf goal) table)) b₀
 unfolding fileOf trailerOf
 whole f q goal n table b₀ b₁ b₂ b₃ c e₁ e₂ e₃ h =
-    let cells = changed f q (goal ∷ []) table (size f) 0 in
+    let cells = changed f q (goalsOf goal) table (size f) 0 in
     let w : f .width % 256 ≡ f .width = mod-eq-of-lt (omega arith) in
     let y : f .height % 256 ≡ f .height = mod-eq-of-lt (omega arith) in
     let s : q % 256 ≡ q = mod-eq-of-lt (omega arith) in
@@ -155,19 +155,19 @@ whole f q goal n table b₀ b₁ b₂ b₃ c e₁ e₂ e₃ h =
     let a : take (6 * n) b₁ ≡ recordsOf table cells = ap (take (6 * n)) e₁ ∙ take-at (recordsOf table cells) (drop (6 * n) b₀) (6 * n) r in
     let d : drop (6 * n + 16) b₁ ≡ drop (6 * n + 16) b₀ =
     sym (drop-drop 16 (6 * n) b₁) ∙ (ap (drop 16) (ap (drop (6 * n)) e₁ ∙ drop-at (recordsOf table cells) (drop (6 * n) b₀) (6 * n) r) ∙ drop-drop 16 (6 * n) b₀) in
-    let l : length (fileOf f q (goal ∷ []) table) ≡ 6 * n + 16 = omega (arith, length-file f q (goal ∷ []) table) in
-    let k : trailerOf f q (goal ∷ []) n ≡ trailerOf f q (goal ∷ []) (length cells) = ap (trailerOf f q (goal ∷ [])) c in
-    let j : job ++ back ≡ trailerOf f q (goal ∷ []) n = rw (w, y, s) in
-    t ∙ ((λ i. a i ++ ((j ∙ k) i ++ d i)) ∙ (sym (append-assoc (recordsOf table cells) (trailerOf f q (goal ∷ []) (length cells)) (drop (6 * n + 16) b₀))
-    ∙ ap (λ (m : ℕ). fileOf f q (goal ∷ []) table ++ drop m b₀) (sym l)))
+    let l : length (fileOf f q (goalsOf goal) table) ≡ 6 * n + 16 = omega (arith, length-file f q (goalsOf goal) table) in
+    let k : trailerOf f q (goalsOf goal) n ≡ trailerOf f q (goalsOf goal) (length cells) = ap (trailerOf f q (goalsOf goal)) c in
+    let j : job ++ back ≡ trailerOf f q (goalsOf goal) n = rw (w, y, s) in
+    t ∙ ((λ i. a i ++ ((j ∙ k) i ++ d i)) ∙ (sym (append-assoc (recordsOf table cells) (trailerOf f q (goalsOf goal) (length cells)) (drop (6 * n + 16) b₀))
+    ∙ ap (λ (m : ℕ). fileOf f q (goalsOf goal) table ++ drop m b₀) (sym l)))
 
 -- what an accepted writing gives
-pub write-open : (f : Floor) (q goal : ℕ) (table : List ℕ) (room : ℕ) → writeVerdict f q (goal ∷ []) table room ≡ Vd.Done
-    → Opened f q goal × (length table ≡ size f) × (16 + 6 * length (changed f q (goal ∷ []) table (size f) 0) ≤ room)
+pub write-open : (f : Floor) (q goal : ℕ) (table : List ℕ) (room : ℕ) → writeVerdict f q (goalsOf goal) table room ≡ Vd.Done
+    → Opened f q goal × (length table ≡ size f) × (16 + 6 * length (changed f q (goalsOf goal) table (size f) 0) ≤ room)
 write-open f q goal table room e =
-    let g = write-gives f q (goal ∷ []) table room e in
+    let g = write-gives f q (goalsOf goal) table room e in
     let o = opened f q goal (length table) (g .0) in
-    (o .0, o .1, omega (arith, length-file f q (goal ∷ []) table, g .3))
+    (o .0, o .1, omega (arith, length-file f q (goalsOf goal) table, g .3))
 
 pub at-most : (f : Floor) (q : ℕ) (gs table : List ℕ) (goal : ℕ) → Opened f q goal → length (changed f q gs table (size f) 0) ≤ 4096
 at-most f q gs table goal o = omega (arith, changed-few f q gs table (size f) 0, cells-le (f .width) (f .height) (o .sized .narrow) (o .sized .low))

@@ -8,7 +8,7 @@ ghost use Prim.Native.Nat.{ℕ, _+_, _*_, _%_, _≤_, _<_};
 ghost use lib.ListN.{length, drop, set};
 ghost use Rattle.answers.specs.Says.{saysVerdict};
 ghost use Rattle.model.specs.Basics.{naming};
-ghost use Rattle.model.specs.Floor.{opening};
+ghost use Rattle.model.specs.Floor.{opening, goalsOf};
 ghost use Rattle.model.specs.TableFile.{halfAt, wordAt, half, word, trailer, countIn, backIn, isLetters, trailerHolds, checkTrailer, findRecords, sameJob, recordFault, judgeRecords, applied, readVerdict, readTable, changed, recordsOf, unlike, writeVerdict, writeTable};
 ghost use Rattle.floor.specs.Moves.{flat};
 ghost use Rattle.table_file.specs.Promises.{Opened, put, startOf, Reads, Writes};
@@ -18,8 +18,8 @@ fn half_at(bytes: &[u8], at: usize) -> usize
     requires { ⌜ at + 2 ≤ length (now bytes) ⌝ }
     ensures { λ r. ⌜ (r ≡ halfAt (now (bytes .entry)) at) × (r < 65536) ⌝ }
 {
-    let a = floor::wide8(bytes[at]);
-    let b = floor::wide8(bytes[at + 1]);
+    let a = notation::wide8(bytes[at]);
+    let b = notation::wide8(bytes[at + 1]);
     a * 256 + b
 }
 
@@ -122,19 +122,19 @@ pub fn find_records(file: &[u8]) -> &[u8]
 // 14: width, height, goal or q not this job's.
 fn same_job(width: usize, height: usize, goal: usize, q: usize, file: &[u8]) -> Verdict
     requires { ⌜ 16 ≤ length (now file) ⌝ }
-    ensures { λ r. ⌜ ((bytes : List ℕ) → r ≡ sameJob (flat width height bytes) q (goal ∷ []) (now (file .entry))) ⌝ }
+    ensures { λ r. ⌜ ((bytes : List ℕ) → r ≡ sameJob (flat width height bytes) q (goalsOf goal) (now (file .entry))) ⌝ }
 {
     let t = trailer_of(file);
-    if floor::wide8(t[0]) != width {
+    if notation::wide8(t[0]) != width {
         return checks::refuse(14);
     }
-    if floor::wide8(t[1]) != height {
+    if notation::wide8(t[1]) != height {
         return checks::refuse(14);
     }
     if half_at(t, 2) != goal {
         return checks::refuse(14);
     }
-    if floor::wide8(t[4]) != q {
+    if notation::wide8(t[4]) != q {
         return checks::refuse(14);
     }
     Verdict::Done
@@ -151,7 +151,7 @@ fn record_fault(
     part: &[u8],
 ) -> usize
     requires { ⌜ Opened (flat width height (now floor)) q goal ⌝ ∗ ⌜ 6 ≤ length (now part) ⌝ }
-    ensures { λ r. ⌜ r ≡ recordFault (flat width height (now (floor .entry))) q (goal ∷ []) low (now (part .entry)) ⌝ }
+    ensures { λ r. ⌜ r ≡ recordFault (flat width height (now (floor .entry))) q (goalsOf goal) low (now (part .entry)) ⌝ }
 {
     let cell = half_at(part, 0);
     if width * height <= cell {
@@ -184,7 +184,7 @@ fn judge_records(
     n: usize,
 ) -> Verdict
     requires { ⌜ Opened (flat width height (now floor)) q goal ⌝ ∗ ⌜ n * 6 ≤ length (now part) ⌝ }
-    ensures { λ r. ⌜ r ≡ judgeRecords (flat width height (now (floor .entry))) q (goal ∷ []) n 0 0 (now (part .entry)) ⌝ }
+    ensures { λ r. ⌜ r ≡ judgeRecords (flat width height (now (floor .entry))) q (goalsOf goal) n 0 0 (now (part .entry)) ⌝ }
 {
     let mut t = part;
     let mut i = 0;
@@ -235,7 +235,7 @@ fn opening_of(
     cell: usize,
 ) -> usize
     requires { ⌜ Opened (flat width height (now floor)) q goal ⌝ ∗ ⌜ cell < width * height ⌝ }
-    ensures { λ r. ⌜ (r ≡ opening (flat width height (now (floor .entry))) q (goal ∷ []) cell) × (r < 4294967296) ⌝ }
+    ensures { λ r. ⌜ (r ≡ opening (flat width height (now (floor .entry))) q (goalsOf goal) cell) × (r < 4294967296) ⌝ }
 {
     floor::opening(width, height, goal, q, cell)
 }
@@ -250,7 +250,7 @@ fn judge_read(
     file: &[u8],
     figures: usize,
 ) -> Verdict
-    ensures { λ r. ⌜ r ≡ readVerdict (flat width height (now (floor .entry))) q (goal ∷ []) (now (file .entry)) figures ⌝ }
+    ensures { λ r. ⌜ r ≡ readVerdict (flat width height (now (floor .entry))) q (goalsOf goal) (now (file .entry)) figures ⌝ }
 {
     let v = opening::open_table(width, height, goal, q, floor, figures);
     let Verdict::Done = v else {
@@ -277,8 +277,8 @@ pub fn read_table(
     file: &[u8],
     table: &mut [u32],
 ) -> Verdict
-    ensures { λ r. ⌜ Reads (readVerdict (flat width height (now (floor .entry))) q (goal ∷ []) (now (file .entry)) (length (now (table .entry))))
-        (readTable (flat width height (now (floor .entry))) q (goal ∷ []) (now (file .entry)) (now (table .entry))) r (now (table .exit)) ⌝ }
+    ensures { λ r. ⌜ Reads (readVerdict (flat width height (now (floor .entry))) q (goalsOf goal) (now (file .entry)) (length (now (table .entry))))
+        (readTable (flat width height (now (floor .entry))) q (goalsOf goal) (now (file .entry)) (now (table .entry))) r (now (table .exit)) ⌝ }
 {
     let v = judge_read(width, height, goal, q, floor, file, table.len());
     let Verdict::Done = v else {
@@ -301,9 +301,9 @@ fn is_unlike(
     x: usize,
 ) -> bool
     requires { ⌜ Opened (flat width height (now floor)) q goal ⌝ ∗ ⌜ (length (now table) ≡ width * height) × (x < width * height) ⌝ }
-    ensures { λ r. ⌜ r ≡ unlike (flat width height (now (floor .entry))) q (goal ∷ []) (now (table .entry)) x ⌝ }
+    ensures { λ r. ⌜ r ≡ unlike (flat width height (now (floor .entry))) q (goalsOf goal) (now (table .entry)) x ⌝ }
 {
-    let figure = floor::wide32(table[x]);
+    let figure = notation::wide32(table[x]);
     let least = opening_of(width, height, goal, q, floor, x);
     if floor::is_free(width, height, floor, x) {
         return figure < least;
@@ -321,7 +321,7 @@ fn judge_unlike(
     table: &[u32],
 ) -> Verdict
     requires { ⌜ Opened (flat width height (now floor)) q goal ⌝ ∗ ⌜ length (now table) ≡ width * height ⌝ }
-    ensures { λ r. ⌜ r ≡ naming (width * height) (unlike (flat width height (now (floor .entry))) q (goal ∷ []) (now (table .entry))) 16 ⌝ }
+    ensures { λ r. ⌜ r ≡ naming (width * height) (unlike (flat width height (now (floor .entry))) q (goalsOf goal) (now (table .entry))) 16 ⌝ }
 {
     let mut x = 0;
     while x < table.len() {
@@ -343,12 +343,12 @@ fn count_changed(
     table: &[u32],
 ) -> usize
     requires { ⌜ Opened (flat width height (now floor)) q goal ⌝ ∗ ⌜ length (now table) ≡ width * height ⌝ }
-    ensures { λ r. ⌜ (r ≡ length (changed (flat width height (now (floor .entry))) q (goal ∷ []) (now (table .entry)) (width * height) 0)) × (r ≤ 4096) ⌝ }
+    ensures { λ r. ⌜ (r ≡ length (changed (flat width height (now (floor .entry))) q (goalsOf goal) (now (table .entry)) (width * height) 0)) × (r ≤ 4096) ⌝ }
 {
     let mut n = 0;
     let mut x = 0;
     while x < table.len() {
-        if floor::wide32(table[x]) != opening_of(width, height, goal, q, floor, x) {
+        if notation::wide32(table[x]) != opening_of(width, height, goal, q, floor, x) {
             n += 1;
         }
         x += 1;
@@ -401,14 +401,14 @@ fn put_records(
     out: &mut [u8],
 ) -> usize
     requires { ⌜ Opened (flat width height (now floor)) q goal ⌝ ∗ ⌜ length (now table) ≡ width * height ⌝
-        ∗ ⌜ 6 * length (changed (flat width height (now floor)) q (goal ∷ []) (now table) (width * height) 0) ≤ length (now out) ⌝ }
-    ensures { λ r. ⌜ (r ≡ length (changed (flat width height (now (floor .entry))) q (goal ∷ []) (now (table .entry)) (width * height) 0))
-        × (now (out .exit) ≡ recordsOf (now (table .entry)) (changed (flat width height (now (floor .entry))) q (goal ∷ []) (now (table .entry)) (width * height) 0) ++ drop (6 * r) (now (out .entry))) ⌝ }
+        ∗ ⌜ 6 * length (changed (flat width height (now floor)) q (goalsOf goal) (now table) (width * height) 0) ≤ length (now out) ⌝ }
+    ensures { λ r. ⌜ (r ≡ length (changed (flat width height (now (floor .entry))) q (goalsOf goal) (now (table .entry)) (width * height) 0))
+        × (now (out .exit) ≡ recordsOf (now (table .entry)) (changed (flat width height (now (floor .entry))) q (goalsOf goal) (now (table .entry)) (width * height) 0) ++ drop (6 * r) (now (out .entry))) ⌝ }
 {
     let mut n = 0;
     let mut x = 0;
     while x < table.len() {
-        let figure = floor::wide32(table[x]);
+        let figure = notation::wide32(table[x]);
         if figure != opening_of(width, height, goal, q, floor, x) {
             put_record(out, 6 * n, x, figure);
             n += 1;
@@ -448,7 +448,7 @@ fn judge_write(
     table: &[u32],
     room: usize,
 ) -> Verdict
-    ensures { λ r. ⌜ r ≡ writeVerdict (flat width height (now (floor .entry))) q (goal ∷ []) (now (table .entry)) room ⌝ }
+    ensures { λ r. ⌜ r ≡ writeVerdict (flat width height (now (floor .entry))) q (goalsOf goal) (now (table .entry)) room ⌝ }
 {
     let v = opening::open_table(width, height, goal, q, floor, table.len());
     let Verdict::Done = v else {
@@ -483,7 +483,7 @@ pub fn write_table(
     table: &[u32],
     buffer: &mut [u8],
 ) -> Written
-    ensures { λ r. ⌜ Writes (writeTable (flat width height (now (floor .entry))) q (goal ∷ []) (now (table .entry)) (now (buffer .entry))) r (now (buffer .exit)) ⌝ }
+    ensures { λ r. ⌜ Writes (writeTable (flat width height (now (floor .entry))) q (goalsOf goal) (now (table .entry)) (now (buffer .entry))) r (now (buffer .exit)) ⌝ }
 {
     let v = judge_write(width, height, goal, q, floor, table, buffer.len());
     match v {

@@ -3,18 +3,18 @@
 use Prim.Native.Nat.{_-_, _≤_}
 use Rattle.floor.specs.Moves.{flat}
 use Rattle.model.proofs.OpeningSound.{opening-high}
-use Rattle.model.specs.Floor.{opening, octile, openingTable}
+use Rattle.model.specs.Floor.{opening, octile, openingTable, goalsOf}
 use Rattle.opening.proofs.Fill.{Filled, fill-more, fill-all}
 use borrow.Author.Needs.{needs}
 use lib.ListN.{length, length-set}
-use mathlib.Core.List.{[], _∷_}
+use mathlib.Core.List.{[]}
 use mathlib.Core.Path.{_≡_, refl, _∙_}
 use native.Mathlib.Omega.{arith}
 use Rattle.opening.proofs.fill_figures.Statement.{statement}
 use Rattle.opening.proofs.fill_figures.Tie as tie
 
 abbrev Inv-loop : tie.InvT-loop
-Inv-loop width height goal q table₀ x₀ table x = (x ≤ length table₀) × (length table ≡ length table₀) × Filled (opening (flat width height []) q (goal ∷ [])) x table
+Inv-loop width height goal q table₀ x₀ table x = (x ≤ length table₀) × (length table ≡ length table₀) × Filled (opening (flat width height []) q (goalsOf goal)) x table
 
 abbrev μ-loop : tie.MeasureT-loop
 μ-loop width height goal q table₀ x₀ table x = length table₀ - x
@@ -56,7 +56,7 @@ unfolding openingTable opening octile
 returns c =
     let a = c .before .before .before .args in
     let l = c .before .loop in
-    λ bytes. fill-all (opening (flat (a .width) (a .height) []) (a .q) (a .goal ∷ [])) _ _ (l .inv .1 ∙ c .before .before .before .pre .5) (λ k h. l .inv .2 k (omega arith))
+    λ bytes. fill-all (opening (flat (a .width) (a .height) []) (a .q) (goalsOf (a .goal))) _ _ (l .inv .1 ∙ c .before .before .before .pre .5) (λ k h. l .inv .2 k (omega arith))
 
 pub fill-figures-spec : {M : Type 1} → statement M
 fill-figures-spec =

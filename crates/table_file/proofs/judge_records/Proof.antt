@@ -1,7 +1,6 @@
 -- `table_file::judge_records` meets its contract: the invariant: `Judging`, the records left answer like all of them.
 -- Assumes nothing.
 use Prim.Native.Nat.{_-_}
-use mathlib.Core.List.{[], _∷_}
 use mathlib.Core.Path.{_∙_, sym}
 use Rattle.floor.specs.Moves.{flat}
 use Rattle.table_file.proofs.Reading.{Judging, judging, judging-more, judging-stop, judging-all}
@@ -9,9 +8,10 @@ use borrow.Author.Needs.{needs}
 use native.Mathlib.Omega.{arith}
 use Rattle.table_file.proofs.judge_records.Statement.{statement}
 use Rattle.table_file.proofs.judge_records.Tie as tie
+use Rattle.model.specs.Floor.{goalsOf}
 
 abbrev Inv-loop : tie.InvT-loop
-Inv-loop width height goal q floor part n t₀ i₀ low₀ t i low = Judging (flat width height floor) q (goal ∷ []) n part i low t
+Inv-loop width height goal q floor part n t₀ i₀ low₀ t i low = Judging (flat width height floor) q (goalsOf goal) n part i low t
 
 abbrev μ-loop : tie.MeasureT-loop
 μ-loop width height goal q floor part n t₀ i₀ low₀ t i low = n - i

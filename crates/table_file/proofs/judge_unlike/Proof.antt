@@ -2,7 +2,6 @@
 -- Assumes nothing.
 use Prim.Native.Nat.{_-_, _≤_}
 use mathlib.Core.Path.{sym, _∙_}
-use mathlib.Core.List.{[], _∷_}
 use borrow.Author.Count.{below-more}
 use lib.ListN.{length}
 use Rattle.floor.specs.Moves.{flat}
@@ -12,9 +11,10 @@ use borrow.Author.Needs.{needs}
 use native.Mathlib.Omega.{arith}
 use Rattle.table_file.proofs.judge_unlike.Statement.{statement}
 use Rattle.table_file.proofs.judge_unlike.Tie as tie
+use Rattle.model.specs.Floor.{goalsOf}
 
 abbrev Inv-loop : tie.InvT-loop
-Inv-loop width height goal q floor table x₀ x = (x ≤ length table) × NoneBelow (unlike (flat width height floor) q (goal ∷ []) table) x
+Inv-loop width height goal q floor table x₀ x = (x ≤ length table) × NoneBelow (unlike (flat width height floor) q (goalsOf goal) table) x
 
 abbrev μ-loop : tie.MeasureT-loop
 μ-loop width height goal q floor table x₀ x = length table - x

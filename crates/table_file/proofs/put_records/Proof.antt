@@ -2,7 +2,6 @@
 -- Assumes nothing.
 use Prim.Native.Nat.{_-_, _*_}
 use mathlib.Core.Path.{sym, _∙_}
-use mathlib.Core.List.{[], _∷_}
 use mathlib.Core.Logic.{⊎-elim}
 use lib.ListN.{length}
 use Rattle.floor.specs.Moves.{flat}
@@ -11,9 +10,10 @@ use borrow.Author.Needs.{needs}
 use native.Mathlib.Omega.{arith}
 use Rattle.table_file.proofs.put_records.Statement.{statement}
 use Rattle.table_file.proofs.put_records.Tie as tie
+use Rattle.model.specs.Floor.{goalsOf}
 
 abbrev Inv-loop : tie.InvT-loop
-Inv-loop width height goal q floor table out₀ n₀ x₀ out n x = Putting (flat width height floor) q (goal ∷ []) table out₀ (width * height) n x out
+Inv-loop width height goal q floor table out₀ n₀ x₀ out n x = Putting (flat width height floor) q (goalsOf goal) table out₀ (width * height) n x out
 
 abbrev μ-loop : tie.MeasureT-loop
 μ-loop width height goal q floor table out₀ n₀ x₀ out n x = length table - x
