@@ -19,6 +19,8 @@ pub mod Steps
 pub mod Judged
 pub mod Rides
 pub mod Tables
+-- A decision's moves drive the cart, and so do a trial's.
+pub mod Driven
 -- Demand 3 of the mission, sentence by sentence.
 pub mod Demand
 -- The table file: its checks and its records; the round trip of demand 2.
