@@ -29,7 +29,7 @@ use Rattle.model.specs.Floor.{size}
 use Rattle.model.specs.Checks.{floorOf, groundIn}
 use Rattle.model.specs.Opening.{distances, reaches, trueFigure, soundness, openJob, openTrial, openRun}
 use Rattle.model.specs.Decision.{atGoal, decide}
-use Rattle.model.specs.Ride.{Ride, begun, rideFrom, learningJob, bound, ride, kept, report, trialOf, trial, courseFrom, filedIn, runOf, run}
+use Rattle.model.specs.Ride.{Ride, begun, rideFrom, learningJob, bound, ride, kept, report, trialOf, trial, Course, courseFrom, filedIn, runOf, run}
 use Rattle.model.proofs.Openings.{opened, accepted, ready, accepted-trial, ready-run}
 use Rattle.model.proofs.Refusals.{job-refused, trial-refused, run-refused}
 use Rattle.model.proofs.Soundness.{Above, reaches-means, six-means, seven-means}
@@ -114,6 +114,19 @@ pub run-is-made : (j : Job) (bytes : List ℕ) (start trials : ℕ) (table path 
     }
 unfolding run
 run-is-made j bytes start trials table path reports e = ap (λ v. runOf v j bytes (courseFrom j bytes start trials table path) table path reports) e
+
+pub made-run-is-accepted : (j : Job) (bytes : List ℕ) (start trials : ℕ) (table path : List ℕ) (reports : List Report) (n : ℕ) (b : Bool)
+    → run j bytes start trials table path reports .answer ≡ Rn.Made n b
+    → (openRun j bytes start table path trials (length reports) ≡ Vd.Done) × (length (courseFrom j bytes start trials table path .rides) ≡ n)
+unfolding run
+made-run-is-accepted j bytes start trials table path reports n b = by (openRun j bytes start table path trials (length reports))
+  where
+    c : Course
+    c = courseFrom j bytes start trials table path
+
+    by : (v : Verdict) → runOf v j bytes c table path reports .answer ≡ Rn.Made n b → (v ≡ Vd.Done) × (length (c .rides) ≡ n)
+    by Vd.Done e = let f : length (c .rides) ≡ n = cc in (refl, f)
+    by (Vd.Refused q) e = let z : _≡_ {A = ℕ} 0 1 = cc in absurd (omega arith)
 
 -- each of its rides is an accepted trial
 pub run-trials-are-accepted : (j : Job) (bytes : List ℕ) (start trials : ℕ) (table path : List ℕ) (records : ℕ) → openRun j bytes start table path trials records ≡ Vd.Done
