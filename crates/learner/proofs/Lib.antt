@@ -1,2 +1,4 @@
--- Mission: demand 3 of the mission, from what the public calls promise.
+-- The mission from what the public calls promise. Mission: demand 3. Refused: demand 1's last sentence. ReadBack: demand 2's.
 pub mod Mission
+pub mod Refused
+pub mod ReadBack
