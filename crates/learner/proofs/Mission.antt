@@ -1,4 +1,4 @@
--- Demand 3 of the mission, as a caller of the library may conclude it from what `trial`, `run` and `decide` promise, and from nothing else.
+-- Demand 3 of the mission, as a caller of the library may conclude it from what `open`, `trial`, `run` and `decide` promise, and from nothing else.
 -- A promise fixes the answer and every list at exit as the model's; so the model's laws (Demand, Driven, KeptWay) are laws of what the calls hand out.
 -- The mission's own words are those of Demand: the cheapest `distance` to the bench, the true figure `trueOf`, whether a cell `can` reach the bench, R and K.
 use Prim.Native.Nat.{ℕ, zero, suc, _+_, _-_, _*_, _≤_, _<_}
@@ -18,15 +18,18 @@ use Rattle.answers.specs.declared.Report.{Report}
 use Rattle.answers.specs.declared.Refusal.{Refusal}
 use Rattle.answers.specs.declared.Answer.the-variants as A
 use Rattle.answers.specs.declared.Verdict.the-variants as Vd
+use Rattle.answers.specs.declared.Tried.{Tried}
 use Rattle.answers.specs.declared.Tried.the-variants as Td
+use Rattle.answers.specs.declared.Ran.{Ran}
 use Rattle.answers.specs.declared.Ran.the-variants as Rn
 use Rattle.answers.proofs.One.{answer-one, tried-one, ran-one}
-use Rattle.model.specs.Checks.{floorOf}
+use Rattle.model.specs.Checks.{floorOf, sizes, pathRoom, settings}
 use Rattle.model.specs.Decision.{atGoal, Deed, act, outcomeOf, decide}
-use Rattle.model.specs.Opening.{openJob, openTrial}
+use Rattle.model.specs.Opening.{openJob, openTrial, openRun}
 use Rattle.model.specs.Ride.{Ride, begun, next, rideFrom, bound, report, ride, trial, Course, courseFrom, run}
 use Rattle.model.proofs.Moves.{is-true, free-below}
-use Rattle.model.proofs.Openings.{Ready, ready, accepted-trial, ready-run}
+use Rattle.model.proofs.Accepted.{then-done, then-next, reports-judges, trials-judges}
+use Rattle.model.proofs.Openings.{Ready, opened, ready, accepted-trial, ready-run}
 use Rattle.model.proofs.Meaning.{net, goal-is, goal-means}
 use Rattle.model.proofs.Cases.{act-arrived, decide-acts}
 use Rattle.model.proofs.Steps.{Says, went, backed, stayed}
@@ -38,8 +41,39 @@ use Rattle.model.proofs.Demand.{no-figure-falls-in-a-decision, no-figure-passes
 use Rattle.decision.specs.Ready.{Decides}
 use Rattle.run.specs.Trials.{IsTrial, IsRun}
 
--- ---- "Take any accepted job with weight p/q. No cell's figure ever falls, or, where the bench can be reached from it, passes its true figure, q times the
--- cheapest distance to the bench."
+-- ---- "Take any accepted job with weight p/q."
+
+-- `open` answers done for it, and the path list has a place for each cell
+pub record Accepted (j : Job) (bytes : List ℕ) (start : ℕ) (table path : List ℕ) : Type 0 where
+  pub opens : openJob j bytes start table ≡ Vd.Done
+  pub room : j .width * j .height ≤ length path
+
+-- so its trial is accepted, and so is its run of 1 to 1,000 trials with a record for each
+accepted-opens : {j : Job} {bytes : List ℕ} {start : ℕ} {table path : List ℕ} → Accepted j bytes start table path → openTrial j bytes start table path ≡ Vd.Done
+accepted-opens {j} {bytes} {start} {table} {path} a = accepted-trial j bytes start table path (record { opened = opened j bytes start table (a .opens); room = a .room })
+
+accepted-runs : {j : Job} {bytes : List ℕ} {start : ℕ} {table path : List ℕ} → Accepted j bytes start table path → (trials records : ℕ) → 1 ≤ trials → trials ≤ 1000 → trials ≤ records
+    → openRun j bytes start table path trials records ≡ Vd.Done
+unfolding openTrial openRun
+accepted-runs {j} {bytes} {start} {table} {path} a trials records some few room =
+    let f = floorOf j bytes in
+    let (one, after-one) = then-done (sizes f (length table)) _ (accepted-opens a) in
+    let (two, after-two) = then-done (pathRoom f (length path)) _ after-one in
+    let (three, rest) = then-done (settings j) _ after-two in
+    then-next _ one ∙ then-next _ two ∙ then-next _ (reports-judges trials records .done room) ∙ then-next _ three ∙ then-next _ (trials-judges trials .done (some, few)) ∙ rest
+
+-- and both are made: `trial` answers a record, and `run` a number of trials
+pub accepted-is-tried : {j : Job} {bytes : List ℕ} {start : ℕ} {table path : List ℕ} → Accepted j bytes start table path → {a : Tried} {t p : List ℕ}
+    → IsTrial (trial j bytes start table path) a t p → (r : Report) × (a ≡ Td.Made r)
+accepted-is-tried {j} {bytes} {start} {table} {path} h {a} c =
+    (_, tried-one a _ (c .answer-is) ∙ ap (λ o. o .answer) (trial-is-made j bytes start table path (accepted-opens h)))
+
+pub accepted-is-run : {j : Job} {bytes : List ℕ} {start : ℕ} {table path : List ℕ} → Accepted j bytes start table path → (trials : ℕ) (lent : List Report) → 1 ≤ trials → trials ≤ 1000
+    → trials ≤ length lent → {a : Ran} {t p : List ℕ} {reports : List Report} → IsRun (run j bytes start trials table path lent) a t p reports → (n : ℕ) × (settled : Bool) × (a ≡ Rn.Made n settled)
+accepted-is-run {j} {bytes} {start} {table} {path} h trials lent some few room {a} c =
+    (_, _, ran-one a _ (c .answer-is) ∙ ap (λ o. o .answer) (run-is-made j bytes start trials table path lent (accepted-runs h trials (length lent) some few room)))
+
+-- ---- "No cell's figure ever falls, or, where the bench can be reached from it, passes its true figure, q times the cheapest distance to the bench."
 
 -- of the table before and after
 pub record Figures (j : Job) (bytes before after : List ℕ) : Type 0 where
@@ -213,9 +247,9 @@ ride-add j bytes (suc n) k r = by (atGoal j bytes (r .state .current)) refl (rid
     by true e h = ride-there j bytes (suc n + k) r e ∙ sym (ap (rideFrom j bytes k) (ride-there j bytes (suc n) r e) ∙ ride-there j bytes k r e)
     by false e h = ap (λ m. rideFrom j bytes m r) more ∙ ride-on j bytes (n + k) r e ∙ h (next j bytes r) ∙ sym (ap (rideFrom j bytes k) (ride-on j bytes n r e))
 
-module _ (j : Job) (bytes : List ℕ) (start : ℕ) (table path : List ℕ) (e : openTrial j bytes start table path ≡ Vd.Done) where
+module _ (j : Job) (bytes : List ℕ) (start : ℕ) (table path : List ℕ) (a : Accepted j bytes start table path) where
   accepted : Ready j bytes start table path
-  accepted = ready j bytes start table path e
+  accepted = ready j bytes start table path (accepted-opens a)
 
   -- the ride after n decisions
   abbrev after : ℕ → Ride
@@ -313,26 +347,26 @@ module _ (j : Job) (bytes : List ℕ) (start : ℕ) (table path : List ℕ) (e :
   unfolding rideFrom next
   along none = record { count = refl; state-is = refl; table-is = refl; path-is = refl }
   along (another {n = n} {r = r} {t′ = t′} {p′ = p′} {m′ = m′} k moves from room h not) =
-      let a = along k in
-      let c = at-ride n from moves (a .state-is) (a .table-is) (a .path-is) h in
-      let o = on n moves from room r t′ p′ m′ c not in
+      let o = along k in
+      let c = at-ride n from moves (o .state-is) (o .table-is) (o .path-is) h in
+      let e = on n moves from room r t′ p′ m′ c not in
       let acted = acts n moves from room r t′ p′ m′ c in
       record {
-        count = ap (λ r. r .decisions) o ∙ ap suc (a .count);
-        state-is = c .state ∙ ap (λ o. o .state) acted ∙ sym (ap (λ r. r .state) o);
-        table-is = c .table ∙ ap (λ o. o .table) acted ∙ sym (ap (λ r. r .table) o);
-        path-is = c .path ∙ ap (λ o. o .path) acted ∙ sym (ap (λ r. r .path) o);
+        count = ap (λ r. r .decisions) e ∙ ap suc (o .count);
+        state-is = c .state ∙ ap (λ o. o .state) acted ∙ sym (ap (λ r. r .state) e);
+        table-is = c .table ∙ ap (λ o. o .table) acted ∙ sym (ap (λ r. r .table) e);
+        path-is = c .path ∙ ap (λ o. o .path) acted ∙ sym (ap (λ r. r .path) e);
       }
 
   pub decisions-arrive : {n : ℕ} {s : State} {t p : List ℕ} → Decisions j bytes start table path n s t p → OnTheWay j bytes start table path n s t p
   decisions-arrive {n} k =
-      let a = along k in
+      let o = along k in
       record {
-        few = subst (λ i. i < K j bytes * (R j bytes table + 1)) (a .count) (low n);
-        state-is = a .state-is;
-        table-is = a .table-is;
-        path-is = a .path-is;
+        few = subst (λ i. i < K j bytes * (R j bytes table + 1)) (o .count) (low n);
+        state-is = o .state-is;
+        table-is = o .table-is;
+        path-is = o .path-is;
         goes-on = λ moves from room r t′ p′ m′ h.
-            subst (λ s. GoesOn j bytes start table path n s r t′ p′) (sym (a .state-is))
-            (call n moves from room r t′ p′ m′ (at-ride n from moves (a .state-is) (a .table-is) (a .path-is) h) (a .count));
+            subst (λ s. GoesOn j bytes start table path n s r t′ p′) (sym (o .state-is))
+            (call n moves from room r t′ p′ m′ (at-ride n from moves (o .state-is) (o .table-is) (o .path-is) h) (o .count));
       }
