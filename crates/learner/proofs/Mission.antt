@@ -2,20 +2,23 @@
 -- A promise fixes the answer and every list at exit as the model's; so the model's laws (Demand, Driven, KeptWay) are laws of what the calls hand out.
 -- The mission's own words are those of Demand: the cheapest `distance` to the bench, the true figure `trueOf`, whether a cell `can` reach the bench, R and K.
 use Prim.Native.Nat.{ℕ, zero, suc, _+_, _-_, _*_, _≤_, _<_}
-use mathlib.Core.Path.{_≡_, refl, sym, ap, _∙_, subst}
+use mathlib.Core.Path.{_≡_, refl, sym, ap, ap₂, _∙_, subst, subst₂}
 use mathlib.Core.Bool.{Bool, true, false}
 use mathlib.Core.List.{List, [], _∷_, _++_, map}
 use native.Mathlib.Numerals.{add-one}
+use native.Mathlib.Decide.{decLe}
 use native.Mathlib.Omega.{arith}
 use lib.Dec.{T, eqb}
 use lib.ListN.{length, getD, take, drop, length-map}
-use lib.Seq.{take-at, drop-at}
+use lib.Seq.{length-take-le, take-at, drop-at}
 use Rattle.learning.specs.Walk.{Any, Leads}
+use Rattle.learning.proofs.Trials.{Keeps}
 use Rattle.answers.specs.declared.Job.{Job}
 use Rattle.answers.specs.declared.State.{State}
 use Rattle.answers.specs.declared.Decided.{Decided}
 use Rattle.answers.specs.declared.Report.{Report}
 use Rattle.answers.specs.declared.Refusal.{Refusal}
+use Rattle.answers.specs.declared.Answer.{Answer}
 use Rattle.answers.specs.declared.Answer.the-variants as A
 use Rattle.answers.specs.declared.Verdict.the-variants as Vd
 use Rattle.answers.specs.declared.Tried.{Tried}
@@ -23,18 +26,19 @@ use Rattle.answers.specs.declared.Tried.the-variants as Td
 use Rattle.answers.specs.declared.Ran.{Ran}
 use Rattle.answers.specs.declared.Ran.the-variants as Rn
 use Rattle.answers.proofs.One.{answer-one, tried-one, ran-one}
+use Rattle.model.specs.Floor.{size}
 use Rattle.model.specs.Checks.{floorOf, sizes, pathRoom, settings}
-use Rattle.model.specs.Decision.{atGoal, Deed, act, outcomeOf, decide}
+use Rattle.model.specs.Decision.{atGoal, Deed, rise, forward, backOut, stay, act, laid, outcomeOf, decide}
 use Rattle.model.specs.Opening.{openJob, openTrial, openRun}
-use Rattle.model.specs.Ride.{Ride, begun, next, rideFrom, bound, report, ride, trial, Course, courseFrom, run}
+use Rattle.model.specs.Ride.{Ride, begun, next, rideFrom, learningJob, bound, report, ride, trial, Course, courseFrom, run}
 use Rattle.model.proofs.Moves.{is-true, free-below}
-use Rattle.model.proofs.Accepted.{then-done, then-next, reports-judges, trials-judges}
-use Rattle.model.proofs.Openings.{Ready, opened, ready, accepted-trial, ready-run}
+use Rattle.model.proofs.Accepted.{fails, then-done, then-next, reports-judges, trials-judges}
+use Rattle.model.proofs.Openings.{Held, Ready, opened, ready, accepted-trial, ready-run}
 use Rattle.model.proofs.Meaning.{net, goal-is, goal-means}
 use Rattle.model.proofs.Cases.{act-arrived, decide-acts}
-use Rattle.model.proofs.Steps.{Says, went, backed, stayed}
-use Rattle.model.proofs.Rides.{Riding, riding-begun, riding-from, judges, does, decisions-low, ride-there, ride-on, ready-after, course-settled, course-again}
-use Rattle.model.proofs.Driven.{Drives, Names, Moved, decide-drives}
+use Rattle.model.proofs.Steps.{asState, newHere, Says, went, backed, stayed, act-forward, act-back, act-stay}
+use Rattle.model.proofs.Rides.{Riding, riding-begun, riding-from, keeps, room as room-for, judges, does, decisions-low, ride-there, ride-on, ready-after, course-settled, course-again}
+use Rattle.model.proofs.Driven.{Drives, Names, Moved, decide-drives, trial-drives, trial-drives-to-the-bench}
 use Rattle.model.proofs.Demand.{K, R, can, trueOf, distance, bound-is, made-is-accepted, trial-is-made, trial-is-promised, made-run-is-accepted, run-is-made}
 use Rattle.model.proofs.Demand.{no-figure-falls-in-a-run, no-figure-passes-truth-in-a-run}
 use Rattle.model.proofs.Demand.{no-figure-falls-in-a-decision, no-figure-passes-truth-in-a-decision, decision-stays-accepted}
@@ -202,36 +206,71 @@ module _ (j : Job) (bytes : List ℕ) (s : State) (table path moves : List ℕ) 
       let (to, moved) = decide-drives j bytes s table path moves from target n (subst (λ a. Names a target n) (answer-one (r .answer) (o .answer) (h .answer)) k) in
       (ap (λ s. s .current) (h .state) ∙ to, subst (Moved (floorOf j bytes) (s .current) target n (act j bytes s table path .cost) from moves) (sym (h .moves)) moved)
 
--- Decisions by the public call, one after another: the first at the start with nothing learned and an empty path, each further one from the state and the lists that the
--- one before it left. Each has 288 places for its moves, and none has answered that it has arrived: n of them, and where they lead.
-pub data Decisions (j : Job) (bytes : List ℕ) (start : ℕ) (table path : List ℕ) : (n : ℕ) → State → (t p : List ℕ) → Type 0 where
-  none : Decisions j bytes start table path 0 (begun start table path .state) table path
-  another : {n : ℕ} {s : State} {r : Decided} {t p t′ p′ m′ : List ℕ} → Decisions j bytes start table path n s t p → (moves : List ℕ) (from : ℕ) → from + 288 ≤ length moves
-      → Decides (decide j bytes s t p moves from) r t′ p′ m′ → (r .answer ≡ A.Arrived → ⊥) → Decisions j bytes start table path (suc n) (r .state) t′ p′
+-- the moves that an answer hands out: as many as it says, from the place named on
+abbrev pub handed : Answer → (from : ℕ) → (moves : List ℕ) → List ℕ
+handed A.Arrived from moves = []
+handed (A.Forward target rise n) from moves = take n (drop from moves)
+handed (A.BackedOut target rise n) from moves = take n (drop from moves)
+handed (A.Stayed rise) from moves = []
+handed (A.Refused r) from moves = []
+
+-- Decisions by the public call, one after another: the first at the start with nothing learned and an empty path, each further one from the state and the lists that
+-- the one before it left. Each has 288 places for its moves, and none has answered that it has arrived: n of them, all moves that they handed out, and where they lead.
+pub data Decisions (j : Job) (bytes : List ℕ) (start : ℕ) (table path : List ℕ) : (n : ℕ) → (moved : List ℕ) → State → (t p : List ℕ) → Type 0 where
+  none : Decisions j bytes start table path 0 [] (begun start table path .state) table path
+  another : {n : ℕ} {s : State} {r : Decided} {moved t p t′ p′ m′ : List ℕ} → Decisions j bytes start table path n moved s t p
+      → (moves : List ℕ) (from : ℕ) → from + 288 ≤ length moves → Decides (decide j bytes s t p moves from) r t′ p′ m′ → (r .answer ≡ A.Arrived → ⊥)
+      → Decisions j bytes start table path (suc n) (moved ++ handed (r .answer) from m′) (r .state) t′ p′
+
+-- decisions that come to the bench are the trial's: their number, the lists left, and the moves, which drive the cart from the start to the bench at the trial's travel
+pub record Whole (j : Job) (bytes : List ℕ) (start n : ℕ) (moved t p : List ℕ) (o : Ride) : Type 0 where
+  pub decisions : n ≡ o .decisions
+  pub table-is : t ≡ o .table
+  pub path-is : p ≡ o .path
+  pub moves-are : moved ≡ o .moves
+  pub drives : Drives (floorOf j bytes) start moved (j .goal) (o .travel)
 
 -- what a call answers that has 288 places, where n decisions have led to the state s
-pub record GoesOn (j : Job) (bytes : List ℕ) (start : ℕ) (table path : List ℕ) (n : ℕ) (s : State) (r : Decided) (t p : List ℕ) : Type 0 where
+pub record GoesOn (j : Job) (bytes : List ℕ) (start : ℕ) (table path : List ℕ) (n : ℕ) (moved : List ℕ) (s : State) (r : Decided) (t p : List ℕ) : Type 0 where
   -- it is not refused
   pub let-through : (x : Refusal) → r .answer ≡ A.Refused x → ⊥
-  -- it answers that it has arrived at the bench, and nowhere else
+  -- it answers that it has arrived at the bench, and nowhere else; then the trial is made
   pub at-the-bench : s .current ≡ j .goal → r .answer ≡ A.Arrived
   pub nowhere-else : r .answer ≡ A.Arrived → s .current ≡ j .goal
-  -- then the n decisions are all of the trial's, and the lists are those that it leaves
-  pub all-made : r .answer ≡ A.Arrived → n ≡ ride j bytes start table path .decisions
-  pub table-is : r .answer ≡ A.Arrived → t ≡ ride j bytes start table path .table
-  pub path-is : r .answer ≡ A.Arrived → p ≡ ride j bytes start table path .path
+  pub made : r .answer ≡ A.Arrived → Whole j bytes start n moved t p (ride j bytes start table path)
 
 -- "Every trial reaches the bench in fewer than K × (R + 1) decisions.": also one that is made decision by decision
-pub record OnTheWay (j : Job) (bytes : List ℕ) (start : ℕ) (table path : List ℕ) (n : ℕ) (s : State) (t p : List ℕ) : Type 0 where
+pub record OnTheWay (j : Job) (bytes : List ℕ) (start : ℕ) (table path : List ℕ) (n : ℕ) (moved : List ℕ) (s : State) (t p : List ℕ) : Type 0 where
   -- so long as none has answered that it has arrived they are fewer, so the call after them answers so at the latest
   pub few : n < K j bytes * (R j bytes table + 1)
   -- they are the first n of the trial's own
   pub state-is : s ≡ rideFrom j bytes n (begun start table path) .state
   pub table-is : t ≡ rideFrom j bytes n (begun start table path) .table
   pub path-is : p ≡ rideFrom j bytes n (begun start table path) .path
+  -- the moves handed out drive the cart from the start to where it stands
+  pub drives : Drives (floorOf j bytes) start moved (s .current) (rideFrom j bytes n (begun start table path) .travel)
   -- and the next call goes on
   pub goes-on : (moves : List ℕ) (from : ℕ) → from + 288 ≤ length moves → (r : Decided) (t′ p′ m′ : List ℕ) → Decides (decide j bytes s t p moves from) r t′ p′ m′
-      → GoesOn j bytes start table path n s r t′ p′
+      → GoesOn j bytes start table path n moved s r t′ p′
+
+-- what a trial's decision hands out is its way, laid into the lent list
+laid-hands : (moves : List ℕ) (from : ℕ) (way : List ℕ) → from ≤ length moves → take (length way) (drop from (laid moves from way)) ≡ way
+laid-hands moves from way h =
+    ap (take (length way)) (drop-at (take from moves) (way ++ drop (from + length way) moves) from (length-take-le from moves h)) ∙ take-at way (drop (from + length way) moves) (length way) refl
+
+module _ (j : Job) (bytes : List ℕ) (H : Held j bytes) {start : ℕ} (s : State) (table path : List ℕ) (k : Keeps (learningJob j bytes) start (asState s table path))
+    (room : size (floorOf j bytes) ≤ length path) (aside : atGoal j bytes (s .current) ≡ false) (moves : List ℕ) (from : ℕ) (h : from ≤ length moves) where
+  deed-hands : handed (act j bytes s table path .answer) from (laid moves from (act j bytes s table path .way)) ≡ act j bytes s table path .way
+  unfolding forward backOut stay
+  deed-hands = by (decLe (s .learned + rise table (s .current) (newHere j bytes s table)) (j .q * j .quota)) (decLe 1 (s .length))
+    where
+      Hands : Deed → Type 0
+      Hands d = handed (d .answer) from (laid moves from (d .way)) ≡ d .way
+
+      by : Dec (s .learned + rise table (s .current) (newHere j bytes s table) ≤ j .q * j .quota) → Dec (1 ≤ s .length) → Hands (act j bytes s table path)
+      by (yes g) l = subst Hands (sym (act-forward j bytes H s table path k room aside g)) (laid-hands moves from _ h)
+      by (no g) (yes l) = subst Hands (sym (act-back j bytes H s table path k room aside (omega arith) l)) (laid-hands moves from _ h)
+      by (no g) (no l) = subst Hands (sym (act-stay j bytes H s table path k room aside (omega arith) (omega arith))) refl
 
 -- rides one after another are one ride
 ride-add : (j : Job) (bytes : List ℕ) (n k : ℕ) (r : Ride) → rideFrom j bytes (n + k) r ≡ rideFrom j bytes k (rideFrom j bytes n r)
@@ -292,42 +331,49 @@ module _ (j : Job) (bytes : List ℕ) (start : ℕ) (table path : List ℕ) (a :
     went-on (backed k) = (λ x q. let z : _≡_ {A = ℕ} 0 1 = cc (answers) in omega arith, λ q. let z : _≡_ {A = ℕ} 0 1 = cc (answers) in omega arith)
     went-on (stayed k) = (λ x q. let z : _≡_ {A = ℕ} 0 1 = cc (answers) in omega arith, λ q. let z : _≡_ {A = ℕ} 0 1 = cc (answers) in omega arith)
 
-    call : after n .decisions ≡ n → GoesOn j bytes start table path n (after n .state) r t p
+    call : after n .decisions ≡ n → GoesOn j bytes start table path n (after n .moves) (after n .state) r t p
     call count = by (atGoal j bytes (after n .state .current)) refl
       where
-        by : (b : Bool) → atGoal j bytes (after n .state .current) ≡ b → GoesOn j bytes start table path n (after n .state) r t p
+        by : (b : Bool) → atGoal j bytes (after n .state .current) ≡ b → GoesOn j bytes start table path n (after n .moves) (after n .state) r t p
         by false g =
             let (not-refused, not-arrived) = went-on (goes g) in
             record {
               let-through = not-refused;
               at-the-bench = λ q. let z : _≡_ {A = ℕ} 0 1 = cc (there n q) in absurd (omega arith);
               nowhere-else = λ q. absurd (not-arrived q);
-              all-made = λ q. absurd (not-arrived q);
-              table-is = λ q. absurd (not-arrived q);
-              path-is = λ q. absurd (not-arrived q);
+              made = λ q. absurd (not-arrived q);
             }
         by true g =
             let still = act-arrived j bytes (after n .state) (after n .table) (after n .path) g in
-            let arrived : r .answer ≡ A.Arrived = answers ∙ ap (λ d. d .answer) still in
             let all = whole n count g in
             record {
-              let-through = λ x q. let z : _≡_ {A = ℕ} 0 1 = cc in omega arith;
-              at-the-bench = λ q. arrived;
+              let-through = λ x q. let e = answers ∙ ap (λ d. d .answer) still in let z : _≡_ {A = ℕ} 0 1 = cc in omega arith;
+              at-the-bench = λ q. answers ∙ ap (λ d. d .answer) still;
               nowhere-else = λ q. goal-means (floorOf j bytes) (j .goal) _ (subst T (sym g) tt);
-              all-made = λ q. sym count ∙ ap (λ r. r .decisions) all;
-              table-is = λ q. h .table ∙ ap (λ o. o .table) acts ∙ ap (λ d. d .table) still ∙ ap (λ r. r .table) all;
-              path-is = λ q. h .path ∙ ap (λ o. o .path) acts ∙ ap (λ d. d .path) still ∙ ap (λ r. r .path) all;
+              made = λ q. record {
+                decisions = sym count ∙ ap (λ r. r .decisions) all;
+                table-is = h .table ∙ ap (λ o. o .table) acts ∙ ap (λ d. d .table) still ∙ ap (λ r. r .table) all;
+                path-is = h .path ∙ ap (λ o. o .path) acts ∙ ap (λ d. d .path) still ∙ ap (λ r. r .path) all;
+                moves-are = ap (λ r. r .moves) all;
+                drives = subst (λ ms. Drives (floorOf j bytes) start ms (j .goal) (ride j bytes start table path .travel)) (sym (ap (λ r. r .moves) all))
+                    (trial-drives-to-the-bench j bytes start table path (accepted-opens a));
+              };
             }
 
-    -- one that does not answer that it has arrived is the ride's next decision
-    on : (r .answer ≡ A.Arrived → ⊥) → after (suc n) ≡ next j bytes (after n)
-    unfolding rideFrom
-    on not = by (atGoal j bytes (after n .state .current)) refl
-      where
-        by : (b : Bool) → atGoal j bytes (after n .state .current) ≡ b → after (suc n) ≡ next j bytes (after n)
-        by true g = absurd (not (answers ∙ ap (λ d. d .answer) (act-arrived j bytes (after n .state) (after n .table) (after n .path) g)))
-        by false g =
-            ap after (sym (add-one n)) ∙ ride-add j bytes n 1 (begun start table path) ∙ ride-on j bytes 0 (after n) g
+    -- one that does not answer that it has arrived is the ride's next decision, and hands out its moves
+    module _ (not : r .answer ≡ A.Arrived → ⊥) where
+      aside : atGoal j bytes (after n .state .current) ≡ false
+      aside = fails (atGoal j bytes (after n .state .current)) (λ g. not (answers ∙ ap (λ d. d .answer) (act-arrived j bytes (after n .state) (after n .table) (after n .path) g)))
+
+      on : after (suc n) ≡ next j bytes (after n)
+      unfolding rideFrom
+      on = ap after (sym (add-one n)) ∙ ride-add j bytes n 1 (begun start table path) ∙ ride-on j bytes 0 (after n) aside
+
+      hands : handed (r .answer) from m ≡ d .way
+      hands =
+          ap₂ (λ a ms. handed a from ms) answers (h .moves ∙ ap (λ o. o .moves) acts)
+          ∙ deed-hands j bytes (accepted .opened .held) (after n .state) (after n .table) (after n .path) (keeps j bytes start table path accepted (riding n))
+          (room-for j bytes start table path accepted (riding n)) aside moves from (omega (arith, room))
 
   -- the same call, where the state and the lists are the ride's
   at-ride : (n from : ℕ) (moves : List ℕ) {s : State} {r : Decided} {t p t′ p′ m′ : List ℕ} → s ≡ after n .state → t ≡ after n .table → p ≡ after n .path
@@ -337,15 +383,16 @@ module _ (j : Job) (bytes : List ℕ) (start : ℕ) (table path : List ℕ) (a :
       (subst (λ t. Decides (decide j bytes (after n .state) t p moves from) r t′ p′ m′) et (subst (λ s. Decides (decide j bytes s t p moves from) r t′ p′ m′) es h))
 
   -- so n decisions lead where the ride stands after n
-  record Along (n : ℕ) (s : State) (t p : List ℕ) : Type 0 where
+  record Along (n : ℕ) (moved : List ℕ) (s : State) (t p : List ℕ) : Type 0 where
     count : after n .decisions ≡ n
+    moves-are : moved ≡ after n .moves
     state-is : s ≡ after n .state
     table-is : t ≡ after n .table
     path-is : p ≡ after n .path
 
-  along : {n : ℕ} {s : State} {t p : List ℕ} → Decisions j bytes start table path n s t p → Along n s t p
+  along : {n : ℕ} {moved : List ℕ} {s : State} {t p : List ℕ} → Decisions j bytes start table path n moved s t p → Along n moved s t p
   unfolding rideFrom next
-  along none = record { count = refl; state-is = refl; table-is = refl; path-is = refl }
+  along none = record { count = refl; moves-are = refl; state-is = refl; table-is = refl; path-is = refl }
   along (another {n = n} {r = r} {t′ = t′} {p′ = p′} {m′ = m′} k moves from room h not) =
       let o = along k in
       let c = at-ride n from moves (o .state-is) (o .table-is) (o .path-is) h in
@@ -353,20 +400,23 @@ module _ (j : Job) (bytes : List ℕ) (start : ℕ) (table path : List ℕ) (a :
       let acted = acts n moves from room r t′ p′ m′ c in
       record {
         count = ap (λ r. r .decisions) e ∙ ap suc (o .count);
+        moves-are = ap₂ _++_ (o .moves-are) (hands n moves from room r t′ p′ m′ c not) ∙ sym (ap (λ r. r .moves) e);
         state-is = c .state ∙ ap (λ o. o .state) acted ∙ sym (ap (λ r. r .state) e);
         table-is = c .table ∙ ap (λ o. o .table) acted ∙ sym (ap (λ r. r .table) e);
         path-is = c .path ∙ ap (λ o. o .path) acted ∙ sym (ap (λ r. r .path) e);
       }
 
-  pub decisions-arrive : {n : ℕ} {s : State} {t p : List ℕ} → Decisions j bytes start table path n s t p → OnTheWay j bytes start table path n s t p
-  decisions-arrive {n} k =
+  pub decisions-arrive : {n : ℕ} {moved : List ℕ} {s : State} {t p : List ℕ} → Decisions j bytes start table path n moved s t p → OnTheWay j bytes start table path n moved s t p
+  decisions-arrive {n} {moved} {s} k =
       let o = along k in
       record {
         few = subst (λ i. i < K j bytes * (R j bytes table + 1)) (o .count) (low n);
         state-is = o .state-is;
         table-is = o .table-is;
         path-is = o .path-is;
+        drives = subst₂ (λ ms s. Drives (floorOf j bytes) start ms (s .current) (after n .travel)) (sym (o .moves-are)) (sym (o .state-is))
+            (trial-drives j bytes start table path (accepted-opens a) n);
         goes-on = λ moves from room r t′ p′ m′ h.
-            subst (λ s. GoesOn j bytes start table path n s r t′ p′) (sym (o .state-is))
+            subst₂ (λ ms s. GoesOn j bytes start table path n ms s r t′ p′) (sym (o .moves-are)) (sym (o .state-is))
             (call n moves from room r t′ p′ m′ (at-ride n from moves (o .state-is) (o .table-is) (o .path-is) h) (o .count));
       }
