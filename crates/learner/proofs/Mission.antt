@@ -1,24 +1,21 @@
 -- Demand 3 of the mission, as a caller of the library may conclude it from what `open`, `trial`, `run` and `decide` promise, and from nothing else.
 -- A promise fixes the answer and every list at exit as the model's; so the model's laws (Demand, Driven, KeptWay) are laws of what the calls hand out.
 -- The mission's own words are those of Demand: the cheapest `distance` to the bench, the true figure `trueOf`, whether a cell `can` reach the bench, R and K.
-use Prim.Native.Nat.{ℕ, zero, suc, _+_, _-_, _*_, _≤_, _<_}
+-- Refused and ReadBack say the last sentences of demands 1 and 2 in the same way.
+use Prim.Native.Nat.{ℕ, zero, suc, _+_, _*_, _≤_, _<_}
 use mathlib.Core.Path.{_≡_, refl, sym, ap, ap₂, _∙_, subst, subst₂}
 use mathlib.Core.Bool.{Bool, true, false}
 use mathlib.Core.List.{List, [], _∷_, _++_, map}
-use native.Mathlib.Numerals.{add-one}
-use native.Mathlib.Decide.{decLe}
 use native.Mathlib.Omega.{arith}
 use lib.Dec.{T, eqb}
 use lib.ListN.{length, getD, take, drop, length-map}
-use lib.Seq.{length-take-le, take-at, drop-at}
+use lib.Seq.{take-at, drop-at}
 use Rattle.learning.specs.Walk.{Any, Leads}
-use Rattle.learning.proofs.Trials.{Keeps}
 use Rattle.answers.specs.declared.Job.{Job}
 use Rattle.answers.specs.declared.State.{State}
 use Rattle.answers.specs.declared.Decided.{Decided}
 use Rattle.answers.specs.declared.Report.{Report}
 use Rattle.answers.specs.declared.Refusal.{Refusal}
-use Rattle.answers.specs.declared.Answer.{Answer}
 use Rattle.answers.specs.declared.Answer.the-variants as A
 use Rattle.answers.specs.declared.Verdict.the-variants as Vd
 use Rattle.answers.specs.declared.Tried.{Tried}
@@ -26,24 +23,22 @@ use Rattle.answers.specs.declared.Tried.the-variants as Td
 use Rattle.answers.specs.declared.Ran.{Ran}
 use Rattle.answers.specs.declared.Ran.the-variants as Rn
 use Rattle.answers.proofs.One.{answer-one, tried-one, ran-one}
-use Rattle.model.specs.Floor.{size}
 use Rattle.model.specs.Checks.{floorOf, sizes, pathRoom, settings}
-use Rattle.model.specs.Decision.{atGoal, Deed, rise, forward, backOut, stay, act, laid, outcomeOf, decide}
+use Rattle.model.specs.Decision.{atGoal, act, decide}
 use Rattle.model.specs.Opening.{openJob, openTrial, openRun}
-use Rattle.model.specs.Ride.{Ride, begun, next, rideFrom, learningJob, bound, report, ride, trial, Course, courseFrom, run}
-use Rattle.model.proofs.Moves.{is-true, free-below}
-use Rattle.model.proofs.Accepted.{fails, then-done, then-next, reports-judges, trials-judges}
-use Rattle.model.proofs.Openings.{Held, Ready, opened, ready, accepted-trial, ready-run}
-use Rattle.model.proofs.Meaning.{net, goal-is, goal-means}
-use Rattle.model.proofs.Cases.{act-arrived, decide-acts}
-use Rattle.model.proofs.Steps.{asState, newHere, Says, went, backed, stayed, act-forward, act-back, act-stay}
-use Rattle.model.proofs.Rides.{Riding, riding-begun, riding-from, keeps, room as room-for, judges, does, decisions-low, ride-there, ride-on, ready-after, course-settled, course-again}
+use Rattle.model.specs.Ride.{Ride, begun, next, rideFrom, report, ride, trial, Course, courseFrom, run}
+use Rattle.model.proofs.Accepted.{then-done, then-next, reports-judges, trials-judges}
+use Rattle.model.proofs.Openings.{Ready, opened, ready, accepted-trial, ready-run}
+use Rattle.model.proofs.Meaning.{net, goal-means}
+use Rattle.model.proofs.Cases.{act-arrived}
+use Rattle.model.proofs.Rides.{ready-after, course-settled, course-again}
 use Rattle.model.proofs.Driven.{Drives, Names, Moved, decide-drives, trial-drives, trial-drives-to-the-bench}
 use Rattle.model.proofs.Demand.{K, R, can, trueOf, distance, bound-is, made-is-accepted, trial-is-made, trial-is-promised, made-run-is-accepted, run-is-made}
-use Rattle.model.proofs.Demand.{no-figure-falls-in-a-run, no-figure-passes-truth-in-a-run}
+use Rattle.model.proofs.Demand.{no-figure-falls-in-a-trial, no-figure-passes-truth-in-a-trial, no-figure-falls-in-a-run, no-figure-passes-truth-in-a-run}
 use Rattle.model.proofs.Demand.{no-figure-falls-in-a-decision, no-figure-passes-truth-in-a-decision, decision-stays-accepted}
 use Rattle.decision.specs.Ready.{Decides}
 use Rattle.run.specs.Trials.{IsTrial, IsRun}
+use Rattle.learner.proofs.Deciding.{handed, after, few, at-bench, whole, acts, arrives, goes, goes-on, hands}
 
 -- ---- "Take any accepted job with weight p/q."
 
@@ -206,16 +201,9 @@ module _ (j : Job) (bytes : List ℕ) (s : State) (table path moves : List ℕ) 
       let (to, moved) = decide-drives j bytes s table path moves from target n (subst (λ a. Names a target n) (answer-one (r .answer) (o .answer) (h .answer)) k) in
       (ap (λ s. s .current) (h .state) ∙ to, subst (Moved (floorOf j bytes) (s .current) target n (act j bytes s table path .cost) from moves) (sym (h .moves)) moved)
 
--- the moves that an answer hands out: as many as it says, from the place named on
-abbrev pub handed : Answer → (from : ℕ) → (moves : List ℕ) → List ℕ
-handed A.Arrived from moves = []
-handed (A.Forward target rise n) from moves = take n (drop from moves)
-handed (A.BackedOut target rise n) from moves = take n (drop from moves)
-handed (A.Stayed rise) from moves = []
-handed (A.Refused r) from moves = []
-
 -- Decisions by the public call, one after another: the first at the start with nothing learned and an empty path, each further one from the state and the lists that
--- the one before it left. Each has 288 places for its moves, and none has answered that it has arrived: n of them, all moves that they handed out, and where they lead.
+-- the one before it left. Each has 288 places for its moves, and none has answered that it has arrived: n of them, all moves that they handed out (`handed`), and
+-- where they lead.
 pub data Decisions (j : Job) (bytes : List ℕ) (start : ℕ) (table path : List ℕ) : (n : ℕ) → (moved : List ℕ) → State → (t p : List ℕ) → Type 0 where
   none : Decisions j bytes start table path 0 [] (begun start table path .state) table path
   another : {n : ℕ} {s : State} {r : Decided} {moved t p t′ p′ m′ : List ℕ} → Decisions j bytes start table path n moved s t p
@@ -249,174 +237,99 @@ pub record OnTheWay (j : Job) (bytes : List ℕ) (start : ℕ) (table path : Lis
   pub path-is : p ≡ rideFrom j bytes n (begun start table path) .path
   -- the moves handed out drive the cart from the start to where it stands
   pub drives : Drives (floorOf j bytes) start moved (s .current) (rideFrom j bytes n (begun start table path) .travel)
+  -- no figure fell or passed the truth
+  pub figures : Figures j bytes table t
   -- and the next call goes on
   pub goes-on : (moves : List ℕ) (from : ℕ) → from + 288 ≤ length moves → (r : Decided) (t′ p′ m′ : List ℕ) → Decides (decide j bytes s t p moves from) r t′ p′ m′
       → GoesOn j bytes start table path n moved s r t′ p′
 
--- what a trial's decision hands out is its way, laid into the lent list
-laid-hands : (moves : List ℕ) (from : ℕ) (way : List ℕ) → from ≤ length moves → take (length way) (drop from (laid moves from way)) ≡ way
-laid-hands moves from way h =
-    ap (take (length way)) (drop-at (take from moves) (way ++ drop (from + length way) moves) from (length-take-le from moves h)) ∙ take-at way (drop (from + length way) moves) (length way) refl
-
-module _ (j : Job) (bytes : List ℕ) (H : Held j bytes) {start : ℕ} (s : State) (table path : List ℕ) (k : Keeps (learningJob j bytes) start (asState s table path))
-    (room : size (floorOf j bytes) ≤ length path) (aside : atGoal j bytes (s .current) ≡ false) (moves : List ℕ) (from : ℕ) (h : from ≤ length moves) where
-  deed-hands : handed (act j bytes s table path .answer) from (laid moves from (act j bytes s table path .way)) ≡ act j bytes s table path .way
-  unfolding forward backOut stay
-  deed-hands = by (decLe (s .learned + rise table (s .current) (newHere j bytes s table)) (j .q * j .quota)) (decLe 1 (s .length))
-    where
-      Hands : Deed → Type 0
-      Hands d = handed (d .answer) from (laid moves from (d .way)) ≡ d .way
-
-      by : Dec (s .learned + rise table (s .current) (newHere j bytes s table) ≤ j .q * j .quota) → Dec (1 ≤ s .length) → Hands (act j bytes s table path)
-      by (yes g) l = subst Hands (sym (act-forward j bytes H s table path k room aside g)) (laid-hands moves from _ h)
-      by (no g) (yes l) = subst Hands (sym (act-back j bytes H s table path k room aside (omega arith) l)) (laid-hands moves from _ h)
-      by (no g) (no l) = subst Hands (sym (act-stay j bytes H s table path k room aside (omega arith) (omega arith))) refl
-
--- rides one after another are one ride
-ride-add : (j : Job) (bytes : List ℕ) (n k : ℕ) (r : Ride) → rideFrom j bytes (n + k) r ≡ rideFrom j bytes k (rideFrom j bytes n r)
-unfolding rideFrom
-ride-add j bytes zero k r = let same : 0 + k ≡ k = omega arith in ap (λ m. rideFrom j bytes m r) same
-ride-add j bytes (suc n) k r = by (atGoal j bytes (r .state .current)) refl (ride-add j bytes n k)
-  where
-    more : suc n + k ≡ suc (n + k)
-    more = omega arith
-
-    by : (b : Bool) → atGoal j bytes (r .state .current) ≡ b → ((q : Ride) → rideFrom j bytes (n + k) q ≡ rideFrom j bytes k (rideFrom j bytes n q))
-        → rideFrom j bytes (suc n + k) r ≡ rideFrom j bytes k (rideFrom j bytes (suc n) r)
-    by true e h = ride-there j bytes (suc n + k) r e ∙ sym (ap (rideFrom j bytes k) (ride-there j bytes (suc n) r e) ∙ ride-there j bytes k r e)
-    by false e h = ap (λ m. rideFrom j bytes m r) more ∙ ride-on j bytes (n + k) r e ∙ h (next j bytes r) ∙ sym (ap (rideFrom j bytes k) (ride-on j bytes n r e))
-
+-- a call made where the ride stands
 module _ (j : Job) (bytes : List ℕ) (start : ℕ) (table path : List ℕ) (a : Accepted j bytes start table path) where
   accepted : Ready j bytes start table path
   accepted = ready j bytes start table path (accepted-opens a)
 
-  -- the ride after n decisions
-  abbrev after : ℕ → Ride
-  after n = rideFrom j bytes n (begun start table path)
+  abbrev stands : ℕ → Ride
+  stands n = after j bytes start table path n
 
-  riding : (n : ℕ) → Riding j bytes start table path (after n)
-  riding n = riding-from j bytes start table path accepted n (begun start table path) (riding-begun j bytes start table path accepted)
-
-  there : (n : ℕ) → after n .state .current ≡ j .goal → atGoal j bytes (after n .state .current) ≡ true
-  there n h = ap (atGoal j bytes) h ∙ is-true _ (goal-is (floorOf j bytes) (j .goal) (free-below (floorOf j bytes) (j .goal) (accepted .opened .held .bench)))
-
-  low : (n : ℕ) → after n .decisions < K j bytes * (R j bytes table + 1)
-  low n = subst (λ b. after n .decisions < b) (bound-is j bytes table) (decisions-low j bytes start table path accepted (riding n))
-
-  -- where a ride that has made n decisions is at the bench, it is the whole
-  whole : (n : ℕ) → after n .decisions ≡ n → atGoal j bytes (after n .state .current) ≡ true → after n ≡ ride j bytes start table path
-  unfolding ride
-  whole n count g =
-      let k = bound j bytes table - n in
-      let enough : n + k ≡ bound j bytes table = omega (arith, decisions-low j bytes start table path accepted (riding n)) in
-      sym (ap after (sym enough) ∙ ride-add j bytes n k (begun start table path) ∙ ride-there j bytes k (after n) g)
-
-  -- a call made where the ride stands is let through, so it answers and leaves what the ride's next decision does
-  module _ (n : ℕ) (moves : List ℕ) (from : ℕ) (room : from + 288 ≤ length moves) (r : Decided) (t p m : List ℕ)
-      (h : Decides (decide j bytes (after n .state) (after n .table) (after n .path) moves from) r t p m) where
-    abbrev d : Deed
-    d = act j bytes (after n .state) (after n .table) (after n .path)
-
-    acts : decide j bytes (after n .state) (after n .table) (after n .path) moves from ≡ outcomeOf Vd.Done d (after n .state) (after n .table) (after n .path) moves from
-    acts = decide-acts j bytes (after n .state) (after n .table) (after n .path) moves from (judges j bytes start table path accepted (riding n) (length moves) from room)
-
-    answers : r .answer ≡ d .answer
-    answers = answer-one (r .answer) _ (h .answer) ∙ ap (λ o. o .answer) acts
-
-    goes : atGoal j bytes (after n .state .current) ≡ false → Says d
-    goes g = does j bytes start table path accepted (riding n) g .says
-
-    went-on : Says d → ((x : Refusal) → r .answer ≡ A.Refused x → ⊥) × (r .answer ≡ A.Arrived → ⊥)
-    went-on (went k) = (λ x q. let z : _≡_ {A = ℕ} 0 1 = cc (answers) in omega arith, λ q. let z : _≡_ {A = ℕ} 0 1 = cc (answers) in omega arith)
-    went-on (backed k) = (λ x q. let z : _≡_ {A = ℕ} 0 1 = cc (answers) in omega arith, λ q. let z : _≡_ {A = ℕ} 0 1 = cc (answers) in omega arith)
-    went-on (stayed k) = (λ x q. let z : _≡_ {A = ℕ} 0 1 = cc (answers) in omega arith, λ q. let z : _≡_ {A = ℕ} 0 1 = cc (answers) in omega arith)
-
-    call : after n .decisions ≡ n → GoesOn j bytes start table path n (after n .moves) (after n .state) r t p
-    call count = by (atGoal j bytes (after n .state .current)) refl
-      where
-        by : (b : Bool) → atGoal j bytes (after n .state .current) ≡ b → GoesOn j bytes start table path n (after n .moves) (after n .state) r t p
-        by false g =
-            let (not-refused, not-arrived) = went-on (goes g) in
-            record {
-              let-through = not-refused;
-              at-the-bench = λ q. let z : _≡_ {A = ℕ} 0 1 = cc (there n q) in absurd (omega arith);
-              nowhere-else = λ q. absurd (not-arrived q);
-              made = λ q. absurd (not-arrived q);
-            }
-        by true g =
-            let still = act-arrived j bytes (after n .state) (after n .table) (after n .path) g in
-            let all = whole n count g in
-            record {
-              let-through = λ x q. let e = answers ∙ ap (λ d. d .answer) still in let z : _≡_ {A = ℕ} 0 1 = cc in omega arith;
-              at-the-bench = λ q. answers ∙ ap (λ d. d .answer) still;
-              nowhere-else = λ q. goal-means (floorOf j bytes) (j .goal) _ (subst T (sym g) tt);
-              made = λ q. record {
-                decisions = sym count ∙ ap (λ r. r .decisions) all;
-                table-is = h .table ∙ ap (λ o. o .table) acts ∙ ap (λ d. d .table) still ∙ ap (λ r. r .table) all;
-                path-is = h .path ∙ ap (λ o. o .path) acts ∙ ap (λ d. d .path) still ∙ ap (λ r. r .path) all;
-                moves-are = ap (λ r. r .moves) all;
-                drives = subst (λ ms. Drives (floorOf j bytes) start ms (j .goal) (ride j bytes start table path .travel)) (sym (ap (λ r. r .moves) all))
-                    (trial-drives-to-the-bench j bytes start table path (accepted-opens a));
-              };
-            }
-
-    -- one that does not answer that it has arrived is the ride's next decision, and hands out its moves
-    module _ (not : r .answer ≡ A.Arrived → ⊥) where
-      aside : atGoal j bytes (after n .state .current) ≡ false
-      aside = fails (atGoal j bytes (after n .state .current)) (λ g. not (answers ∙ ap (λ d. d .answer) (act-arrived j bytes (after n .state) (after n .table) (after n .path) g)))
-
-      on : after (suc n) ≡ next j bytes (after n)
-      unfolding rideFrom
-      on = ap after (sym (add-one n)) ∙ ride-add j bytes n 1 (begun start table path) ∙ ride-on j bytes 0 (after n) aside
-
-      hands : handed (r .answer) from m ≡ d .way
-      hands =
-          ap₂ (λ a ms. handed a from ms) answers (h .moves ∙ ap (λ o. o .moves) acts)
-          ∙ deed-hands j bytes (accepted .opened .held) (after n .state) (after n .table) (after n .path) (keeps j bytes start table path accepted (riding n))
-          (room-for j bytes start table path accepted (riding n)) aside moves from (omega (arith, room))
+  call : (n : ℕ) → stands n .decisions ≡ n → (moves : List ℕ) (from : ℕ) → from + 288 ≤ length moves → {r : Decided} {t p m : List ℕ}
+      → Decides (decide j bytes (stands n .state) (stands n .table) (stands n .path) moves from) r t p m → GoesOn j bytes start table path n (stands n .moves) (stands n .state) r t p
+  call n count moves from room {r} {t} {p} h = by (atGoal j bytes (stands n .state .current)) refl
+    where
+      by : (b : Bool) → atGoal j bytes (stands n .state .current) ≡ b → GoesOn j bytes start table path n (stands n .moves) (stands n .state) r t p
+      by false g =
+          let (not-refused, not-arrived) = goes j bytes start table path accepted n moves from room h g in
+          record {
+            let-through = not-refused;
+            at-the-bench = λ q. let z : _≡_ {A = ℕ} 0 1 = cc (at-bench j bytes start table path accepted n q) in absurd (omega arith);
+            nowhere-else = λ q. absurd (not-arrived q);
+            made = λ q. absurd (not-arrived q);
+          }
+      by true g =
+          let arrived = arrives j bytes start table path accepted n moves from room h g in
+          let c = acts j bytes start table path accepted n moves from room h in
+          let still = act-arrived j bytes (stands n .state) (stands n .table) (stands n .path) g in
+          let all = whole j bytes start table path accepted n count g in
+          record {
+            let-through = λ x q. let z : _≡_ {A = ℕ} 0 1 = cc in omega arith;
+            at-the-bench = λ q. arrived;
+            nowhere-else = λ q. goal-means (floorOf j bytes) (j .goal) _ (subst T (sym g) tt);
+            made = λ q. record {
+              decisions = sym count ∙ ap (λ r. r .decisions) all;
+              table-is = c .table ∙ ap (λ d. d .table) still ∙ ap (λ r. r .table) all;
+              path-is = c .path ∙ ap (λ d. d .path) still ∙ ap (λ r. r .path) all;
+              moves-are = ap (λ r. r .moves) all;
+              drives = subst (λ ms. Drives (floorOf j bytes) start ms (j .goal) (ride j bytes start table path .travel)) (sym (ap (λ r. r .moves) all))
+                  (trial-drives-to-the-bench j bytes start table path (accepted-opens a));
+            };
+          }
 
   -- the same call, where the state and the lists are the ride's
-  at-ride : (n from : ℕ) (moves : List ℕ) {s : State} {r : Decided} {t p t′ p′ m′ : List ℕ} → s ≡ after n .state → t ≡ after n .table → p ≡ after n .path
-      → Decides (decide j bytes s t p moves from) r t′ p′ m′ → Decides (decide j bytes (after n .state) (after n .table) (after n .path) moves from) r t′ p′ m′
+  at-ride : (n from : ℕ) (moves : List ℕ) {s : State} {r : Decided} {t p t′ p′ m′ : List ℕ} → s ≡ stands n .state → t ≡ stands n .table → p ≡ stands n .path
+      → Decides (decide j bytes s t p moves from) r t′ p′ m′ → Decides (decide j bytes (stands n .state) (stands n .table) (stands n .path) moves from) r t′ p′ m′
   at-ride n from moves {s} {r} {t} {p} {t′} {p′} {m′} es et ep h =
-      subst (λ p. Decides (decide j bytes (after n .state) (after n .table) p moves from) r t′ p′ m′) ep
-      (subst (λ t. Decides (decide j bytes (after n .state) t p moves from) r t′ p′ m′) et (subst (λ s. Decides (decide j bytes s t p moves from) r t′ p′ m′) es h))
+      subst (λ p. Decides (decide j bytes (stands n .state) (stands n .table) p moves from) r t′ p′ m′) ep
+      (subst (λ t. Decides (decide j bytes (stands n .state) t p moves from) r t′ p′ m′) et (subst (λ s. Decides (decide j bytes s t p moves from) r t′ p′ m′) es h))
 
   -- so n decisions lead where the ride stands after n
   record Along (n : ℕ) (moved : List ℕ) (s : State) (t p : List ℕ) : Type 0 where
-    count : after n .decisions ≡ n
-    moves-are : moved ≡ after n .moves
-    state-is : s ≡ after n .state
-    table-is : t ≡ after n .table
-    path-is : p ≡ after n .path
+    count : stands n .decisions ≡ n
+    moves-are : moved ≡ stands n .moves
+    state-is : s ≡ stands n .state
+    table-is : t ≡ stands n .table
+    path-is : p ≡ stands n .path
 
   along : {n : ℕ} {moved : List ℕ} {s : State} {t p : List ℕ} → Decisions j bytes start table path n moved s t p → Along n moved s t p
   unfolding rideFrom next
   along none = record { count = refl; moves-are = refl; state-is = refl; table-is = refl; path-is = refl }
-  along (another {n = n} {r = r} {t′ = t′} {p′ = p′} {m′ = m′} k moves from room h not) =
+  along (another {n = n} k moves from room h not) =
       let o = along k in
       let c = at-ride n from moves (o .state-is) (o .table-is) (o .path-is) h in
-      let e = on n moves from room r t′ p′ m′ c not in
-      let acted = acts n moves from room r t′ p′ m′ c in
+      let e = goes-on j bytes start table path accepted n moves from room c not in
+      let d = acts j bytes start table path accepted n moves from room c in
       record {
         count = ap (λ r. r .decisions) e ∙ ap suc (o .count);
-        moves-are = ap₂ _++_ (o .moves-are) (hands n moves from room r t′ p′ m′ c not) ∙ sym (ap (λ r. r .moves) e);
-        state-is = c .state ∙ ap (λ o. o .state) acted ∙ sym (ap (λ r. r .state) e);
-        table-is = c .table ∙ ap (λ o. o .table) acted ∙ sym (ap (λ r. r .table) e);
-        path-is = c .path ∙ ap (λ o. o .path) acted ∙ sym (ap (λ r. r .path) e);
+        moves-are = ap₂ _++_ (o .moves-are) (hands j bytes start table path accepted n moves from room c not) ∙ sym (ap (λ r. r .moves) e);
+        state-is = d .state ∙ sym (ap (λ r. r .state) e);
+        table-is = d .table ∙ sym (ap (λ r. r .table) e);
+        path-is = d .path ∙ sym (ap (λ r. r .path) e);
       }
 
   pub decisions-arrive : {n : ℕ} {moved : List ℕ} {s : State} {t p : List ℕ} → Decisions j bytes start table path n moved s t p → OnTheWay j bytes start table path n moved s t p
   decisions-arrive {n} {moved} {s} k =
       let o = along k in
       record {
-        few = subst (λ i. i < K j bytes * (R j bytes table + 1)) (o .count) (low n);
+        few = subst₂ _<_ (o .count) (bound-is j bytes table) (few j bytes start table path accepted n);
         state-is = o .state-is;
         table-is = o .table-is;
         path-is = o .path-is;
-        drives = subst₂ (λ ms s. Drives (floorOf j bytes) start ms (s .current) (after n .travel)) (sym (o .moves-are)) (sym (o .state-is))
+        drives = subst₂ (λ ms s. Drives (floorOf j bytes) start ms (s .current) (stands n .travel)) (sym (o .moves-are)) (sym (o .state-is))
             (trial-drives j bytes start table path (accepted-opens a) n);
+        figures = subst (Figures j bytes table) (sym (o .table-is))
+            (record {
+              falls-not = no-figure-falls-in-a-trial j bytes start table path n;
+              passes-not = no-figure-passes-truth-in-a-trial j bytes start table path (accepted-opens a) n;
+            });
         goes-on = λ moves from room r t′ p′ m′ h.
             subst₂ (λ ms s. GoesOn j bytes start table path n ms s r t′ p′) (sym (o .moves-are)) (sym (o .state-is))
-            (call n moves from room r t′ p′ m′ (at-ride n from moves (o .state-is) (o .table-is) (o .path-is) h) (o .count));
+            (call n (o .count) moves from room (at-ride n from moves (o .state-is) (o .table-is) (o .path-is) h));
       }
