@@ -29,12 +29,13 @@ use Rattle.model.specs.Floor.{size}
 use Rattle.model.specs.Checks.{floorOf, groundIn}
 use Rattle.model.specs.Opening.{distances, reaches, trueFigure, soundness, openJob, openTrial, openRun}
 use Rattle.model.specs.Decision.{atGoal, decide}
-use Rattle.model.specs.Ride.{Ride, begun, rideFrom, learningJob, bound, ride, kept, report, trialOf, trial, courseFrom, filedIn, runOf, run}
-use Rattle.model.proofs.Meaning.{goal-means}
+use Rattle.model.specs.Ride.{Ride, begun, rideFrom, learningJob, bound, ride, kept, report, trialOf, trial, Course, courseFrom, filedIn, runOf, run}
 use Rattle.model.proofs.Openings.{opened, accepted, ready, accepted-trial, ready-run}
 use Rattle.model.proofs.Refusals.{job-refused, trial-refused, run-refused}
 use Rattle.model.proofs.Soundness.{Above, reaches-means, six-means, seven-means}
-use Rattle.model.proofs.Rides.{riding-begun, riding-from, ride-riding, ride-arrives, decisions-low, keeps, ready-after, Rides, over, trip, course-rides}
+use Rattle.model.proofs.Rides.{riding-begun, riding-from, ride-riding, decisions-low, keeps, ready-after, Rides, over, trip, course-rides}
+use Rattle.model.proofs.Driven.{Drives, trial-ends-at-the-bench, trial-drives-to-the-bench}
+use Rattle.model.proofs.KeptWay.{KeptWay, trial-keeps-a-way}
 use Rattle.model.proofs.Tables.{act-high, act-opened, decide-table, ride-high, course-high, course-ready}
 
 -- ---- the mission's words
@@ -114,6 +115,19 @@ pub run-is-made : (j : Job) (bytes : List ℕ) (start trials : ℕ) (table path 
 unfolding run
 run-is-made j bytes start trials table path reports e = ap (λ v. runOf v j bytes (courseFrom j bytes start trials table path) table path reports) e
 
+pub made-run-is-accepted : (j : Job) (bytes : List ℕ) (start trials : ℕ) (table path : List ℕ) (reports : List Report) (n : ℕ) (b : Bool)
+    → run j bytes start trials table path reports .answer ≡ Rn.Made n b
+    → (openRun j bytes start table path trials (length reports) ≡ Vd.Done) × (length (courseFrom j bytes start trials table path .rides) ≡ n)
+unfolding run
+made-run-is-accepted j bytes start trials table path reports n b = by (openRun j bytes start table path trials (length reports))
+  where
+    c : Course
+    c = courseFrom j bytes start trials table path
+
+    by : (v : Verdict) → runOf v j bytes c table path reports .answer ≡ Rn.Made n b → (v ≡ Vd.Done) × (length (c .rides) ≡ n)
+    by Vd.Done e = let f : length (c .rides) ≡ n = cc in (refl, f)
+    by (Vd.Refused q) e = let z : _≡_ {A = ℕ} 0 1 = cc in absurd (omega arith)
+
 -- each of its rides is an accepted trial
 pub run-trials-are-accepted : (j : Job) (bytes : List ℕ) (start trials : ℕ) (table path : List ℕ) (records : ℕ) → openRun j bytes start table path trials records ≡ Vd.Done
     → Rides j bytes start table path (courseFrom j bytes start trials table path .rides)
@@ -176,7 +190,7 @@ module _ (j : Job) (bytes : List ℕ) (start : ℕ) (table path : List ℕ) (e :
   pub trial-reaches-the-bench : (ride j bytes start table path .state .current ≡ j .goal) × (ride j bytes start table path .decisions < K j bytes * (R j bytes table + 1))
   trial-reaches-the-bench =
       let A = ready j bytes start table path e in (
-        goal-means (floorOf j bytes) (j .goal) _ (subst T (sym (ride-arrives j bytes start table path A)) tt),
+        trial-ends-at-the-bench j bytes start table path e,
         subst (λ b. ride j bytes start table path .decisions < b) (bound-is j bytes table) (decisions-low j bytes start table path A (ride-riding j bytes start table path A)),
       )
 
@@ -208,6 +222,9 @@ pub record Promised (j : Job) (bytes : List ℕ) (start : ℕ) (table path : Lis
   pub decisions : r .decisions < K j bytes * (R j bytes table + 1)
   pub kept-way : j .p * kept j bytes r ≤ j .q * (distance j bytes start + j .quota)
   pub learning-nothing : r .learned ≡ 0 → j .p * r .travel ≤ j .q * distance j bytes start
+  -- what is kept and travelled: the kept cost is that of the path from the start to the bench, and the travel that of the moves, all counted
+  pub keeps-a-way : KeptWay j bytes start r
+  pub drives : Drives (floorOf j bytes) start (r .moves) (j .goal) (r .travel)
 
 -- of trials one after another, each from the lists that the one before it left
 pub data EachPromised (j : Job) (bytes : List ℕ) (start : ℕ) : List ℕ → List ℕ → List Ride → Type 0 where
@@ -225,15 +242,17 @@ trial-is-promised j bytes start table path e = record {
   decisions = trial-reaches-the-bench j bytes start table path e .1;
   kept-way = kept-way-costs-at-most j bytes start table path e;
   learning-nothing = trial-that-learns-nothing-travels-at-most j bytes start table path e;
+  keeps-a-way = trial-keeps-a-way j bytes start table path e;
+  drives = trial-drives-to-the-bench j bytes start table path e;
 }
 
-each : (j : Job) (bytes : List ℕ) (start : ℕ) {table path : List ℕ} {rs : List Ride} → Rides j bytes start table path rs → EachPromised j bytes start table path rs
-each j bytes start over = no-more
-each j bytes start (trip {table = table} {path = path} e more) = and-then (trial-is-promised j bytes start table path e) (each j bytes start more)
+pub rides-are-promised : (j : Job) (bytes : List ℕ) (start : ℕ) {table path : List ℕ} {rs : List Ride} → Rides j bytes start table path rs → EachPromised j bytes start table path rs
+rides-are-promised j bytes start over = no-more
+rides-are-promised j bytes start (trip {table = table} {path = path} e more) = and-then (trial-is-promised j bytes start table path e) (rides-are-promised j bytes start more)
 
 pub run-trials-are-promised : (j : Job) (bytes : List ℕ) (start trials : ℕ) (table path : List ℕ) (records : ℕ) → openRun j bytes start table path trials records ≡ Vd.Done
     → EachPromised j bytes start table path (courseFrom j bytes start trials table path .rides)
-run-trials-are-promised j bytes start trials table path records e = each j bytes start (run-trials-are-accepted j bytes start trials table path records e)
+run-trials-are-promised j bytes start trials table path records e = rides-are-promised j bytes start (run-trials-are-accepted j bytes start trials table path records e)
 
 -- ---- "A refusal for "no way" is given at opening only when no way exists,
 

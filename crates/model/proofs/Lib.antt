@@ -19,11 +19,15 @@ pub mod Steps
 pub mod Judged
 pub mod Rides
 pub mod Tables
+-- A decision's moves drive the cart, and so do a trial's; the way kept is a walk.
+pub mod Driven
+pub mod KeptWay
 -- Demand 3 of the mission, sentence by sentence.
 pub mod Demand
 -- The table file: its checks and its records; the round trip of demand 2.
 pub mod Files
 pub mod Records
 pub mod RoundTrip
--- The program `aisle`: which of its input's bytes decide.
+-- The program `aisle`: which of its input's bytes decide, and what its trial lines tell.
 pub mod Cut
+pub mod Printed

@@ -1,9 +1,8 @@
 -- Lending, LendingPart: lists lent on to a call, for the walks by hand. Course: a run between two trials. Legs: what a path's legs cost.
--- Driving: a trial's decisions. Counting: records as numbers. Promises: what a caller may conclude from the contracts.
+-- Driving: a trial's decisions. Counting: records as numbers.
 pub mod Lending
 pub mod LendingPart
 pub mod Course
 pub mod Legs
 pub mod Driving
 pub mod Counting
-pub mod Promises
