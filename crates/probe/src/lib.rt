@@ -68,15 +68,7 @@ pub extern "C" fn probe_open(
     floor: &[u8],
     table: &[u32],
 ) -> usize {
-    let job = Job {
-        width: width,
-        height: height,
-        goal: goal,
-        depth: 1,
-        p: 1,
-        q: q,
-        quota: 0,
-    };
+    let job = job_of(width, height, goal, 1, 1, q, 0);
     number(opening::open(job, floor, start, table))
 }
 
@@ -111,13 +103,33 @@ pub extern "C" fn probe_write(
     }
 }
 
+fn job_of(
+    width: usize,
+    height: usize,
+    goal: usize,
+    depth: usize,
+    p: usize,
+    q: usize,
+    quota: usize,
+) -> Job {
+    Job {
+        width: width,
+        height: height,
+        goal: goal,
+        depth: depth,
+        p: p,
+        q: q,
+        quota: quota,
+    }
+}
+
 // Nothing: what a call costs that does nothing.
 #[no_mangle]
 pub extern "C" fn probe_nothing() -> usize {
     0
 }
 
-// Where a decision from the start of a trial leaves the cart.
+// The cell where a decision leaves the cart.
 #[no_mangle]
 pub extern "C" fn probe_decide(
     width: usize,
@@ -135,15 +147,7 @@ pub extern "C" fn probe_decide(
     path: &mut [u16],
     moves: &mut [u8],
 ) -> usize {
-    let job = Job {
-        width: width,
-        height: height,
-        goal: goal,
-        depth: depth,
-        p: p,
-        q: q,
-        quota: quota,
-    };
+    let job = job_of(width, height, goal, depth, p, q, quota);
     let state = State {
         current: current,
         learned: learned,
@@ -169,15 +173,7 @@ pub extern "C" fn probe_trial(
     table: &mut [u32],
     path: &mut [u16],
 ) -> usize {
-    let job = Job {
-        width: width,
-        height: height,
-        goal: goal,
-        depth: depth,
-        p: p,
-        q: q,
-        quota: quota,
-    };
+    let job = job_of(width, height, goal, depth, p, q, quota);
     match run::trial(job, floor, start, table, path) {
         Tried::Made(r) => r.decisions as usize,
         Tried::Refused(_) => 0,
@@ -204,15 +200,7 @@ pub extern "C" fn probe_run(
 ) -> usize
     requires { ⌜ Counted n (now counts) ⌝ }
 {
-    let job = Job {
-        width: width,
-        height: height,
-        goal: goal,
-        depth: depth,
-        p: p,
-        q: q,
-        quota: quota,
-    };
+    let job = job_of(width, height, goal, depth, p, q, quota);
     match run::run_counts(job, floor, start, trials, table, path, counts, n) {
         Ran::Made { trials, settled } => trials,
         Ran::Refused(_) => 0,
