@@ -1,9 +1,14 @@
-// What the benches measure, for a caller in another language, on plain numbers and lists: a lookahead, an opening, a table read and written.
+// What the benches measure, for a caller in another language, on plain numbers and lists: a lookahead, and each public call.
 ghost use Prim.Native.Nat.{_≤_};
 ghost use lib.ListN.{length};
 ghost use Rattle.lookahead.specs.Contract.{Asked, Fresh, Figures};
+ghost use Rattle.run.specs.Numbers.{Counted};
 ghost use Rattle.probe.specs.Plain.{plain};
+use answers::FloorRead;
 use answers::Job;
+use answers::Ran;
+use answers::State;
+use answers::Tried;
 use answers::Verdict;
 use answers::Written;
 use lookahead::Around;
@@ -63,15 +68,7 @@ pub extern "C" fn probe_open(
     floor: &[u8],
     table: &[u32],
 ) -> usize {
-    let job = Job {
-        width: width,
-        height: height,
-        goal: goal,
-        depth: 1,
-        p: 1,
-        q: q,
-        quota: 0,
-    };
+    let job = job_of(width, height, goal, 1, 1, q, 0);
     number(opening::open(job, floor, start, table))
 }
 
@@ -104,6 +101,145 @@ pub extern "C" fn probe_write(
         Written::Length(n) => n,
         Written::Refused(_) => 0,
     }
+}
+
+fn job_of(
+    width: usize,
+    height: usize,
+    goal: usize,
+    depth: usize,
+    p: usize,
+    q: usize,
+    quota: usize,
+) -> Job {
+    Job {
+        width: width,
+        height: height,
+        goal: goal,
+        depth: depth,
+        p: p,
+        q: q,
+        quota: quota,
+    }
+}
+
+// Nothing: what a call costs that does nothing.
+#[no_mangle]
+pub extern "C" fn probe_nothing() -> usize {
+    0
+}
+
+// The cell where a decision leaves the cart.
+#[no_mangle]
+pub extern "C" fn probe_decide(
+    width: usize,
+    height: usize,
+    current: usize,
+    learned: usize,
+    length: usize,
+    goal: usize,
+    depth: usize,
+    p: usize,
+    q: usize,
+    quota: usize,
+    floor: &[u8],
+    table: &mut [u32],
+    path: &mut [u16],
+    moves: &mut [u8],
+) -> usize {
+    let job = job_of(width, height, goal, depth, p, q, quota);
+    let state = State {
+        current: current,
+        learned: learned,
+        length: length,
+    };
+    let d = decision::decide(job, floor, state, table, path, moves, 0);
+    let after = d.state;
+    after.current
+}
+
+// The decisions of a trial; 0 where it is refused.
+#[no_mangle]
+pub extern "C" fn probe_trial(
+    width: usize,
+    height: usize,
+    start: usize,
+    goal: usize,
+    depth: usize,
+    p: usize,
+    q: usize,
+    quota: usize,
+    floor: &[u8],
+    table: &mut [u32],
+    path: &mut [u16],
+) -> usize {
+    let job = job_of(width, height, goal, depth, p, q, quota);
+    match run::trial(job, floor, start, table, path) {
+        Tried::Made(r) => r.decisions as usize,
+        Tried::Refused(_) => 0,
+    }
+}
+
+// The trials of a run, its records as numbers, four for each; 0 where it is refused.
+#[no_mangle]
+pub extern "C" fn probe_run(
+    width: usize,
+    height: usize,
+    start: usize,
+    goal: usize,
+    depth: usize,
+    p: usize,
+    q: usize,
+    quota: usize,
+    trials: usize,
+    floor: &[u8],
+    table: &mut [u32],
+    path: &mut [u16],
+    counts: &mut [u64],
+    n: usize,
+) -> usize
+    requires { ⌜ Counted n (now counts) ⌝ }
+{
+    let job = job_of(width, height, goal, depth, p, q, quota);
+    match run::run_counts(job, floor, start, trials, table, path, counts, n) {
+        Ran::Made { trials, settled } => trials,
+        Ran::Refused(_) => 0,
+    }
+}
+
+// The width of a floor text; 0 where it is refused.
+#[no_mangle]
+pub extern "C" fn probe_floor(text: &[u8], buffer: &mut [u8]) -> usize {
+    match floor_text::read_floor(text, buffer) {
+        FloorRead::Sizes { width, height } => width,
+        FloorRead::Refused(_) => 0,
+    }
+}
+
+// How many bytes of a table file are records.
+#[no_mangle]
+pub extern "C" fn probe_find(file: &[u8]) -> usize {
+    let part = table_file::find_records(file);
+    part.len()
+}
+
+// The number that the trailer's check answers.
+#[no_mangle]
+pub extern "C" fn probe_trailer(file: &[u8]) -> usize {
+    number(table_file::check_trailer(file))
+}
+
+// The number that filling a table with opening figures answers.
+#[no_mangle]
+pub extern "C" fn probe_fill(
+    width: usize,
+    height: usize,
+    goal: usize,
+    q: usize,
+    floor: &[u8],
+    table: &mut [u32],
+) -> usize {
+    number(opening::fill_opening(width, height, goal, q, floor, table))
 }
 
 fn number(v: Verdict) -> usize {

@@ -7,12 +7,24 @@ use Rattle.lookahead.specs.Contract.{Window}
 use Rattle.probe.proofs.probe_plan.Statement.{statement}
 use Rattle.probe.proofs.probe_plan.Tie as tie
 
+-- from the matched window back to where the lists are known; six steps ahead of that is the start
+abbrev known : tie.After-last → tie.After-slice-known4
+known c =
+    let matched = c .before .before .before .before in
+    let look = matched .before .before .before .before in
+    look .before .before .before .before
+
 -- the window is worked out
 window : (c : tie.After-last) →
-    let a = c .before .before .before .before .before .before .before .before .before .before .before .before .before .before .before .before .before .before .args in
-    let z = c .before .before .before .before .before .before .before .before .look .last .1 .1 .1 .1 in
+    let matched = c .before .before .before .before in
+    let look = matched .before .before .before .before in
+    let lists = look .before .before .before .before in
+    let a = lists .before .before .before .before .before .before .args in
+    let z = look .look .last .1 .1 .1 .1 in
     Window (plain (a .width) (a .height) (a .goal) (a .depth) (a .p)) (a .floor .now) (a .s) (a .base) (z .0) (z .1 .0) (z .1 .1 .0) (c .last .given .0 .1 .0) (c .last .given .0 .0)
-window c = rw (c .last .given .1) at (c .before .before .before .before .before .before .before .before .look .ensures)
+window c =
+    let matched = c .before .before .before .before in
+    rw (c .last .given .1) at (matched .before .before .before .before .look .ensures)
 
 look-requires : tie.Need-look-requires
 look-requires c κs = search needs
@@ -21,10 +33,17 @@ enum-known-last : tie.Need-enum-known-last
 enum-known-last c = search needs
 
 aim-requires : tie.Need-aim-requires
-aim-requires c κs = let p = c .before .before .before .before .before .before .before .before .before .before .before .before .before .before .before .before .before .before .before .before .before .before .pre in (p .0, (window (c .before .before .before .before), p .1 .1 .0))
+aim-requires c κs =
+    let last = c .before .before .before .before in
+    let p = known last .before .before .before .before .before .before .pre in
+    (p .0, (window last, p .1 .1 .0))
 
 trace-requires : tie.Need-trace-requires
-trace-requires c κs = let p = c .before .before .before .before .before .before .before .before .before .before .before .before .before .before .before .before .before .before .before .before .before .before .before .before .before .before .pre in (p .0, (window (c .before .before .before .before .before .before .before .before) .view, (omega (arith, c .before .before .before .aim .ensures .on-last), p .1 .1 .1)))
+trace-requires c κs =
+    let aimed = c .before .before .before in
+    let last = aimed .before .before .before .before .before in
+    let p = known last .before .before .before .before .before .before .pre in
+    (p .0, (window last .view, (omega (arith, aimed .aim .ensures .on-last), p .1 .1 .1)))
 
 packed-requires : tie.Need-packed-requires
 packed-requires c κs = search needs
