@@ -22,7 +22,7 @@ use Rattle.answers.specs.declared.Answer.the-variants as A
 use Rattle.model.specs.Floor.{Floor, size, Sized, free, price, ahead, allowed, heading, opposite}
 use Rattle.model.specs.Grounds.{groundOf, price-same}
 use Rattle.model.specs.Checks.{ceiling, floorOf, goals, groundIn, sizes, pathRoom, settings, places, figures}
-use Rattle.model.specs.Lookahead.{seen, ring, w, emptyRing, target, route, movesAlong}
+use Rattle.model.specs.Lookahead.{seen, ring, w, emptyRing, target, route, movesAlong, mostMoves}
 use Rattle.model.specs.Decision.{atGoal, movesRoom, judge, Deed, unchanged, refused, rise, forward, backOut, stay, goBack, act, laid, Outcome, decide}
 use Rattle.model.specs.Opening.{openTrial}
 use Rattle.model.specs.Ride.{Ride, begun, next, rideFrom, bound, ride}
@@ -112,11 +112,11 @@ pub data Names : Answer → (target moves : ℕ) → Type 0 where
   forward-to : {t a n : ℕ} → Names (A.Forward t a n) t n
   back-to : {t a n : ℕ} → Names (A.BackedOut t a n) t n
 
--- what is said of a decision's moves: they drive the cart from where it stands to where it stands then, at the decision's cost; they are at most 11;
+-- what is said of a decision's moves: they drive the cart from where it stands to where it stands then, at the decision's cost; they are few;
 -- and the target and the number of moves that an answer names are theirs
 pub record Driven (j : Job) (bytes : List ℕ) (s : State) (d : Deed) : Type 0 where
   pub drives : Drives (floorOf j bytes) (s .current) (d .way) (d .state .current) (d .cost)
-  pub few : length (d .way) ≤ 11
+  pub few : length (d .way) ≤ mostMoves
   pub names : (t n : ℕ) → Names (d .answer) t n → (d .state .current ≡ t) × (length (d .way) ≡ n)
 
 module _ (j : Job) (bytes : List ℕ) (s : State) (table path : List ℕ) where
