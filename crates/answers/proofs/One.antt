@@ -34,7 +34,7 @@ answerAs : ℕ → Said → Answer
 answerAs zero s = A.Arrived
 answerAs (suc zero) s = A.Forward (nth s 0) (nth s 1) (nth s 2)
 answerAs (suc (suc zero)) s = A.BackedOut (nth s 0) (nth s 1) (nth s 2)
-answerAs (suc (suc (suc zero))) s = A.Stayed (nth s 0)
+answerAs (suc (suc (suc zero))) s = A.Stayed (nth s 1)
 answerAs (suc (suc (suc (suc k)))) s = A.Refused (refusal s)
 
 answer-back : (a : Answer) → answerAs (saysAnswer a .kind) (saysAnswer a) ≡ a
