@@ -1,4 +1,6 @@
--- The mission from what the public calls promise. Mission: demand 3, with Deciding below it. Refused: demand 1's last sentence. ReadBack: demand 2's.
+-- What follows from the promises of the public calls. One: everything that a call answers and leaves has one possible value.
+-- The mission. Mission: demand 3, with Deciding below it. Refused: demand 1's last sentence. ReadBack: demand 2's.
+pub mod One
 pub mod Deciding
 pub mod Mission
 pub mod Refused
