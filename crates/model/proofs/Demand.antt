@@ -2,8 +2,7 @@
 -- "Any accepted job" is the model's own acceptance: `openJob`, `openTrial` or `openRun` is done. Nothing else is assumed.
 -- What `distances`, `reaches` and the rest mean is proved in Meaning.
 use Prim.Native.Nat.{ℕ, suc, _+_, _-_, _*_, _/_, _≤_, _<_}
-use mathlib.Core.Path.{_≡_, refl, sym, ap, ap₂, subst}
-use mathlib.Core.Logic.{_⊎_, inl, inr}
+use mathlib.Core.Path.{_≡_, refl, sym, ap, ap₂, _∙_, subst}
 use mathlib.Core.Bool.{Bool, true, false}
 use mathlib.Core.List.{List, [], _∷_, map}
 use native.Mathlib.Nat.{le-refl, mul-add}
@@ -25,14 +24,17 @@ use Rattle.answers.specs.declared.Verdict.{Verdict}
 use Rattle.answers.specs.declared.Verdict.the-variants as Vd
 use Rattle.answers.specs.declared.Tried.the-variants as Td
 use Rattle.answers.specs.declared.Ran.the-variants as Rn
+use Rattle.model.specs.Basics.{refuseAt}
 use Rattle.model.specs.Floor.{size}
 use Rattle.model.specs.Checks.{floorOf, groundIn}
 use Rattle.model.specs.Opening.{distances, reaches, trueFigure, soundness, openJob, openTrial, openRun}
 use Rattle.model.specs.Decision.{atGoal, decide}
 use Rattle.model.specs.Ride.{Ride, begun, rideFrom, learningJob, bound, ride, kept, report, trialOf, trial, Course, courseFrom, filedIn, runOf, run}
 use Rattle.model.proofs.Openings.{opened, accepted, ready, accepted-trial, ready-run}
-use Rattle.model.proofs.Refusals.{job-refused, trial-refused, run-refused}
-use Rattle.model.proofs.Soundness.{Above, reaches-means, six-means, seven-means}
+use Rattle.model.proofs.Accepted.{never}
+use Rattle.model.proofs.Moves.{is-true}
+use Rattle.model.proofs.Refusals.{NothingLower, Ends, IsOpening, ends-with-soundness}
+use Rattle.model.proofs.Soundness.{Above, Lowest, reaches-of, reaches-means, six-is, six-means, seven-is, seven-means}
 use Rattle.model.proofs.Rides.{riding-begun, riding-from, ride-riding, decisions-low, keeps, ready-after, Rides, over, trip, course-rides}
 use Rattle.model.proofs.Driven.{Drives, trial-ends-at-the-bench, trial-drives-to-the-bench}
 use Rattle.model.proofs.KeptWay.{KeptWay, trial-keeps-a-way}
@@ -256,22 +258,36 @@ run-trials-are-promised j bytes start trials table path records e = rides-are-pr
 
 -- ---- "A refusal for "no way" is given at opening only when no way exists,
 
-module _ (j : Job) (bytes : List ℕ) (start : ℕ) (table path : List ℕ) (trials records : ℕ) (r : Refusal) where
-  -- opened by any of the three calls
-  abbrev pub IsRefused : Type 0
-  IsRefused =
-      (openJob j bytes start table ≡ Vd.Refused r) ⊎ ((openTrial j bytes start table path ≡ Vd.Refused r) ⊎ (openRun j bytes start table path trials records ≡ Vd.Refused r))
+module _ (j : Job) (bytes : List ℕ) (start : ℕ) (table : List ℕ) where
+  -- no walk leads from the start to the bench
+  abbrev pub NoWay : Type 0
+  NoWay = (z c n : ℕ) → atGoal j bytes z ≡ true → Walk (netOf (groundIn j bytes)) Any start z c n → ⊥
 
-  last-check : 6 ≤ r .number → IsRefused → soundness j bytes start table ≡ Vd.Refused r
-  last-check h (inl e) = job-refused j bytes start table r h e
-  last-check h (inr (inl e)) = trial-refused j bytes start table r h path e
-  last-check h (inr (inr e)) = run-refused j bytes start table r h path trials records e
+  -- v is what an opening answers: that of a job, of a trial or of a run
+  module _ (v : Verdict) (o : IsOpening j bytes start table v) where
+    abbrev ends : Ends (soundness j bytes start table) v
+    ends = ends-with-soundness j bytes start table o
 
-  pub refused-for-no-way-only-when-none-exists : IsRefused → r .number ≡ 6
-      → (z c n : ℕ) → atGoal j bytes z ≡ true → Walk (netOf (groundIn j bytes)) Any start z c n → ⊥
-  refused-for-no-way-only-when-none-exists e six z c n g way =
-      six-means j bytes start table (last-check (omega arith) e) six (c, (z, subst T (sym g) tt, (n, way)))
+    pub refused-for-no-way-only-when-none-exists : (r : Refusal) → v ≡ Vd.Refused r → r .number ≡ 6 → NoWay
+    refused-for-no-way-only-when-none-exists r e six z c n g way =
+        six-means j bytes start table (ends .only (omega arith) e) six (c, (z, subst T (sym g) tt, (n, way)))
 
-  -- and a table is refused as unsound only when some cell is above its true figure."
-  pub refused-as-unsound-only-when-above : IsRefused → r .number ≡ 7 → (x : ℕ) × (r .place ≡ P.Cell x) × Above j bytes table x
-  refused-as-unsound-only-when-above e seven = let (x, p, above, lowest) = seven-means j bytes start table (last-check (omega arith) e) seven .1 in (x, p, above)
+    -- and whenever none exists, where nothing lower is refused
+    pub refused-for-no-way-when-none-exists : NothingLower 6 v → NoWay → v ≡ refuseAt 6 P.Nowhere
+    refused-for-no-way-when-none-exists h none =
+        ends .just h ∙ six-is j bytes start table (λ (c, (z, g, (n, way))). none z c n (is-true _ g) way)
+
+    -- and a table is refused as unsound only when some cell is above its true figure." It names the lowest such cell
+    pub refused-as-unsound-only-when-above : (r : Refusal) → v ≡ Vd.Refused r → r .number ≡ 7 → (x : ℕ) × (r .place ≡ P.Cell x) × Lowest j bytes table x
+    refused-as-unsound-only-when-above r e seven = seven-means j bytes start table (ends .only (omega arith) e) seven
+
+    -- and whenever some cell is above it, where nothing lower is refused
+    pub refused-as-unsound-when-above : NothingLower 7 v → (x : ℕ) → Above j bytes table x → (y : ℕ) × (v ≡ refuseAt 7 (P.Cell y)) × Lowest j bytes table y
+    refused-as-unsound-when-above h x above = by (can j bytes start) refl
+      where
+        is : v ≡ soundness j bytes start table
+        is = ends .just (λ r e. omega (arith, h r e))
+
+        by : (b : Bool) → can j bytes start ≡ b → (y : ℕ) × (v ≡ refuseAt 7 (P.Cell y)) × Lowest j bytes table y
+        by true t = let (y, e, l) = seven-is j bytes start table (reaches-means j bytes start t) x above in (y, is ∙ e, l)
+        by false t = absurd (omega (arith, h _ (is ∙ six-is j bytes start table (λ r. never (reaches-of j bytes start r) t))))

@@ -1,4 +1,5 @@
--- Which check refuses an opening: a refusal comes from the first check that is not done, and only `soundness` has the numbers 6 and 7.
+-- Every opening makes checks with numbers below 6 and ends with `soundness`, which alone has 6 and 7: what it answers past 5 is what `soundness` answers.
+-- A law of one check before others, applied check by check. Assumes nothing.
 use Prim.Native.Nat.{ℕ, _≤_, _<_}
 use mathlib.Core.Path.{_≡_, refl}
 use mathlib.Core.Bool.{Bool, true, false, _&&_}
@@ -18,9 +19,10 @@ use Rattle.model.specs.Checks.{floorOf, goals, sizes, pathRoom, settings
 use Rattle.model.specs.Opening.{soundness, accepts, openJob, openTrial, reportsRoom, trialsHold, openRun}
 use Rattle.model.proofs.Accepted.{not-refused}
 
--- ---- which check refused
+-- nothing is refused by a number below n; a check with a number below 6
+abbrev pub NothingLower : ℕ → Verdict → Type 0
+NothingLower n v = (r : Refusal) → v ≡ Vd.Refused r → n ≤ r .number
 
--- a check with a number below 6
 abbrev Early : Verdict → Type 0
 Early v = (r : Refusal) → v ≡ Vd.Refused r → r .number < 6
 
@@ -36,46 +38,54 @@ early-naming n fault number h = by (ltb (lowest n fault) n)
     by true r e = let f : number ≡ r .number = cc in omega arith
     by false r e = not-refused refl e
 
-later : (v : Verdict) {w : Verdict} {r : Refusal} → Early v → 6 ≤ r .number → then v w ≡ Vd.Refused r → w ≡ Vd.Refused r
-later Vd.Done early h e = e
-later (Vd.Refused s) {r = r} early h e = absurd (omega (arith, early r e))
+-- A check v that ends with the check w, after others with numbers below 6: a refusal past 5 is w's, and where nothing lower is refused the answer is w's.
+pub record Ends (w v : Verdict) : Type 0 where
+  pub only : {r : Refusal} → 6 ≤ r .number → v ≡ Vd.Refused r → w ≡ Vd.Refused r
+  pub just : NothingLower 6 v → v ≡ w
 
-module _ (j : Job) (bytes : List ℕ) (start : ℕ) (table : List ℕ) (r : Refusal) (h : 6 ≤ r .number) where
+last : (w : Verdict) → Ends w w
+last w = record { only = λ h e. e; just = λ h. refl }
+
+after : (a : Verdict) {w v : Verdict} → Early a → Ends w v → Ends w (then a v)
+after Vd.Done early g = g
+after (Vd.Refused s) early g = record { only = λ {r} h e. absurd (omega (arith, early r e)); just = λ h. absurd (omega (arith, h s refl, early s refl)) }
+
+-- what one of the three openings answers
+pub data IsOpening (j : Job) (bytes : List ℕ) (start : ℕ) (table : List ℕ) : Verdict → Type 0 where
+  by-open : IsOpening j bytes start table (openJob j bytes start table)
+  by-trial : (path : List ℕ) → IsOpening j bytes start table (openTrial j bytes start table path)
+  by-run : (path : List ℕ) (trials records : ℕ) → IsOpening j bytes start table (openRun j bytes start table path trials records)
+
+module _ (j : Job) (bytes : List ℕ) (start : ℕ) (table : List ℕ) where
   abbrev f : Floor
   f = floorOf j bytes
 
-  past-sizes : (w : Verdict) → then (sizes f (length table)) w ≡ Vd.Refused r → w ≡ Vd.Refused r
+  after-sizes : {w v : Verdict} → Ends w v → Ends w (then (sizes f (length table)) v)
   unfolding sizes
-  past-sizes w =
-      later _ (early-unless (between 1 (f .width) 64 && between 1 (f .height) 64 && eqb (length (f .bytes)) (size f) && eqb (length table) (size f)) 1 (omega arith)) h
+  after-sizes =
+      after _ (early-unless (between 1 (f .width) 64 && between 1 (f .height) 64 && eqb (length (f .bytes)) (size f) && eqb (length table) (size f)) 1 (omega arith))
 
-  past-room : (places : ℕ) (w : Verdict) → then (pathRoom f places) w ≡ Vd.Refused r → w ≡ Vd.Refused r
+  after-room : (places : ℕ) {w v : Verdict} → Ends w v → Ends w (then (pathRoom f places) v)
   unfolding pathRoom
-  past-room places w = later _ (early-unless (leb (size f) places) 2 (omega arith)) h
+  after-room places = after _ (early-unless (leb (size f) places) 2 (omega arith))
 
-  past-settings : (w : Verdict) → then (settings j) w ≡ Vd.Refused r → w ≡ Vd.Refused r
+  after-settings : {w v : Verdict} → Ends w v → Ends w (then (settings j) v)
   unfolding settings
-  past-settings w =
-      later _ (early-unless (between 1 (j .depth) deepest && leb 1 (j .p) && leb (j .p) (j .q) && leb (j .q) finest && leb (j .quota) largestQuota) 3 (omega arith)) h
+  after-settings =
+      after _ (early-unless (between 1 (j .depth) deepest && leb 1 (j .p) && leb (j .p) (j .q) && leb (j .q) finest && leb (j .quota) largestQuota) 3 (omega arith))
 
-  by-accepts : accepts j bytes start table ≡ Vd.Refused r → soundness j bytes start table ≡ Vd.Refused r
+  accepts-ends : Ends (soundness j bytes start table) (accepts j bytes start table)
   unfolding accepts places figures
-  by-accepts e =
-      later (figures f table) (early-naming _ _ 5 (omega arith)) h
-      (later (places f start (goals j)) (early-unless (free f start && every (free f) (goals j)) 4 (omega arith)) h e)
+  accepts-ends =
+      after (places f start (goals j)) (early-unless (free f start && every (free f) (goals j)) 4 (omega arith))
+      (after (figures f table) (early-naming _ _ 5 (omega arith)) (last _))
 
-  pub job-refused : openJob j bytes start table ≡ Vd.Refused r → soundness j bytes start table ≡ Vd.Refused r
-  unfolding openJob
-  job-refused e = by-accepts (past-settings _ (past-sizes _ e))
-
-  pub trial-refused : (path : List ℕ) → openTrial j bytes start table path ≡ Vd.Refused r → soundness j bytes start table ≡ Vd.Refused r
-  unfolding openTrial
-  trial-refused path e = by-accepts (past-settings _ (past-room (length path) _ (past-sizes _ e)))
-
-  pub run-refused : (path : List ℕ) (trials records : ℕ) → openRun j bytes start table path trials records ≡ Vd.Refused r → soundness j bytes start table ≡ Vd.Refused r
-  unfolding openRun reportsRoom trialsHold
-  run-refused path trials records e =
-      by-accepts
-      (later (trialsHold trials) (early-unless (between 1 trials 1000) 3 (omega arith)) h
-      (past-settings _
-      (later (reportsRoom trials records) (early-unless (leb trials records) 2 (omega arith)) h (past-room (length path) _ (past-sizes _ e)))))
+  pub ends-with-soundness : {v : Verdict} → IsOpening j bytes start table v → Ends (soundness j bytes start table) v
+  unfolding openJob openTrial openRun reportsRoom trialsHold
+  ends-with-soundness by-open = after-sizes (after-settings accepts-ends)
+  ends-with-soundness (by-trial path) = after-sizes (after-room (length path) (after-settings accepts-ends))
+  ends-with-soundness (by-run path trials records) =
+      after-sizes
+      (after-room (length path)
+      (after (reportsRoom trials records) (early-unless (leb trials records) 2 (omega arith))
+      (after-settings (after (trialsHold trials) (early-unless (between 1 trials 1000) 3 (omega arith)) accepts-ends))))

@@ -21,7 +21,7 @@ use Rattle.model.specs.Floor.{size}
 use Rattle.model.specs.Checks.{floorOf, groundIn}
 use Rattle.model.specs.Opening.{distances, reaches, trueFigure, soundness}
 use Rattle.model.proofs.Moves.{is-true, both, both-of}
-use Rattle.model.proofs.Accepted.{never, fails, naming-names, naming-done, naming-none, naming-found}
+use Rattle.model.proofs.Accepted.{never, fails, naming-done, naming-none, naming-found}
 
 -- a cell can reach a goal; its figure is above the true one
 abbrev pub CanReach : Job → List ℕ → ℕ → Type 0
@@ -29,6 +29,10 @@ CanReach j bytes x = Reaches (netOf (groundIn j bytes)) (Goal (groundIn j bytes)
 
 abbrev pub Above : Job → (bytes table : List ℕ) → ℕ → Type 0
 Above j bytes table x = CanReach j bytes x × (j .q * distOf (groundIn j bytes) x < getD table x 0)
+
+-- the lowest cell that is above
+abbrev pub Lowest : Job → (bytes table : List ℕ) → ℕ → Type 0
+Lowest j bytes table x = Above j bytes table x × ((y : ℕ) → y < x → ¬ Above j bytes table y)
 
 same-refusal : {r s : Refusal} → Vd.Refused r ≡ Vd.Refused s → r ≡ s
 same-refusal e = cc
@@ -78,31 +82,24 @@ module _ (j : Job) (bytes : List ℕ) where
 
     -- what a refusal past the start has found
     refused-named : {r : Refusal} → CanReach j bytes start → soundness j bytes start table ≡ Vd.Refused r
-        → (x : ℕ) × Above j bytes table x × ((y : ℕ) → y < x → ¬ Above j bytes table y) × (r ≡ record { number = 7; place = P.Cell x })
+        → (x : ℕ) × Lowest j bytes table x × (r ≡ record { number = 7; place = P.Cell x })
     unfolding searched
     refused-named reach e =
         let (x, n) = naming-found (size (floorOf j bytes)) 7 fault (sym (from-reached reach) ∙ e) in
-        (x, fault-told x (n .faulty), λ y h a. never (fault-shown y a) (n .first y h), same-refusal (sym e ∙ from-reached reach ∙ n .answer))
+        (x, (fault-told x (n .faulty), λ y h a. never (fault-shown y a) (n .first y h)), same-refusal (sym e ∙ from-reached reach ∙ n .answer))
 
     -- and only then
     pub six-means : {r : Refusal} → soundness j bytes start table ≡ Vd.Refused r → r .number ≡ 6 → ¬ CanReach j bytes start
-    six-means e q reach = let (x, a, f, g) = refused-named reach e in omega (arith, ap (λ (y : Refusal). y .number) g)
+    six-means e q reach = let (x, l, g) = refused-named reach e in omega (arith, ap (λ (y : Refusal). y .number) g)
 
-    -- 7: a cell that can reach the goal is above its true figure; names the lowest
-    pub seven-is : CanReach j bytes start → (x : ℕ) → Above j bytes table x → ((y : ℕ) → y < x → ¬ Above j bytes table y)
-        → soundness j bytes start table ≡ refuseAt 7 (P.Cell x)
-    unfolding searched
-    seven-is r x a first =
-        from-reached r ∙ naming-names (size (floorOf j bytes)) fault 7 x (on-floor (groundIn j bytes) x (a .0)) (λ y h. fault-not y (first y h)) (fault-shown x a)
-
-    -- and only then
+    -- 7 names the lowest cell that is above its true figure
     pub seven-means : {r : Refusal} → soundness j bytes start table ≡ Vd.Refused r → r .number ≡ 7
-        → CanReach j bytes start × ((x : ℕ) × (r .place ≡ P.Cell x) × Above j bytes table x × ((y : ℕ) → y < x → ¬ Above j bytes table y))
+        → (x : ℕ) × (r .place ≡ P.Cell x) × Lowest j bytes table x
     seven-means {r} e q = by (reaches j bytes (distances j bytes) start) refl
       where
         by : (b : Bool) → reaches j bytes (distances j bytes) start ≡ b
-            → CanReach j bytes start × ((x : ℕ) × (r .place ≡ P.Cell x) × Above j bytes table x × ((y : ℕ) → y < x → ¬ Above j bytes table y))
-        by true t = let (x, a, f, g) = refused-named (reaches-means start t) e in (reaches-means start t, (x, ap (λ (y : Refusal). y .place) g, a, f))
+            → (x : ℕ) × (r .place ≡ P.Cell x) × Lowest j bytes table x
+        by true t = let (x, l, g) = refused-named (reaches-means start t) e in (x, ap (λ (y : Refusal). y .place) g, l)
         by false t =
             let g = same-refusal (sym e ∙ shape ∙ ap (λ b. then (unless b 6) searched) t) in
             absurd (omega (arith, ap (λ (y : Refusal). y .number) g))
@@ -121,3 +118,11 @@ module _ (j : Job) (bytes : List ℕ) where
             let none = naming-none (size (floorOf j bytes)) fault 7 (sym (from-reached (reaches-means start t)) ∙ e) in
             (reaches-means start t, λ x a. never (fault-shown x a) (none x (on-floor (groundIn j bytes) x (a .0))))
         by false t = let w = sym e ∙ shape ∙ ap (λ b. then (unless b 6) searched) t in let z : _≡_ {A = ℕ} 0 1 = cc in absurd (omega arith)
+
+    -- and 7 whenever there is a way and some cell is above
+    pub seven-is : CanReach j bytes start → (x : ℕ) → Above j bytes table x → (y : ℕ) × (soundness j bytes start table ≡ refuseAt 7 (P.Cell y)) × Lowest j bytes table y
+    seven-is reach x above = by (soundness j bytes start table) refl
+      where
+        by : (v : Verdict) → soundness j bytes start table ≡ v → (y : ℕ) × (soundness j bytes start table ≡ refuseAt 7 (P.Cell y)) × Lowest j bytes table y
+        by Vd.Done e = absurd (sound-only e .1 x above)
+        by (Vd.Refused r) e = let (y, l, g) = refused-named reach e in (y, e ∙ ap Vd.Refused g, l)
