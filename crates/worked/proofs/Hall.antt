@@ -89,3 +89,9 @@ workedFile = 0 ∷ 6 ∷ 0 ∷ 0 ∷ 0 ∷ 48 ∷ 0 ∷ 7 ∷ 0 ∷ 0 ∷ 0 ∷ 
 -- the worked floor as text
 abbrev pub hallText : List ℕ
 hallText = bytes "type octile\nheight 3\nwidth 3\nmap\n...\n@@.\n...\n"
+
+-- rows `.@.@@@@`, `..@.@@@`, `.@@@.@@`, `.@@@@.@`, `.@@@@@.`, `@.....@`, `@@@@@@.`: from 0 to 40 in seven diagonal moves (98), or in nine, one of them diagonal (94)
+abbrev pub twoWays : List ℕ
+twoWays =
+    0 ∷ 1 ∷ 0 ∷ 1 ∷ 1 ∷ 1 ∷ 1 ∷ 0 ∷ 0 ∷ 1 ∷ 0 ∷ 1 ∷ 1 ∷ 1 ∷ 0 ∷ 1 ∷ 1 ∷ 1 ∷ 0 ∷ 1 ∷ 1 ∷ 0 ∷ 1 ∷ 1 ∷ 1 ∷ 1 ∷ 0 ∷ 1
+    ∷ 0 ∷ 1 ∷ 1 ∷ 1 ∷ 1 ∷ 1 ∷ 0 ∷ 1 ∷ 0 ∷ 0 ∷ 0 ∷ 0 ∷ 0 ∷ 1 ∷ 1 ∷ 1 ∷ 1 ∷ 1 ∷ 1 ∷ 1 ∷ 0 ∷ []

@@ -42,6 +42,8 @@ pub record PinsChecks : Type 0 where
   -- 2: fewer than 288 places left for moves; a place past the end leaves none
   pub moves-short : Short hall figures fresh (replicate 288 9) 1 2
   pub from-past : Short hall figures fresh buffer 400 2
+  -- at the goal too, where no move is made
+  pub moves-at-goal : Refused (job 1 1 1 1000) hall (state 0 0 0) figures fresh (replicate 287 9) 0 2 P.Nowhere
   pub moves-enough : decide (job 1 1 1 1000) hall (state 6 0 0) figures fresh (replicate 289 9) 1
       ≡ leaves (A.Forward 7 14 1) (state 7 14 1) (set figures 6 34) (6 ∷ replicate 8 77) (9 ∷ 2 ∷ replicate 287 9)
   pub path-longer : decide (job 1 1 1 1000) hall (state 6 0 0) figures (replicate 10 77) buffer 0 .answer ≡ A.Forward 7 14 1
@@ -95,6 +97,7 @@ pinsChecks = record {
   path-short = refl;
   moves-short = refl;
   from-past = refl;
+  moves-at-goal = refl;
   moves-enough = refl;
   path-longer = refl;
   setting = refl;

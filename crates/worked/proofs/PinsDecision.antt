@@ -11,7 +11,7 @@ use Rattle.answers.specs.declared.Answer.the-variants as A
 use Rattle.model.specs.Floor.{allowed}
 use Rattle.model.specs.Decision.{Outcome, decide}
 use Rattle.model.specs.Compute.{compute}
-use Rattle.worked.proofs.Hall.{hall, job, figures, state, fresh, buffer, leaves, refuses, firstOf, rowJob}
+use Rattle.worked.proofs.Hall.{hall, job, figures, state, fresh, buffer, leaves, refuses, firstOf, rowJob, twoWays}
 
 -- on the worked floor, moves from place 0 on
 abbrev on : Job → State → (table path : List ℕ) → Outcome
@@ -73,6 +73,9 @@ pub record PinsDecision : Type 0 where
   -- w may use more moves than x's ring: six moves, four diagonal (76), lose to seven, one diagonal (74)
   pub more-moves : decide (record { width = 5; height = 5; goal = 24; depth = 6; p = 1; q = 1; quota = 1000 }) bend (state 0 0 0) (set (replicate 25 0) 23 90) (replicate 25 77) buffer 0
       ≡ leaves (A.Forward 24 74 7) (state 24 74 1) (set (set (replicate 25 0) 23 90) 0 74) (0 ∷ replicate 24 77) (4 ∷ 4 ∷ 4 ∷ 3 ∷ 2 ∷ 2 ∷ 2 ∷ replicate 283 9)
+  -- but stays in the window, which ends with the goal's ring 7 where that is smaller than d: 98, since 39, on the way that costs 94, is on ring 8
+  pub goal-window : decide (record { width = 7; height = 7; goal = 40; depth = 8; p = 1; q = 1; quota = 1000 }) twoWays (state 0 0 0) (set (replicate 49 0) 38 90) (replicate 49 77) buffer 0 .answer
+      ≡ A.Forward 40 98 7
   -- Where 003 heads straight for a goal it sees, this rule still decides: a cell of the goal's ring with less than it is the target
   pub goal-passed-by : clear 2 2 3 1 0 (0 ∷ 0 ∷ 9 ∷ 0 ∷ []) .answer ≡ A.Forward 1 10 1
   -- The new figure is the greatest of the m bests, the target the best of ring m alone
@@ -96,6 +99,8 @@ pub record PinsDecision : Type 0 where
   pub quota-unit-passed : firstOf (job 1 1 2 8) .answer ≡ A.Stayed 18
   -- With none it stays, and u stays
   pub stays : on (job 1 1 1 5) (state 6 5 0) figures fresh ≡ leaves (A.Stayed 14) (state 6 5 0) (set figures 6 34) fresh buffer
+  -- which asks for the last ring of the cell taken off, here ring 1, the goal's, though the depth is 2
+  pub last-ring : decide (rowJob 3 0 2 0) (replicate 3 0) (state 2 0 1) (replicate 3 0) (path1 1) buffer 0 ≡ leaves (A.BackedOut 1 20 1) (state 1 0 0) (0 ∷ 0 ∷ 20 ∷ []) (path1 1) (6 ∷ replicate 289 9)
   -- by the reverse of that cell's own route: order turned round, each move the opposite one
   pub reverse : on (job 2 1 1 28) (state 5 28 1) (set (set figures 6 48) 5 0) (path1 6) ≡ leaves (A.BackedOut 6 24 2) (state 6 28 0) (set figures 6 48) (path1 6) (5 ∷ 6 ∷ replicate 288 9)
   -- its own: seen from 7, which is two moves away, though the goal beside the current cell shuts 7 out of that cell's window
@@ -129,6 +134,7 @@ pinsDecision = record {
   ring-2-empty = refl;
   ring-1-full = refl;
   more-moves = refl;
+  goal-window = refl;
   goal-passed-by = refl;
   greatest = refl;
   weight = refl;
@@ -140,6 +146,7 @@ pinsDecision = record {
   quota-unit = refl;
   quota-unit-passed = refl;
   stays = refl;
+  last-ring = refl;
   reverse = refl;
   own-route = refl;
   cut = refl;

@@ -106,6 +106,8 @@ pub record PinsOpening : Type 0 where
   pub run-5 : RunRefused (goalAt 0) hall 6 1 (set figures 4 917281) fresh (blank ∷ []) 5 (P.Cell 4)
   pub reports-meet : runs 1 9 10 10 ≡ Vd.Done
   pub reports-short : runs 1 9 10 9 ≡ no 2 P.Nowhere
+  -- reports shorter than trials, before the trials' own range
+  pub reports-first : runs 1 9 1001 1000 ≡ no 2 P.Nowhere
   pub trials-1000 : runs 1 9 1000 1000 ≡ Vd.Done
   pub trials-1001 : runs 1 9 1001 1001 ≡ no 3 P.Nowhere
   -- Filling a table with opening figures: 1 before 3, q alone, before 4, the goal alone
@@ -174,6 +176,7 @@ pinsOpening = record {
   run-5 = refl;
   reports-meet = refl;
   reports-short = refl;
+  reports-first = refl;
   trials-1000 = refl;
   trials-1001 = refl;
   fill-1-3 = refl;

@@ -1,20 +1,14 @@
 -- What trial and run answer and leave, past their checks.
-use Prim.Native.Nat.{ℕ}
 use mathlib.Core.Path.{_≡_, refl}
 use mathlib.Core.Bool.{true, false}
-use mathlib.Core.List.{List, [], _∷_}
+use mathlib.Core.List.{[], _∷_}
 use lib.ListN.{set, replicate}
 use Rattle.answers.specs.declared.Job.{Job}
 use Rattle.answers.specs.declared.Ran.the-variants as Rn
 use Rattle.answers.specs.declared.Tried.the-variants as Td
 use Rattle.model.specs.Ride.{trial, run}
 use Rattle.model.specs.Compute.{compute}
-use Rattle.worked.proofs.Hall.{hall, job, openingOf, figures, fresh, made, rowJob, blank, learnt}
-
--- rows `.@.@@@@`, `..@.@@@`, `.@@@.@@`, `.@@@@.@`, `.@@@@@.`, `@.....@`, `@@@@@@.`: from 0 to 40 in seven diagonal moves (98), or in nine, one of them diagonal (94)
-abbrev twoWays : List ℕ
-twoWays =
-    0 ∷ 1 ∷ 0 ∷ 1 ∷ 1 ∷ 1 ∷ 1 ∷ 0 ∷ 0 ∷ 1 ∷ 0 ∷ 1 ∷ 1 ∷ 1 ∷ 0 ∷ 1 ∷ 1 ∷ 1 ∷ 0 ∷ 1 ∷ 1 ∷ 0 ∷ 1 ∷ 1 ∷ 1 ∷ 1 ∷ 0 ∷ 1 ∷ 0 ∷ 1 ∷ 1 ∷ 1 ∷ 1 ∷ 1 ∷ 0 ∷ 1 ∷ 0 ∷ 0 ∷ 0 ∷ 0 ∷ 0 ∷ 1 ∷ 1 ∷ 1 ∷ 1 ∷ 1 ∷ 1 ∷ 1 ∷ 0 ∷ []
+use Rattle.worked.proofs.Hall.{hall, job, openingOf, figures, fresh, made, rowJob, blank, learnt, twoWays}
 
 abbrev twoWaysJob : Job
 twoWaysJob = record { width = 7; height = 7; goal = 48; depth = 7; p = 1; q = 1; quota = 1000 }
@@ -39,6 +33,16 @@ pub record PinsRide : Type 0 where
   -- seen at the job's own depth: 98 to 40, since 39, on the way that costs 94, is on ring 8
   pub kept-depth : trial twoWaysJob twoWays 0 (set (openingOf twoWaysJob twoWays) 40 0) (replicate 49 77) .answer
       ≡ Td.Made (record { decisions = 2; learned = 34; kept = 112; travel = 112 })
+  -- travel: every move. Backing out is seen from the cell taken off: 28 from 1 to 7, though the goal beside 1 shuts 7 out of 1's own window
+  pub own-window : trial (job 2 1 1 0) hall 7 (set (set figures 1 0) 7 38) fresh ≡ made 4 10 38 94 (set figures 7 38) (7 ∷ 1 ∷ replicate 7 77)
+  -- until one learns 0: 1 is more than 0, though less than q
+  pub not-settled : run (record { width = 2; height = 1; goal = 1; depth = 1; p = 2; q = 2; quota = 1000 }) (0 ∷ 0 ∷ []) 0 3 (19 ∷ 0 ∷ []) fresh (blank ∷ blank ∷ blank ∷ [])
+      ≡ record {
+        answer = Rn.Made 2 true;
+        table = 20 ∷ 0 ∷ [];
+        path = 0 ∷ replicate 8 77;
+        reports = record { decisions = 1; learned = 1; kept = 10; travel = 10 } ∷ record { decisions = 1; learned = 0; kept = 10; travel = 10 } ∷ blank ∷ [];
+      }
   -- each trial goes on with the table and the path list that the one before left: rows `.@.`, `.@.`, `...`, from 8
   pub carried : run (job 1 1 1 1000) (0 ∷ 1 ∷ 0 ∷ 0 ∷ 1 ∷ 0 ∷ 0 ∷ 0 ∷ 0 ∷ []) 8 5 figures fresh (blank ∷ blank ∷ blank ∷ blank ∷ blank ∷ [])
       ≡ record {
@@ -59,5 +63,7 @@ pinsRide = record {
   records-to-spare = refl;
   kept = refl;
   kept-depth = refl;
+  own-window = refl;
+  not-settled = refl;
   carried = refl;
 }

@@ -104,6 +104,8 @@ pub record PinsTable : Type 0 where
   pub lower-cell : reads (entry 5 48 ++ (entry 7 48 ++ (entry 6 48 ++ ending 3 34))) ≡ no 15 (P.Record 2)
   pub not-above : reads (entry 6 48 ++ (entry 7 24 ++ (entry 3 48 ++ ending 3 34))) ≡ no 15 (P.Record 1)
   pub just-above : reads (entry 6 48 ++ (entry 7 25 ++ ending 2 28)) ≡ Vd.Done
+  -- the opening figure with the job's own q: 30 at cell 1
+  pub not-above-scaled : Unread oblong 3 0 (set oblongFile 5 30) (5 ∷ 5 ∷ []) 15 (P.Record 0)
   pub ceiling-passed : reads (0 ∷ 8 ∷ 0 ∷ 13 ∷ 255 ∷ 33 ∷ ending 1 22) ≡ no 15 (P.Record 0)
   pub ceiling-far : reads (0 ∷ 8 ∷ 1 ∷ 0 ∷ 0 ∷ 48 ∷ ending 1 22) ≡ no 15 (P.Record 0)
   pub ceiling-met : Read (0 ∷ 8 ∷ 0 ∷ 13 ∷ 255 ∷ 32 ∷ ending 1 22) (set figures 8 917280)
@@ -120,6 +122,7 @@ pub record PinsTable : Type 0 where
   pub write-5-blocked : Unwritten floor 1 0 (set (set figures 8 917281) 4 917281) [] 5 (P.Cell 4)
   -- 16: a free cell below its opening figure, or a blocked one unlike it; names the lowest
   pub below : Unwritten floor 1 0 (set (set figures 7 23) 8 27) [] 16 (P.Cell 7)
+  pub below-last : Unwritten floor 1 0 (set figures 8 27) [] 16 (P.Cell 8)
   pub blocked-above : Unwritten floor 1 0 (set (set figures 3 11) 8 27) [] 16 (P.Cell 3)
   pub blocked-below : Unwritten floor 1 0 (set figures 4 13) [] 16 (P.Cell 4)
   -- 17: no room
@@ -173,6 +176,7 @@ pinsTable = record {
   lower-cell = refl;
   not-above = refl;
   just-above = refl;
+  not-above-scaled = refl;
   ceiling-passed = refl;
   ceiling-far = refl;
   ceiling-met = refl;
@@ -186,6 +190,7 @@ pinsTable = record {
   write-5 = refl;
   write-5-blocked = refl;
   below = refl;
+  below-last = refl;
   blocked-above = refl;
   blocked-below = refl;
   no-room = refl;
