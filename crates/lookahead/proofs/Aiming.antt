@@ -89,10 +89,6 @@ module _ (j : Job) (bytes : List ℕ) (s : ℕ) (Q : Asked j bytes s) (table : L
           let e = A .on-last in
           ring-unique (seen-window j bytes s Q base mark cost (W .view)) (job-window j bytes s Q) target (omega (arith, e, last-eq)) ∙ e ∙ last-eq
 
-      pub target-near : Near j bytes s (getD best last 0 % 4096)
-      unfolding ringOf lastOf
-      target-near = omega (arith, on-last)
-
       pub aimed : (leg : ℕ) → leg ≡ getD cost (getD best last 0 % 4096) 0
           → Aimed j bytes s table (record { figure = top / 4096; target = getD best last 0 % 4096; leg = leg })
       unfolding ringOf lastOf legOf

@@ -165,7 +165,3 @@ module _ (base : ℕ) (mark cost table : List ℕ) (p : ℕ) where
           let h : g .0 ≤ m = omega (arith, g .2) in
           let t = entry (g .0) h in
           omega (arith, ap (λ y. y / 4096) (g .3), entry-value (g .0) h, value-lt (t .cell) S (ring-in base mark (t .cell) (omega (arith, t .on))))
-
-      -- and the target is a cell of the window
-      pub weighed-in : In base mark (getD best m 0 % 4096)
-      weighed-in = let t = entry m (omega arith) in subst (In base mark) (sym (entry-cell m (omega arith))) (ring-in base mark (t .cell) (omega (arith, t .on)))

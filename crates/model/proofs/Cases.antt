@@ -49,7 +49,7 @@ module _ (j : Job) (bytes : List ℕ) (s : State) (table path : List ℕ) where
 
   module _ (new : ℕ) where
     -- the cell taken off
-    abbrev pub last-cell : ℕ
+    abbrev last-cell : ℕ
     last-cell = getD path (s .length - 1) 0
 
     pub back-stays : eqb (s .length) 0 ≡ true → goBack j bytes s table path new ≡ stay s table path new

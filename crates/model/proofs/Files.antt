@@ -19,7 +19,7 @@ use Rattle.model.specs.TableFile.{halfAt, trailer, countIn, backIn, isLe
 use Rattle.model.proofs.Moves.{both, both-of, free-below}
 use Rattle.model.proofs.Accepted.{then-done, fails, sizes-judges, scale-judges, bench-judges}
 
-pub unless-done : (b : Bool) (number : ℕ) → unless b number ≡ Vd.Done → b ≡ true
+unless-done : (b : Bool) (number : ℕ) → unless b number ≡ Vd.Done → b ≡ true
 unless-done true number e = refl
 unless-done false number e = let z : _≡_ {A = ℕ} 0 1 = cc in absurd (omega arith)
 
@@ -193,7 +193,7 @@ unfolding recordsOf
 length-records table [] = omega arith
 length-records table (x ∷ xs) = let h = length-records table xs in omega arith
 
-pub length-trailer : (f : Floor) (q : ℕ) (gs : List ℕ) (count : ℕ) → length (trailerOf f q gs count) ≡ 16
+length-trailer : (f : Floor) (q : ℕ) (gs : List ℕ) (count : ℕ) → length (trailerOf f q gs count) ≡ 16
 unfolding trailerOf
 length-trailer f q gs count = refl
 

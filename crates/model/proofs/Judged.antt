@@ -60,7 +60,7 @@ is-false false h = refl
 
 module _ (j : Job) (bytes : List ℕ) (H : Held j bytes) where
   -- a cell that can reach the goal is free
-  pub reach-free : (x : ℕ) → CanReach (learningJob j bytes) x → free (floorOf j bytes) x ≡ true
+  reach-free : (x : ℕ) → CanReach (learningJob j bytes) x → free (floorOf j bytes) x ≡ true
   reach-free x (c, (z, g, (n, t))) = by g t
     where
       by : {z c n : ℕ} → Goal (groundIn j bytes) z → Walk (netOf (groundIn j bytes)) Any x z c n → free (floorOf j bytes) x ≡ true

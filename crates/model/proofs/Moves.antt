@@ -120,7 +120,7 @@ module _ (f : Floor) (x m : ℕ) where
   abbrev d : Bool
   d = leb (row f x + south m) (f .height)
 
-  pub inside-of : inside f x m ≡ true → Inside f x m
+  inside-of : inside f x m ≡ true → Inside f x m
   unfolding inside
   inside-of e =
       let p = both (a && b && c) d e in
@@ -128,7 +128,7 @@ module _ (f : Floor) (x m : ℕ) where
       let r = both a b (q .0) in
       record { west = leb-true 1 _ (r .0); east = leb-true _ (f .width) (r .1); north = leb-true 1 _ (q .1); south = leb-true _ (f .height) (p .1) }
 
-  pub inside-true : Inside f x m → inside f x m ≡ true
+  inside-true : Inside f x m → inside f x m ≡ true
   unfolding inside
   inside-true i =
       both-of (a && b && c) d (both-of (a && b) c (both-of a b (le-leb 1 _ (i .west)) (le-leb _ (f .width) (i .east))) (le-leb 1 _ (i .north))) (le-leb _ (f .height) (i .south))
@@ -138,11 +138,11 @@ module _ (f : Floor) (x m : ℕ) where
   unfolding ahead
   ahead-lt i = cell-lt (f .width) (f .height) (column f x + east m - 1) (row f x + south m - 1) (omega (arith, i .west, i .east)) (omega (arith, i .north, i .south))
 
-  pub ahead-column : Inside f x m → column f (ahead f x m) ≡ column f x + east m - 1
+  ahead-column : Inside f x m → column f (ahead f x m) ≡ column f x + east m - 1
   unfolding ahead
   ahead-column i = col-at (f .width) (column f x + east m - 1) (row f x + south m - 1) (omega (arith, i .west, i .east))
 
-  pub ahead-row : Inside f x m → row f (ahead f x m) ≡ row f x + south m - 1
+  ahead-row : Inside f x m → row f (ahead f x m) ≡ row f x + south m - 1
   unfolding ahead
   ahead-row i = row-at (f .width) (column f x + east m - 1) (row f x + south m - 1) (omega (arith, i .west, i .east))
 

@@ -189,7 +189,7 @@ module _ (f : Floor) (q : ℕ) (gs : List ℕ) where
       judge-more f q gs x part n i (no-fault f q gs x part w) ∙ others n i low part e
 
   -- accepted records leave the cells below the bound as they are, and the length
-  pub applied-below : (n i low : ℕ) (part t : List ℕ) → judgeRecords f q gs n i low part ≡ Vd.Done → (k : ℕ) → k < low → getD (applied n part t) k 0 ≡ getD t k 0
+  applied-below : (n i low : ℕ) (part t : List ℕ) → judgeRecords f q gs n i low part ≡ Vd.Done → (k : ℕ) → k < low → getD (applied n part t) k 0 ≡ getD t k 0
   unfolding applied
   applied-below zero i low part t e k h = refl
   applied-below (suc n) i low part t e k h =

@@ -198,7 +198,7 @@ module _ (j : Job) (bytes : List ℕ) (start : ℕ) (table path : List ℕ) (R :
       let u : leastPrice ≤ unit J = omega (arith, H .settings .light) in
       omega (arith, div-mul-le-self m (unit J), mul-le-mul-left (m / unit J) u, most-low (J .cells) ceiling (truth J) truth-low)
 
-  pub bound-low : bound j bytes table ≤ mostDecisions
+  bound-low : bound j bytes table ≤ mostDecisions
   unfolding bound
   bound-low = let few : left J table + 1 ≤ mostLearned + 1 = omega (arith, left-low) in mul-le-mul factor-low few
 
@@ -207,10 +207,10 @@ module _ (j : Job) (bytes : List ℕ) (start : ℕ) (table path : List ℕ) (R :
     unfolding bound
     decisions-low = decisions-bound (H .lawful) (R .opened .sound) (R .opened .reach) (g .made)
 
-    pub learned-low : r .learned ≤ mostLearned
+    learned-low : r .learned ≤ mostLearned
     learned-low = omega (arith, left-low, trial-learns (H .lawful) (g .made) (keeps-opened (H .lawful) start table (R .opened .sound) (R .opened .reach)))
 
-    pub travel-low : r .travel ≤ dearestLeg * r .decisions
+    travel-low : r .travel ≤ dearestLeg * r .decisions
     travel-low =
         let far : dearestPrice * j .depth ≤ dearestLeg = omega (arith, H .settings .shallow) in
         let most = trial-cost (H .lawful) dearestPrice (dear j bytes H) (g .made) (keeps-opened (H .lawful) start table (R .opened .sound) (R .opened .reach)) in
@@ -270,7 +270,7 @@ module _ (j : Job) (bytes : List ℕ) (start : ℕ) where
   course-settled k table path e = rw (e, courseFrom)
 
   -- a course after its first ride
-  abbrev pub with-ride : Ride → Course → Course
+  abbrev with-ride : Ride → Course → Course
   with-ride r c = record { rides = r ∷ c .rides; settled = c .settled; table = c .table; path = c .path }
 
   pub course-again : (k : ℕ) (table path : List ℕ) → eqb (ride j bytes start table path .learned) 0 ≡ false

@@ -13,14 +13,13 @@ use lib.ListN.{length, getD, set, take, length-set, length-take, length-map, len
 use lib.Seq.{take-suc, getD-set-same, getD-set-other}
 use Rattle.learning.specs.Walk.{Network}
 use Rattle.learning.specs.Trial as learning
-use Rattle.learning.specs.Trial.{CanReach, LooksAhead, LeadsOn, raised, after, moveCost}
+use Rattle.learning.specs.Trial.{CanReach, LooksAhead, LeadsOn, raised}
 use Rattle.learning.specs.Path.{Linked, All, end, also}
 use Rattle.learning.specs.Ground.{Goal, netOf, ringOf, lastOf, legOf}
 use Rattle.learning.proofs.Walks.{turn}
 use Rattle.learning.proofs.Paths.{all-init, all-last, linked-last}
 use Rattle.learning.proofs.Decision.{raised-greater, raised-not}
 use Rattle.learning.proofs.Trials.{Keeps}
-use Rattle.learning.proofs.Decides.{after-step, step-unique}
 use Rattle.learning.proofs.Never.{path-room, ring-here, new-high}
 use Rattle.learning.proofs.Look.{answer, walk-inside}
 use Rattle.learning.specs.Route.{Chain, ended, step}
@@ -187,7 +186,7 @@ module _ (j : Job) (bytes : List ℕ) (H : Held j bytes) where
           act-learns j bytes s table path aside seeing
           ∙ learn-forward j bytes s table path (seen j bytes (s .current)) (newHere j bytes s table) (targetHere j bytes s table) below (le-leb _ _ h)
 
-      pub forward-does : s .learned + rise table (s .current) (newHere j bytes s table) ≤ j .q * j .quota
+      forward-does : s .learned + rise table (s .current) (newHere j bytes s table) ≤ j .q * j .quota
           → Does j bytes s table path (forward j bytes s (seen j bytes (s .current)) table path (newHere j bytes s table) (targetHere j bytes s table))
       unfolding forward legOf ringOf lastOf
       forward-does h =
@@ -227,7 +226,7 @@ module _ (j : Job) (bytes : List ℕ) (H : Held j bytes) where
           ∙ learn-back j bytes s table path (seen j bytes (s .current)) (newHere j bytes s table) (targetHere j bytes s table) below (lt-leb _ _ h)
           ∙ back-goes j bytes s table path (newHere j bytes s table) (ne-eqb (s .length) 0 (λ e. omega arith)) (eq-eqb _ _ (leads i .1))
 
-      pub back-does : j .q * j .quota < s .learned + rise table (s .current) (newHere j bytes s table) → 1 ≤ s .length
+      back-does : j .q * j .quota < s .learned + rise table (s .current) (newHere j bytes s table) → 1 ≤ s .length
           → Does j bytes s table path (backOut j bytes s (seen j bytes l) table path (newHere j bytes s table) l)
       unfolding backOut legOf ringOf lastOf
       back-does h i =
@@ -258,7 +257,7 @@ module _ (j : Job) (bytes : List ℕ) (H : Held j bytes) where
           ∙ learn-back j bytes s table path (seen j bytes (s .current)) (newHere j bytes s table) (targetHere j bytes s table) below (lt-leb _ _ h)
           ∙ back-stays j bytes s table path (newHere j bytes s table) (eq-eqb (s .length) 0 e)
 
-      pub stay-does : j .q * j .quota < s .learned + rise table (s .current) (newHere j bytes s table) → s .length ≡ 0
+      stay-does : j .q * j .quota < s .learned + rise table (s .current) (newHere j bytes s table) → s .length ≡ 0
           → Does j bytes s table path (stay s table path (newHere j bytes s table))
       unfolding stay
       stay-does h e =
@@ -282,10 +281,3 @@ module _ (j : Job) (bytes : List ℕ) (H : Held j bytes) where
           by (yes h) d = subst (Does j bytes s table path) (sym (act-forward h)) (forward-does h)
           by (no h) (yes i) = subst (Does j bytes s table path) (sym (act-back (omega arith) i)) (back-does (omega arith) i)
           by (no h) (no i) = subst (Does j bytes s table path) (sym (act-stay (omega arith) (omega arith))) (stay-does (omega arith) (omega arith))
-
-      -- and it is what `learning`'s function of the lookahead's answer gives
-      pub act-after : (act j bytes s table path .rise ≡ rise table (s .current) (newHere j bytes s table))
-          × (act j bytes s table path .cost ≡ moveCost J (asState s table path) (newHere j bytes s table) (targetHere j bytes s table))
-          × (asState (act j bytes s table path .state) (act j bytes s table path .table) (act j bytes s table path .path)
-          ≡ after J (asState s table path) (newHere j bytes s table) (targetHere j bytes s table))
-      act-after = step-unique (H .lawful) here (act-does .step) (after-step (asState s table path) off looked)

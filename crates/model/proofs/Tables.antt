@@ -30,7 +30,7 @@ use Rattle.model.proofs.Cases.{act-arrived, act-blind, act-learns, lear
 use Rattle.model.proofs.Steps.{newHere, targetHere, stored-raised, stored-fits}
 use Rattle.model.proofs.Rides.{ride-there, ride-on, ready-after, course-settled, course-again}
 
-pub stored-high : (table : List ℕ) (s new x : ℕ) → getD table x 0 ≤ getD (stored table s new) x 0
+stored-high : (table : List ℕ) (s new x : ℕ) → getD table x 0 ≤ getD (stored table s new) x 0
 stored-high table s new x = by (ltb (getD table s 0) new) refl (ℕ-discrete x s) (decLe (length table) s)
   where
     by : (b : Bool) → ltb (getD table s 0) new ≡ b → Dec (x ≡ s) → Dec (length table ≤ s) → getD table x 0 ≤ getD (choose b (set table s new) table) x 0
@@ -46,7 +46,7 @@ stored-high table s new x = by (ltb (getD table s 0) new) refl (ℕ-discrete x s
     by true e (no q) h = omega (arith, getD-set-other table s x new 0 q)
     by false e d h = omega arith
 
-pub stored-other : (table : List ℕ) (s new x : ℕ) → (x ≡ s → ⊥) → getD (stored table s new) x 0 ≡ getD table x 0
+stored-other : (table : List ℕ) (s new x : ℕ) → (x ≡ s → ⊥) → getD (stored table s new) x 0 ≡ getD table x 0
 stored-other table s new x other = by (ltb (getD table s 0) new)
   where
     by : (b : Bool) → getD (choose b (set table s new) table) x 0 ≡ getD table x 0
@@ -75,7 +75,7 @@ module _ (j : Job) (bytes : List ℕ) (s : State) (table path : List ℕ) where
       by false e true f = inr (ap (λ d. d .table) (back-goes j bytes s table path new e f))
       by false e false f = inl (ap (λ d. d .table) (back-lost j bytes s table path new e f))
 
-  pub act-table : Left j bytes s table (act j bytes s table path .table)
+  act-table : Left j bytes s table (act j bytes s table path .table)
   unfolding forward
   act-table =
       by (atGoal j bytes (s .current)) refl (emptyRing j bytes (seen j bytes (s .current)) (seen j bytes (s .current) .last)) refl
@@ -111,7 +111,7 @@ module _ (j : Job) (bytes : List ℕ) (s : State) (table path : List ℕ) where
       by (inl e) = omega (arith, ap (λ (t : List ℕ). getD t x 0) e)
       by (inr (o, c, e)) = omega (arith, ap (λ (t : List ℕ). getD t x 0) e, stored-high table (s .current) (newHere j bytes s table) x)
 
-  pub act-sound : Held j bytes → Sound (learningJob j bytes) table → Sound (learningJob j bytes) (act j bytes s table path .table)
+  act-sound : Held j bytes → Sound (learningJob j bytes) table → Sound (learningJob j bytes) (act j bytes s table path .table)
   act-sound H S = by act-table
     where
       stay-low : ¬ CanReach (learningJob j bytes) (s .current) → Sound (learningJob j bytes) (stored table (s .current) (newHere j bytes s table))
@@ -134,7 +134,7 @@ module _ (j : Job) (bytes : List ℕ) (s : State) (table path : List ℕ) where
       by (inl e) = subst (Sound (learningJob j bytes)) (sym e) S
       by (inr (o, c, e)) = subst (Sound (learningJob j bytes)) (sym e) (here o (reachOf (groundIn j bytes) (s .current)) refl)
 
-  pub act-fits : ((x : ℕ) → x < length table → getD table x 0 ≤ ceiling) → (x : ℕ) → x < length table → getD (act j bytes s table path .table) x 0 ≤ ceiling
+  act-fits : ((x : ℕ) → x < length table → getD table x 0 ≤ ceiling) → (x : ℕ) → x < length table → getD (act j bytes s table path .table) x 0 ≤ ceiling
   act-fits fits x h = by act-table
     where
       new : ℕ
