@@ -34,7 +34,7 @@ fn lines(page: &mut Page, at: usize, x: usize) -> usize
         x,
         x + 28,
         kept,
-        b" stroke='#000000' stroke-width='7'",
+        b" stroke='#000000' stroke-width='6'",
     );
     let at = drawing::caption(page, at, x + 38, kept + 5, b"kept way");
     let at = drawing::level(

@@ -93,9 +93,9 @@ fn height(s: Sheet) -> usize {
     counts_y(s) + 42
 }
 
-// A width of so many points beside a cell that counts 1, as a fraction of it in thousandths.
+// So many points as a share of a cell's side, in thousandths: less than the whole, since no cell has fewer than 10.
 pub fn points(page: &mut Page, at: usize, s: Sheet, n: usize) -> usize
-    requires { ⌜ n ≤ 96 ⌝ }
+    requires { ⌜ n ≤ 9 ⌝ }
 {
     let share = n * 1000 / larger(1, s.cell);
     if share < 100 {

@@ -187,7 +187,7 @@ pub fn define(
 
 // A way that is defined, so many points wide.
 fn stroke(page: &mut Page, at: usize, s: Sheet, n: usize, way: &[u8]) -> usize
-    requires { ⌜ (n ≤ 96) × (length (now way) ≤ 512) ⌝ }
+    requires { ⌜ (n ≤ 9) × (length (now way) ≤ 512) ⌝ }
 {
     let at = drawing::words(page, at, b"<use stroke-width='");
     let at = sheet::points(page, at, s, n);
@@ -203,8 +203,8 @@ pub fn draw(page: &mut Page, at: usize, s: Sheet) -> usize {
         at,
         b"<g transform='translate(0.5 0.5)' fill='none' stroke-linejoin='round' stroke-linecap='round'>\n",
     );
-    let at = stroke(page, at, s, 10, b" stroke='#ffffff' xlink:href='#kept'");
-    let at = stroke(page, at, s, 7, b" stroke='#000000' xlink:href='#kept'");
+    let at = stroke(page, at, s, 9, b" stroke='#ffffff' xlink:href='#kept'");
+    let at = stroke(page, at, s, 6, b" stroke='#000000' xlink:href='#kept'");
     let at = stroke(
         page,
         at,
