@@ -30,7 +30,7 @@ use Rattle.model.proofs.Parts.{rest}
 use Rattle.model.proofs.Cut.{size-most, malformed-is, asked-is, aisle-cut}
 use Rattle.floor_text.specs.Reads.{Reads}
 use Rattle.floor_text.proofs.Laws.{rows-there, length-cells}
-use Rattle.opening.specs.Promise.{Fills}
+use Rattle.opening.specs.Promise.{Fills, lineHolds}
 use Rattle.line.specs.declared.Line.{Line}
 use Rattle.line.specs.declared.Line.the-variants as Ln
 use Rattle.line.specs.Reading as reading
@@ -38,7 +38,7 @@ use Rattle.line.specs.Printing.{Printed}
 use Rattle.line.proofs.Decimals.{field-few}
 use Rattle.journey.specs.Telling.{Ended}
 use Rattle.journey.proofs.Telling.{ended}
-use Rattle.aisle.specs.Answers.{lineHolds, toldOf, openedLines, Readied, Answered}
+use Rattle.aisle.specs.Answers.{toldOf, openedLines, Readied, Answered}
 
 -- ---- a refusal
 

@@ -4,20 +4,14 @@ use mathlib.Core.Path.{_≡_}
 use mathlib.Core.List.{List}
 use lib.ListN.{length, take}
 use Rattle.answers.specs.declared.Job.{Job}
-use Rattle.answers.specs.declared.Settings.{Settings}
 use Rattle.answers.specs.declared.Verdict.{Verdict}
 use Rattle.answers.specs.declared.Verdict.the-variants as Vd
-use Rattle.model.specs.Basics.{then}
 use Rattle.model.specs.Floor.{Sized, size, openingTable}
 use Rattle.model.specs.Checks.{floorOf, goals, settings}
-use Rattle.model.specs.Opening.{trialsHold, openJob}
+use Rattle.model.specs.Opening.{openJob}
 use Rattle.model.specs.Ride.{courseFrom}
-use Rattle.model.specs.Line.{jobIn, refusalLine, courseLines, aisle}
+use Rattle.model.specs.Line.{refusalLine, courseLines, aisle}
 use Rattle.journey.specs.Telling.{Ended}
-
--- 3: the line's settings; the sizes of a floor are no part of them
-abbrev pub lineHolds : Settings → Verdict
-lineHolds s = then (settings (jobIn s 1 1)) (trialsHold (s .trials))
 
 -- what is told of a job by what its opening says
 abbrev pub toldOf : Verdict → Job → List ℕ → (start trials : ℕ) → (table path : List ℕ) → List ℕ

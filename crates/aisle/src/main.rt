@@ -3,8 +3,9 @@ ghost use mathlib.Core.Path.{_≡_};
 ghost use Prim.Native.Nat.{_*_};
 ghost use lib.ListN.{length, replicate};
 ghost use Rattle.model.specs.Line.{jobIn, judgeAisle, printed};
+ghost use Rattle.opening.specs.Promise.{lineHolds};
 ghost use Rattle.journey.specs.Telling.{Ended};
-ghost use Rattle.aisle.specs.Answers.{lineHolds, openedLines, Readied, Lent, Answered};
+ghost use Rattle.aisle.specs.Answers.{openedLines, Readied, Lent, Answered};
 use answers::FloorRead;
 use answers::Job;
 use answers::Place;
@@ -15,25 +16,6 @@ use libc::STDIN_FILENO;
 use libc::STDOUT_FILENO;
 use line::Line;
 use line::print;
-
-// 3: the line's settings, before the floor text is looked at: the sizes of a floor are no part of them.
-fn settings_hold(s: Settings) -> Verdict
-    ensures { λ r. ⌜ r ≡ lineHolds s ⌝ }
-{
-    let v = checks::settings(Job {
-        width: 1,
-        height: 1,
-        goal: s.goal,
-        depth: s.depth,
-        p: s.p,
-        q: s.q,
-        quota: s.quota,
-    });
-    let Verdict::Done = v else {
-        return v;
-    };
-    opening::trials_hold(s.trials)
-}
 
 // The rest of the checks on the opening table, and the trials.
 fn opened(
@@ -105,7 +87,7 @@ fn asked(s: Settings, text: &[u8], out: &mut [u8]) -> usize
     requires { ⌜ length (now out) ≡ 65536 ⌝ }
     ensures { λ r. ⌜ Ended (now (out .entry)) 0 (printed (judgeAisle s (now (text .entry))) s (now (text .entry))) (now (out .exit)) r ⌝ }
 {
-    match settings_hold(s) {
+    match opening::settings_hold(s) {
         Verdict::Refused(r) => print::refusal_line(out, 0, r),
         Verdict::Done => with_text(s, text, out),
     }

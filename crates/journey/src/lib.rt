@@ -45,7 +45,7 @@ fn say_moves(out: &mut [u8], at: usize, moves: &[u8], n: usize) -> usize
 }
 
 // How many moves an answer tells of.
-fn moves_of(a: Answer) -> usize
+pub fn moves_of(a: Answer) -> usize
     ensures { λ r. ⌜ r ≡ movesOf a ⌝ }
 {
     match a {

@@ -4,9 +4,13 @@ use mathlib.Core.Path.{_≡_}
 use mathlib.Core.List.{List}
 use lib.ListN.{length}
 use Rattle.answers.specs.Says.{saysVerdict}
+use Rattle.answers.specs.declared.Settings.{Settings}
 use Rattle.answers.specs.declared.Verdict.{Verdict}
+use Rattle.model.specs.Basics.{then}
 use Rattle.model.specs.Floor.{Floor}
-use Rattle.model.specs.Opening.{openTable, filled}
+use Rattle.model.specs.Checks.{settings}
+use Rattle.model.specs.Opening.{openTable, filled, trialsHold}
+use Rattle.model.specs.Line.{jobIn}
 
 pub record Answers (r v : Verdict) : Type 0 where
   pub is : r ≡ v
@@ -16,3 +20,7 @@ pub record Answers (r v : Verdict) : Type 0 where
 pub record Fills (f : Floor) (q : ℕ) (gs table : List ℕ) (r : Verdict) (after : List ℕ) : Type 0 where
   pub answer : Answers r (openTable f q gs (length table))
   pub left : after ≡ filled (openTable f q gs (length table)) f q gs table
+
+-- 3: the line's settings; the sizes of a floor are no part of them
+abbrev pub lineHolds : Settings → Verdict
+lineHolds s = then (settings (jobIn s 1 1)) (trialsHold (s .trials))

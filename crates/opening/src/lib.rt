@@ -11,10 +11,11 @@ ghost use Rattle.model.specs.Checks.{floorOf};
 ghost use Rattle.model.specs.Opening.{soundness, accepts, openJob, openTrial, reportsRoom, trialsHold, openRun, openTable};
 ghost use Rattle.floor.specs.Moves.{flat};
 ghost use Rattle.opening.specs.Distances.{far, Distances, above, judged, Openable};
-ghost use Rattle.opening.specs.Promise.{Answers, Fills};
+ghost use Rattle.opening.specs.Promise.{Answers, Fills, lineHolds};
 ghost use Rattle.opening.specs.Search.{throughStep, Leading, Spread, Best, Relaxed, inOrder, Swept, Settled};
 use answers::Job;
 use answers::Place;
+use answers::Settings;
 use answers::Verdict;
 use floor::Step;
 
@@ -281,6 +282,25 @@ pub fn trials_hold(trials: usize) -> Verdict
         return checks::refuse(3);
     }
     Verdict::Done
+}
+
+// 3: the line's settings, before the floor text is looked at: the sizes of a floor are no part of them.
+pub fn settings_hold(s: Settings) -> Verdict
+    ensures { λ r. ⌜ r ≡ lineHolds s ⌝ }
+{
+    let v = checks::settings(Job {
+        width: 1,
+        height: 1,
+        goal: s.goal,
+        depth: s.depth,
+        p: s.p,
+        q: s.q,
+        quota: s.quota,
+    });
+    let Verdict::Done = v else {
+        return v;
+    };
+    trials_hold(s.trials)
 }
 
 // The opening of a run: also its path list, its reports and its trials.

@@ -202,7 +202,7 @@ pub fn run(
 }
 
 // The i-th record of a list of numbers, four for each.
-fn report_at(counts: &[u64], i: usize) -> Report
+pub fn report_at(counts: &[u64], i: usize) -> Report
     requires { ⌜ (i * 4 + 4 ≤ length (now counts)) × (i < 1001) ⌝ }
     ensures { λ r. ⌜ r ≡ recordAt (now (counts .entry)) i ⌝ }
 {

@@ -1,9 +1,9 @@
--- `aisle::settings_hold` meets its contract: one check after another.
+-- `opening::settings_hold` meets its contract: one check after another.
 -- Assumes nothing.
 use Rattle.model.proofs.Accepted.{then-stops, then-goes}
 use borrow.Author.Needs.{needs}
-use Rattle.aisle.proofs.settings_hold.Statement.{statement}
-use Rattle.aisle.proofs.settings_hold.Tie as tie
+use Rattle.opening.proofs.settings_hold.Statement.{statement}
+use Rattle.opening.proofs.settings_hold.Tie as tie
 
 settings-requires : tie.Need-settings-requires
 settings-requires c κs = search needs
