@@ -58,12 +58,6 @@ fn push(r: Reading, end: usize) -> Reading
     next
 }
 
-fn wide(b: u8) -> usize
-    ensures { λ r. ⌜ (r ≡ b) × (r < 256) ⌝ }
-{
-    b as usize
-}
-
 // One byte more of the line, which is no LF.
 fn take(r: Reading, b: u8) -> Reading
     requires { ⌜ Goes r ⌝ ∗ ⌜ (b ≡ 10 → ⊥) ⌝ }
@@ -82,7 +76,7 @@ fn take(r: Reading, b: u8) -> Reading
         return blank(false);
     }
     let mut next = r;
-    next.value = 10 * r.value + wide(b - 48);
+    next.value = 10 * r.value + notation::wide8(b - 48);
     next.digits = r.digits + 1;
     next
 }

@@ -54,12 +54,6 @@ fn expect(c: Cursor, n: usize) -> Cursor
     }
 }
 
-fn wide(b: u8) -> usize
-    ensures { λ r. ⌜ (r ≡ b) × (r < 256) ⌝ }
-{
-    b as usize
-}
-
 // A space or LF.
 fn is_blank(b: u8) -> bool
     ensures { λ r. ⌜ r ≡ isBlank b ⌝ }
@@ -90,7 +84,7 @@ fn digits(input: &[u8], at: usize) -> Item
         if 57 < b {
             return Item::Malformed;
         }
-        let more = 10 * value + wide(b - 48);
+        let more = 10 * value + notation::wide8(b - 48);
         if 4294967295 < more {
             return Item::Malformed;
         }

@@ -46,11 +46,11 @@ returns-4 c =
 mul-next : tie.Need-mul-next
 mul-next c = let a = c .before .before .before .before .before .before in omega (arith, a .pre .0 .small, tens-high (a .args .r .digits) (a .pre .0 .short))
 
-wide-requires : tie.Need-wide-requires
-wide-requires c κs = search needs
+wide8-requires : tie.Need-wide8-requires
+wide8-requires c κs = search needs
 
 add-next : tie.Need-add-next
-add-next c = let a = c .before .before .before .before .before .before .before in omega (arith, a .pre .0 .small, tens-high (a .args .r .digits) (a .pre .0 .short), c .wide .ensures .1)
+add-next c = let a = c .before .before .before .before .before .before .before in omega (arith, a .pre .0 .small, tens-high (a .args .r .digits) (a .pre .0 .short), c .wide8 .ensures .1)
 
 add-next-2 : tie.Need-add-next-2
 add-next-2 c = search needs
@@ -58,7 +58,7 @@ add-next-2 c = search needs
 returns-5 : tie.Need-returns-5
 returns-5 c =
     let a = c .before .before .before .before .before .before .before .before in
-    taken-digit (a .args .r) (a .args .b) (c .before .wide .result) (a .pre .0) (c .before .wide .ensures .0) (omega arith, omega arith, omega arith)
+    taken-digit (a .args .r) (a .args .b) (c .before .wide8 .result) (a .pre .0) (c .before .wide8 .ensures .0) (omega arith, omega arith, omega arith)
 
 pub take-spec : {M : Type 1} → statement M
 take-spec =
@@ -73,7 +73,7 @@ take-spec =
     blank-requires-3
     returns-4
     mul-next
-    wide-requires
+    wide8-requires
     add-next
     add-next-2
     returns-5)

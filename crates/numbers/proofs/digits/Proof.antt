@@ -48,8 +48,8 @@ returns-3 c =
 mul-more : tie.Need-mul-more Inv-loop μ-loop
 mul-more c = omega arith
 
-wide-requires : tie.Need-wide-requires Inv-loop μ-loop
-wide-requires c κs = search needs
+wide8-requires : tie.Need-wide8-requires Inv-loop μ-loop
+wide8-requires c κs = search needs
 
 add-more : tie.Need-add-more Inv-loop μ-loop
 add-more c = omega arith
@@ -70,7 +70,7 @@ loop-again : tie.Need-loop-again Inv-loop μ-loop
 loop-again c =
     let a = c .before .before .before .before .before .before .before .before .before .before .args in
     let l = c .before .before .before .before .before .before .before .before .loop in
-    (omega arith, digits-more (a .input .now) (a .at) (l .i) (l .value) (l .inv .1) (omega arith) (sym (c .before .before .before .before .before .is-blank .ensures) ∙ c .before .before .before .before .if1 .left) _ (ap (λ x. 10 * l .value + x) (c .before .wide .ensures .0)) (omega arith))
+    (omega arith, digits-more (a .input .now) (a .at) (l .i) (l .value) (l .inv .1) (omega arith) (sym (c .before .before .before .before .before .is-blank .ensures) ∙ c .before .before .before .before .if1 .left) _ (ap (λ x. 10 * l .value + x) (c .before .wide8 .ensures .0)) (omega arith))
 
 returns-5 : tie.Need-returns-5 Inv-loop μ-loop
 returns-5 c =
@@ -91,7 +91,7 @@ digits-spec =
     returns-2
     returns-3
     mul-more
-    wide-requires
+    wide8-requires
     add-more
     returns-4
     add-i

@@ -44,7 +44,7 @@ loop-again c =
     let l = c .before .before .before .before .before .before .before .loop in
     let f = c .before .before .field in
     let w = c .before .before .before .wide32 in
-    (omega arith, f .kept .0 ∙ l .inv .1, omega (arith, f .ensures .1), fields-more (a .list .now) (l .i) (w .result) (omega arith) (w .ensures) (l .inv .3) (f .ensures .0))
+    (omega arith, f .kept .0 ∙ l .inv .1, omega (arith, f .ensures .1), fields-more (a .list .now) (l .i) (w .result) (omega arith) (w .ensures .0) (l .inv .3) (f .ensures .0))
 
 same-length : tie.Need-same-length Inv-loop μ-loop
 same-length c = omega arith
