@@ -28,9 +28,6 @@ add-end c = omega (arith, row-left _ _ _ _ _ _ _ (c .before .loop .inv) (omega a
 slice-aggregate-store-row : tie.Need-slice-aggregate-store-row Inv-loop μ-loop
 slice-aggregate-store-row c = sym (length-take-le (c .before .before .before .before .before .args .width) (c .before .before .loop .t .now) (omega (arith, row-left _ _ _ _ _ _ _ (c .before .before .loop .inv) (omega arith))))
 
-sub-store-row : tie.Need-sub-store-row Inv-loop μ-loop
-sub-store-row c = omega arith
-
 part-store-row-start : tie.Need-part-store-row-start Inv-loop μ-loop
 part-store-row-start c = omega (arith, row-left _ _ _ _ _ _ _ (c .before .before .loop .inv) (omega arith))
 
@@ -39,9 +36,6 @@ part-store-row-end c = omega (arith, row-left _ _ _ _ _ _ _ (c .before .before .
 
 store-row-requires : tie.Need-store-row-requires Inv-loop μ-loop
 store-row-requires c κs = simp (length-take, length-drop) (omega (arith, row-left _ _ _ _ _ _ _ (c .before .before .before .loop .inv) (omega arith)))
-
-add-t : tie.Need-add-t Inv-loop μ-loop
-add-t c = search needs
 
 sub-t : tie.Need-sub-t Inv-loop μ-loop
 sub-t c = omega (arith, row-left _ _ _ _ _ _ _ (c .before .before .before .before .before .before .loop .inv) (omega arith))
@@ -52,17 +46,11 @@ part-t-start c = omega (arith, row-left _ _ _ _ _ _ _ (c .before .before .before
 part-t-end : tie.Need-part-t-end Inv-loop μ-loop
 part-t-end c = omega (arith, row-left _ _ _ _ _ _ _ (c .before .before .before .before .before .before .loop .inv) (omega arith))
 
-add-row : tie.Need-add-row Inv-loop μ-loop
-add-row c = search needs
-
-loop-less : tie.Need-loop-less Inv-loop μ-loop
-loop-less c = search needs
-
 loop-again : tie.Need-loop-again Inv-loop μ-loop
-loop-again c = filled-more _ _ _ _ _ _ _ (c .before .before .before .before .before .before .before .loop .inv) _ (c .before .before .before .store-row .ensures) (omega arith)
-
-same-length : tie.Need-same-length Inv-loop μ-loop
-same-length c = omega arith
+loop-again c =
+    let in-loop = c .before .before .before .before .before .before in
+    let at-loop = in-loop .before in
+    filled-more _ _ _ _ _ _ _ (at-loop .loop .inv) _ (c .before .before .before .store-row .ensures) (omega arith)
 
 returns : tie.Need-returns Inv-loop μ-loop
 returns c = filled-all _ _ _ _ _ _ _ (c .before .loop .inv) (omega arith)
@@ -77,16 +65,16 @@ store-rows-spec =
     mul-at
     add-end
     slice-aggregate-store-row
-    sub-store-row
+    (λ c. omega arith)
     part-store-row-start
     part-store-row-end
     store-row-requires
-    add-t
+    (λ c. search needs)
     sub-t
     part-t-start
     part-t-end
-    add-row
-    loop-less
+    (λ c. search needs)
+    (λ c. search needs)
     loop-again
-    same-length
+    (λ c. omega arith)
     returns)
