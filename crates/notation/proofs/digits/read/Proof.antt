@@ -19,7 +19,7 @@ abbrev μ-loop : tie.MeasureT-loop
 returns : tie.Need-returns Inv-loop μ-loop
 returns c =
     let b = c .before .is-digit in
-    reading-stop _ _ _ (c .before .before .before .before .loop .inv) (omega arith) (sym (b .ensures) ∙ not-true (b .result) (c .if1 .taken))
+    reading-stop _ _ _ (c .before .before .before .before .loop .inv) (sym (b .ensures) ∙ not-true (b .result) (c .if1 .taken))
 
 with-digit-requires : tie.Need-with-digit-requires Inv-loop μ-loop
 with-digit-requires c κs =
@@ -29,7 +29,7 @@ with-digit-requires c κs =
 loop-again : tie.Need-loop-again Inv-loop μ-loop
 loop-again c =
     let b = c .before .before .is-digit in
-    reading-more _ _ _ (c .before .before .before .before .before .loop .inv) (omega arith) (sym (b .ensures) ∙ not-false (b .result) (c .before .if1 .left)) _ (c .with-digit .ensures)
+    reading-more _ _ _ (c .before .before .before .before .before .loop .inv) (sym (b .ensures) ∙ not-false (b .result) (c .before .if1 .left)) _ (c .with-digit .ensures)
 
 pub read-spec : {M : Type 1} → statement M
 read-spec =
