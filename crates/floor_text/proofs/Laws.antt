@@ -17,7 +17,7 @@ use Rattle.answers.specs.declared.Refusal.{Refusal}
 use Rattle.answers.specs.declared.Verdict.the-variants as Vd
 use Rattle.answers.specs.declared.FloorRead.the-variants as Fr
 use Rattle.model.specs.Basics.{choose, every, refuseAt}
-use Rattle.model.specs.FloorText.{begins, sizeIn, sizeBytes, header, heightIn, widthIn, rowsIn, afterHeight, afterWidth, typeAndHeight, andWidth, andMap, freeLetter, blockedLetter, byteOf, rowHolds, rows, cellsOf, readFloor, floorVerdict}
+use Rattle.model.specs.FloorText.{begins, sizeBytes, header, heightIn, widthIn, rowsIn, afterHeight, afterWidth, typeAndHeight, andWidth, andMap, freeLetter, blockedLetter, byteOf, rowHolds, rows, cellsOf, readFloor, floorVerdict}
 use Rattle.model.proofs.Parts.{rest}
 use Rattle.floor_text.specs.Reads.{Sound, Reads}
 
@@ -57,46 +57,6 @@ module _ (w t : List ℕ) (i : ℕ) (g : Begun w t i) where
   pub begun-all : length w ≤ i → true ≡ begins w t
   unfolding begins
   begun-all h = (let z = drop-of-length-le w {i = i} h in rw z) ∙ g .left
-
--- A size, by its bytes.
-module _ (t : List ℕ) (a b c : ℕ) (e : a ≡ getD t 0 0) (f : b ≡ getD t 1 0) where
-  abbrev is : ℕ → Type 0
-  is n = n ≡ sizeIn t
-
-  pub size-low : a < 49 → is 0
-  unfolding sizeIn
-  size-low h = simp (← e, ← f, lt-leb 49 a h)
-
-  pub size-high : (49 ≤ a) × (57 < a) → is 0
-  unfolding sizeIn
-  size-high h = simp (← e, ← f, le-leb 49 a (h .0), lt-leb a 57 (h .1))
-
-  pub size-one : (49 ≤ a) × (a ≤ 57) × (b ≡ 10) → is (a - 48)
-  unfolding sizeIn
-  size-one h = simp (← e, ← f, le-leb 49 a (h .0), le-leb a 57 (h .1), eq-eqb b 10 (h .2))
-
-  pub size-second-low : (49 ≤ a) × (a ≤ 57) × (b ≡ 10 → ⊥) × (b < 48) → is 0
-  unfolding sizeIn
-  size-second-low h = simp (← e, ← f, le-leb 49 a (h .0), le-leb a 57 (h .1), ne-eqb b 10 (h .2), lt-leb 48 b (h .3))
-
-  pub size-second-high : (49 ≤ a) × (a ≤ 57) × (b ≡ 10 → ⊥) × (48 ≤ b) × (57 < b) → is 0
-  unfolding sizeIn
-  size-second-high h = simp (← e, ← f, le-leb 49 a (h .0), le-leb a 57 (h .1), ne-eqb b 10 (h .2), le-leb 48 b (h .3), lt-leb b 57 (h .4))
-
-  module _ (g : c ≡ getD t 2 0) where
-    pub size-no-LF : (49 ≤ a) × (a ≤ 57) × (b ≡ 10 → ⊥) × (48 ≤ b) × (b ≤ 57) × (c ≡ 10 → ⊥) → is 0
-    unfolding sizeIn
-    size-no-LF h = simp (← e, ← f, ← g, le-leb 49 a (h .0), le-leb a 57 (h .1), ne-eqb b 10 (h .2), le-leb 48 b (h .3), le-leb b 57 (h .4), ne-eqb c 10 (h .5))
-
-    pub size-two : (49 ≤ a) × (a ≤ 57) × (b ≡ 10 → ⊥) × (48 ≤ b) × (b ≤ 57) × (c ≡ 10) → is (choose (leb (10 * (a - 48) + (b - 48)) 64) (10 * (a - 48) + (b - 48)) 0)
-    unfolding sizeIn
-    size-two h = simp (← e, ← f, ← g, le-leb 49 a (h .0), le-leb a 57 (h .1), ne-eqb b 10 (h .2), le-leb 48 b (h .3), le-leb b 57 (h .4), eq-eqb c 10 (h .5))
-
-    pub size-past : (49 ≤ a) × (a ≤ 57) × (b ≡ 10 → ⊥) × (48 ≤ b) × (b ≤ 57) × (c ≡ 10) → 64 < 10 * (a - 48) + (b - 48) → is 0
-    size-past h l = rw (lt-leb (10 * (a - 48) + (b - 48)) 64 l) at (size-two h)
-
-    pub size-whole : (49 ≤ a) × (a ≤ 57) × (b ≡ 10 → ⊥) × (48 ≤ b) × (b ≤ 57) × (c ≡ 10) → 10 * (a - 48) + (b - 48) ≤ 64 → is (10 * (a - 48) + (b - 48))
-    size-whole h l = rw (le-leb (10 * (a - 48) + (b - 48)) 64 l) at (size-two h)
 
 -- The letters of a row.
 abbrev letters : ℕ → Bool

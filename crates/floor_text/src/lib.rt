@@ -3,6 +3,7 @@ use answers::FloorRead;
 use answers::Place;
 use answers::Refusal;
 use answers::Verdict;
+use notation::digits;
 ghost use mathlib.Core.Path.{_≡_};
 ghost use mathlib.Core.Bool.{_||_};
 ghost use mathlib.Core.List.{_++_, map};
@@ -59,31 +60,21 @@ fn begins_with(word: &[u8], text: &[u8]) -> bool
 fn size_in(text: &[u8]) -> usize
     ensures { λ r. ⌜ (r ≡ sizeIn (now (text .entry))) × (r ≤ 64) ⌝ }
 {
-    let a = byte_at(text, 0) as usize;
-    let b = byte_at(text, 1) as usize;
-    if a < 49 {
+    if byte_at(text, 0) == b'0' {
         return 0;
     }
-    if 57 < a {
+    let run = digits::read(text, 0, 64);
+    let end = run.after;
+    if 2 < end {
         return 0;
     }
-    if b == 10 {
-        return a - 48;
-    }
-    if b < 48 {
+    if byte_at(text, end) != 10 {
         return 0;
     }
-    if 57 < b {
+    if 64 < run.value {
         return 0;
     }
-    if byte_at(text, 2) != 10 {
-        return 0;
-    }
-    let n = 10 * (a - 48) + (b - 48);
-    if 64 < n {
-        return 0;
-    }
-    n
+    run.value
 }
 
 // How many bytes a size and its LF take.

@@ -1,6 +1,6 @@
 -- Numbers in decimal: how many digits, and the last one.
 -- Twenty digits are enough for any machine word, so the number of digits allowed for does not matter. Assumes nothing.
-use Prim.Native.Nat.{ℕ, zero, suc, _+_, _-_, _/_, _%_, _≤_, _<_}
+use Prim.Native.Nat.{ℕ, zero, suc, _+_, _-_, _*_, _/_, _%_, _≤_, _<_}
 use mathlib.Core.Path.{_≡_, refl, sym, ap, _∙_}
 use mathlib.Core.Bool.{Bool, true, false}
 use mathlib.Core.List.{List, [], _∷_, _++_}
@@ -13,8 +13,11 @@ use lib.Dec.{leb}
 use lib.ListN.{length, getD, set, take, length-append, length-map}
 use lib.Seq.{sets, take-all, take-suc, length-take-le, getD-take}
 use Rattle.model.specs.Line.{decimalIn, decimal, field}
-use Rattle.line.specs.Reading.{tens}
 use Rattle.line.specs.Printing.{Printed, moveDigits}
+
+unfoldable pub tens : ℕ → ℕ
+tens zero = 1
+tens (suc n) = 10 * tens n
 
 one-digit : (most n : ℕ) → n ≤ 9 → decimalIn (suc most) n ≡ (48 + n) ∷ []
 unfolding decimalIn

@@ -1,28 +1,32 @@
--- What each byte does to a line that is being read, and what its numbers ask for.
--- A byte is the LF, a space, a digit or malformed; each has one law over `numbersIn`. Assumes nothing.
+-- What each run of digits, and the byte after it, does to a line that is being read; and what its numbers ask for.
+-- The byte is the LF, a space or malformed; each has one law over `numbersIn`. Assumes nothing.
 use Prim.Native.Nat.{ℕ, zero, suc, _+_, _-_, _*_, _≤_, _<_}
 use mathlib.Core.Path.{_≡_, refl, sym, ap, _∙_, subst}
 use mathlib.Core.Logic.{_⊎_, inl, inr}
 use mathlib.Core.Bool.{Bool, true, false, _&&_}
 use mathlib.Core.Option.{Option, none, some}
 use mathlib.Core.List.{List, [], _∷_, _++_, append-assoc}
+use native.Mathlib.Nat.{add-zero}
 use native.Mathlib.Decide.{decLe}
 use native.Mathlib.Numerals.{add-one}
 use native.Mathlib.Omega.{arith}
-use borrow.Author.Tests.{le-leb, lt-leb, ne-eqb}
+use borrow.Author.Tests.{le-leb, lt-leb, ne-eqb, eqb-true, eqb-false}
 use lib.Dec.{eqb, leb}
 use lib.ListN.{length, getD, set, take, drop, length-set, drop-of-length-le}
-use lib.Seq.{take-suc-set, length-take-le, drop-cons}
+use lib.Seq.{take-suc-set, length-take-le}
 use Rattle.answers.specs.declared.Settings.{Settings}
 use Rattle.model.specs.FloorText.{LF, isDigit}
 use Rattle.model.specs.Line.{numbersIn, settingsOf, readLine, afterLine}
-use Rattle.model.proofs.Moves.{both}
 use Rattle.model.proofs.Accepted.{never}
 use Rattle.model.proofs.Openings.{not-both}
 use Rattle.line.specs.declared.Reading.{Reading}
 use Rattle.line.specs.declared.Line.{Line}
 use Rattle.line.specs.declared.Line.the-variants.{Asked, Malformed}
-use Rattle.line.specs.Reading.{after, asksOf, numbersOf, whole, tens, Goes, Pushed, Taken, Scanned, asked, textOf, Said}
+use Rattle.line.specs.Reading.{after, asksOf, numbersOf, whole, Goes, Pushed, Scanned, asked, textOf, Said}
+use Rattle.line.proofs.Decimals.{tens}
+use Rattle.notation.specs.declared.digits.Run.{Run}
+use Rattle.notation.specs.Runs.{digitsIn, valueIn, runAt}
+use Rattle.notation.proofs.Runs.{digit-bounds, here, one-digit, no-digit, with-small, run-after, run-rest}
 
 -- a number done, then the others
 after-one : (ns : List ℕ) (v : ℕ) (o : Option (List ℕ)) → after ns (elim o [ none ↦ none | some ms ↦ some (v ∷ ms) ]) ≡ after (ns ++ v ∷ []) o
@@ -50,7 +54,7 @@ eight-more : (ns : List ℕ) → length ns ≡ 7 → (v : ℕ) (o : Option (List
 eight-more ns h v none = refl
 eight-more ns h v (some ms) = eight ns h v ms
 
--- the four kinds of byte
+-- a byte: a digit, or what ends a number
 at-end : (d v : ℕ) (rest : List ℕ) → 1 ≤ d → numbersIn d v (10 ∷ rest) ≡ some (v ∷ [])
 unfolding numbersIn
 at-end d v rest h = rw (le-leb 1 d h)
@@ -59,38 +63,53 @@ at-space : (d v : ℕ) (rest : List ℕ) → 1 ≤ d → numbersIn d v (32 ∷ r
 unfolding numbersIn
 at-space d v rest h = rw (le-leb 1 d h, numbersIn)
 
-no-end : (v : ℕ) (rest : List ℕ) → numbersIn 0 v (10 ∷ rest) ≡ none
-unfolding numbersIn
-no-end v rest = refl
-
-no-space : (v : ℕ) (rest : List ℕ) → numbersIn 0 v (32 ∷ rest) ≡ none
-unfolding numbersIn
-no-space v rest = refl
-
-at-digit : (d v b : ℕ) (rest : List ℕ) → (48 ≤ b) × (b ≤ 57) × (d ≤ 6) → numbersIn d v (b ∷ rest) ≡ numbersIn (suc d) (10 * v + (b - 48)) rest
-unfolding numbersIn
-at-digit d v b rest h =
-    let e : eqb b LF ≡ false = ne-eqb b 10 (λ e. omega (arith, h .0)) in
-    let t : (isDigit b && leb d 6) ≡ true = rw (le-leb 48 b (h .0), le-leb b 57 (h .1), le-leb d 6 (h .2)) in
-    rw (e, t, numbersIn)
-
 at-other : (d v b : ℕ) (rest : List ℕ) → (isDigit b && leb d 6) ≡ false → (b ≡ 10 → ⊥) → (b ≡ 32 → ⊥) → numbersIn d v (b ∷ rest) ≡ none
 unfolding numbersIn
 at-other d v b rest t e f = rw (ne-eqb b 10 e, t, ne-eqb b 32 f, numbersIn)
 
-pub not-digit : (b : ℕ) (t : Bool) → (b < 48) ⊎ (57 < b) → (isDigit b && t) ≡ false
-not-digit b t (inl h) = rw (lt-leb 48 b h)
-not-digit b t (inr h) = not-both _ t (λ e. absurd (never (both (leb 48 b) _ e .1) (lt-leb b 57 h)))
+-- a byte that is the LF, a space, or another
+by-byte : (P : ℕ → Type 0) (b : ℕ) → P 10 → P 32 → ((b ≡ 10 → ⊥) → (b ≡ 32 → ⊥) → P b) → P b
+by-byte P b ten space other = go (eqb b 10) refl (eqb b 32) refl
+  where
+    go : (t : Bool) → eqb b 10 ≡ t → (u : Bool) → eqb b 32 ≡ u → P b
+    go true e u f = subst P (sym (eqb-true b 10 e)) ten
+    go false e true f = subst P (sym (eqb-true b 32 f)) space
+    go false e false f = other (eqb-false b 10 e) (eqb-false b 32 f)
 
-pub too-long : (d b : ℕ) → 7 ≤ d → (isDigit b && leb d 6) ≡ false
-too-long d b h = not-both (isDigit b) (leb d 6) (λ e. lt-leb d 6 (omega arith))
+module _ (v b : ℕ) (rest : List ℕ) (t : isDigit b ≡ false) where
+  -- no number without a digit
+  no-number : numbersIn 0 v (b ∷ rest) ≡ none
+  unfolding numbersIn
+  no-number = by-byte (λ x. numbersIn 0 v (x ∷ rest) ≡ none) b refl refl (λ e f. at-other 0 v b rest (rw t) e f)
 
--- a malformed byte
-pub bad-byte : (r : Reading) (b : ℕ) → (isDigit b && leb (r .digits) 6) ≡ false → (b ≡ 10 → ⊥) → (b ≡ 32 → ⊥) → (rest : List ℕ) → whole r (b ∷ rest) ≡ none
-bad-byte r b t e f rest = rw (at-other (r .digits) (r .value) b rest t e f)
+  -- and no eighth
+  no-eighth : (ns : List ℕ) → length ns ≡ 7 → (d : ℕ) → 1 ≤ d → asksOf (after ns (numbersIn d v (b ∷ rest))) ≡ none
+  no-eighth ns h d l =
+      by-byte
+      (λ x. asksOf (after ns (numbersIn d v (x ∷ rest))) ≡ none)
+      b
+      (ap (λ o. asksOf (after ns o)) (at-end d v rest l) ∙ eight ns h v [])
+      (ap (λ o. asksOf (after ns o)) (at-space d v rest l) ∙ eight-more ns h v (numbersIn 0 0 rest))
+      (λ e f. ap (λ o. asksOf (after ns o)) (at-other d v b rest (rw t) e f))
 
--- a digit
-pub tens-high : (d : ℕ) → d ≤ 7 → tens d ≤ 10000000
+module _ (d v b : ℕ) (rest : List ℕ) (t : isDigit b ≡ true) where
+  at-digit : d ≤ 6 → numbersIn d v (b ∷ rest) ≡ numbersIn (suc d) (10 * v + (b - 48)) rest
+  unfolding numbersIn
+  at-digit l =
+      let e : eqb b LF ≡ false = ne-eqb b 10 (λ e. omega (arith, digit-bounds b t)) in
+      let u : (isDigit b && leb d 6) ≡ true = rw (t, le-leb d 6 l) in
+      rw (e, u, numbersIn)
+
+  at-eighth : 7 ≤ d → numbersIn d v (b ∷ rest) ≡ none
+  at-eighth l =
+      let h = digit-bounds b t in
+      at-other d v b rest (not-both (isDigit b) (leb d 6) (λ e. lt-leb d 6 (omega arith))) (λ e. omega (arith, h .0)) (λ e. omega (arith, h .0))
+
+-- a run of at most 7 digits is below 10,000,000
+abbrev pub longest : ℕ
+longest = 9999999
+
+tens-high : (d : ℕ) → d ≤ 7 → tens d ≤ 10000000
 unfolding tens
 tens-high zero h = omega arith
 tens-high (suc zero) h = omega arith
@@ -102,156 +121,202 @@ tens-high (suc (suc (suc (suc (suc (suc zero)))))) h = omega arith
 tens-high (suc (suc (suc (suc (suc (suc (suc zero))))))) h = omega arith
 tens-high (suc (suc (suc (suc (suc (suc (suc (suc d)))))))) h = absurd (omega arith)
 
-pub tens-more : (d v w : ℕ) → v < tens d → w ≤ 9 → 10 * v + w < tens (d + 1)
+tens-more : (d v w : ℕ) → v < tens d → w ≤ 9 → 10 * v + w < tens (suc d)
 unfolding tens
-tens-more d v w h k = subst (λ n. 10 * v + w < tens n) (sym (add-one d)) (omega arith)
+tens-more d v w h k = omega arith
 
-pub good-digit : (r : Reading) (b : ℕ) → (48 ≤ b) × (b ≤ 57) × (r .digits ≤ 6) → (rest : List ℕ)
-    → asksOf (after (numbersOf r) (numbersIn (r .digits + 1) (10 * r .value + (b - 48)) rest)) ≡ whole r (b ∷ rest)
-good-digit r b h rest = rw (at-digit (r .digits) (r .value) b rest h, add-one)
+tens-none : 0 < tens 0
+unfolding tens
+tens-none = omega arith
 
--- a number done, by a space or by the LF
-module _ (r n : Reading) (end : ℕ) (G : Goes r) (P : Pushed r end n) where
-  numbers-more : n .ok ≡ true → numbersOf n ≡ numbersOf r ++ r .value ∷ []
-  numbers-more t =
-      let g = P .good t in
-      let room : r .count < length (r .numbers) = omega (arith, G .room, g .1) in
-      ap (λ l. take (n .count) l) (g .3) ∙ ap (λ k. take k (set (r .numbers) (r .count) (r .value))) (g .4 ∙ add-one (r .count))
-      ∙ take-suc-set (r .numbers) (r .count) (r .value) room
+-- the line's number goes on after a run of digits, or is too long
+run-on : (d v : ℕ) (bs : List ℕ) → v < tens d → d + digitsIn bs ≤ 7 → numbersIn (d + digitsIn bs) (valueIn longest v bs) (drop (digitsIn bs) bs) ≡ numbersIn d v bs
+unfolding digitsIn valueIn
+run-on d v [] s l = rw (add-zero d)
+run-on d v (b ∷ bs) s l = go (isDigit b) refl (λ n k m. run-on (suc d) n bs k m)
+  where
+    go : (t : Bool) → isDigit b ≡ t
+        → ((n : ℕ) → n < tens (suc d) → suc d + digitsIn bs ≤ 7 → numbersIn (suc d + digitsIn bs) (valueIn longest n bs) (drop (digitsIn bs) bs) ≡ numbersIn (suc d) n bs)
+        → numbersIn (d + digitsIn (b ∷ bs)) (valueIn longest v (b ∷ bs)) (drop (digitsIn (b ∷ bs)) (b ∷ bs)) ≡ numbersIn d v (b ∷ bs)
+    go false t more = let z = no-digit longest v b bs t in rw (z .0, z .1, add-zero d)
+    go true t more =
+        let o = one-digit longest v b bs t in
+        let k : d + suc (digitsIn bs) ≡ suc d + digitsIn bs = omega arith in
+        let m : suc d + digitsIn bs ≤ 7 = omega (arith, l, o .0) in
+        let s′ : 10 * v + (b - 48) < tens (suc d) = tens-more d v (b - 48) s (omega (arith, digit-bounds b t)) in
+        let w : valueIn longest v (b ∷ bs) ≡ valueIn longest (10 * v + (b - 48)) bs =
+        o .1 ∙ ap (λ x. valueIn longest x bs) (with-small longest v b (omega (arith, s′, tens-high (suc d) (omega arith)))) in
+        rw (o .0, w, k) (more (10 * v + (b - 48)) s′ m ∙ sym (at-digit d v b bs t (omega arith)))
 
-  goes-on : n .ok ≡ true → Goes n
-  unfolding tens
-  goes-on t =
-      let g = P .good t in record {
-        ok = t;
-        room = ap length (g .3) ∙ length-set (r .numbers) (r .count) (r .value) ∙ G .room;
-        few = omega (arith, g .1, g .4);
-        short = omega (arith, g .5);
-        small = subst (λ d. n .value < tens d) (sym (g .5)) (omega (arith, g .6));
-      }
-
-  full : 7 ≤ r .count → length (numbersOf r) ≡ 7
-  full h = length-take-le (r .count) (r .numbers) (omega (arith, G .room, G .few)) ∙ omega (arith, G .few)
-
-  pub spaced : Taken r 32 n
-  spaced = record { good = λ t. (goes-on t, on t); bad = λ f. off (decLe 1 (r .digits)) (P .bad f (G .ok)) }
-    where
-      on : n .ok ≡ true → (rest : List ℕ) → whole n rest ≡ whole r (32 ∷ rest)
-      on t rest =
-          let g = P .good t in
-          let e : numbersIn (n .digits) (n .value) rest ≡ numbersIn 0 0 rest = rw (g .5, g .6) in
-          let o : after (numbersOf r) (numbersIn (r .digits) (r .value) (32 ∷ rest)) ≡ after (numbersOf r ++ r .value ∷ []) (numbersIn 0 0 rest) =
-          ap (after (numbersOf r)) (at-space (r .digits) (r .value) rest (g .0)) ∙ after-one (numbersOf r) (r .value) (numbersIn 0 0 rest) in
-          rw (numbers-more t, e, o)
-
-      off : Dec (1 ≤ r .digits) → (r .digits ≡ 0) ⊎ (7 ≤ r .count) → (rest : List ℕ) → whole r (32 ∷ rest) ≡ none
-      off (yes d) (inl h) rest = absurd (omega arith)
-      off (yes d) (inr h) rest =
-          ap (λ o. asksOf (after (numbersOf r) o)) (at-space (r .digits) (r .value) rest d) ∙ eight-more (numbersOf r) (full h) (r .value) (numbersIn 0 0 rest)
-      off (no d) h rest =
-          let z : r .digits ≡ 0 = omega arith in
-          ap (λ o. asksOf (after (numbersOf r) o)) (ap (λ k. numbersIn k (r .value) (32 ∷ rest)) z ∙ no-space (r .value) rest)
-
-  -- at the LF the numbers are all there
-  pub ended : (rest : List ℕ) → n .ok ≡ true → settingsOf (numbersOf n) ≡ whole r (10 ∷ rest)
-  ended rest t = rw (numbers-more t, at-end (r .digits) (r .value) rest (P .good t .0))
-
-  pub unended : (rest : List ℕ) → n .ok ≡ false → whole r (10 ∷ rest) ≡ none
-  unended rest f = off (decLe 1 (r .digits)) (P .bad f (G .ok))
-    where
-      off : Dec (1 ≤ r .digits) → (r .digits ≡ 0) ⊎ (7 ≤ r .count) → whole r (10 ∷ rest) ≡ none
-      off (yes d) (inl h) = absurd (omega arith)
-      off (yes d) (inr h) = ap (λ o. asksOf (after (numbersOf r) o)) (at-end (r .digits) (r .value) rest d) ∙ eight (numbersOf r) (full h) (r .value) []
-      off (no d) h =
-          let z : r .digits ≡ 0 = omega arith in
-          ap (λ o. asksOf (after (numbersOf r) o)) (ap (λ k. numbersIn k (r .value) (10 ∷ rest)) z ∙ no-end (r .value) rest)
+run-long : (d v : ℕ) (bs : List ℕ) → d ≤ 7 → 7 < d + digitsIn bs → numbersIn d v bs ≡ none
+unfolding digitsIn
+run-long d v [] s l = absurd (omega arith)
+run-long d v (b ∷ bs) s l = go (isDigit b) refl (decLe d 6) (λ n k m. run-long (suc d) n bs k m)
+  where
+    go : (t : Bool) → isDigit b ≡ t → Dec (d ≤ 6) → ((n : ℕ) → suc d ≤ 7 → 7 < suc d + digitsIn bs → numbersIn (suc d) n bs ≡ none) → numbersIn d v (b ∷ bs) ≡ none
+    go false t f more = absurd (omega (arith, l, no-digit 0 0 b bs t .0))
+    go true t (yes f) more = at-digit d v b bs t f ∙ more (10 * v + (b - 48)) (omega arith) (omega (arith, l, one-digit 0 0 b bs t .0))
+    go true t (no f) more = at-eighth d v b bs t (omega arith)
 
 -- what stands after the line
-pub after-end : (rest : List ℕ) → afterLine (10 ∷ rest) ≡ rest
+after-end : (rest : List ℕ) → afterLine (10 ∷ rest) ≡ rest
 unfolding afterLine
 after-end rest = refl
 
-pub after-byte : (b : ℕ) (rest : List ℕ) → (b ≡ 10 → ⊥) → afterLine (b ∷ rest) ≡ afterLine rest
+after-byte : (b : ℕ) (rest : List ℕ) → (b ≡ 10 → ⊥) → afterLine (b ∷ rest) ≡ afterLine rest
 unfolding afterLine
 after-byte b rest e = rw (ne-eqb b 10 e, afterLine)
 
+after-run : (bs : List ℕ) → afterLine (drop (digitsIn bs) bs) ≡ afterLine bs
+unfolding digitsIn
+after-run [] = refl
+after-run (b ∷ bs) = go (isDigit b) refl (after-run bs)
+  where
+    go : (t : Bool) → isDigit b ≡ t → afterLine (drop (digitsIn bs) bs) ≡ afterLine bs → afterLine (drop (digitsIn (b ∷ bs)) (b ∷ bs)) ≡ afterLine (b ∷ bs)
+    go true t h = rw (one-digit 0 0 b bs t .0) (h ∙ sym (after-byte b bs (λ e. omega (arith, digit-bounds b t))))
+    go false t h = rw (no-digit 0 0 b bs t .0)
+
 -- nothing read yet, and nothing left to read
-pub none-yet : (r : Reading) (input : List ℕ) → r .count ≡ 0 → r .digits ≡ 0 → r .value ≡ 0 → whole r input ≡ readLine input
+pub none-yet : (r : Reading) (input : List ℕ) → r .count ≡ 0 → whole r input ≡ readLine input
 unfolding readLine
-none-yet r input c d v = rw (c, d, v) (same (numbersIn 0 0 input))
+none-yet r input c = rw c (same (numbersIn 0 0 input))
   where
     same : (o : Option (List ℕ)) → asksOf (after [] o) ≡ elim o [ none ↦ none | some ns ↦ settingsOf ns ]
     same none = refl
     same (some ns) = refl
 
-pub none-left : (r : Reading) → whole r [] ≡ none
+none-left : (d v : ℕ) → numbersIn d v [] ≡ none
 unfolding numbersIn
-none-left r = refl
+none-left d v = refl
 
--- a malformed byte and a digit, as the reading takes them
-pub refused-byte : (r n : Reading) (b : ℕ) → n .ok ≡ false → (isDigit b && leb (r .digits) 6) ≡ false → (b ≡ 10 → ⊥) → (b ≡ 32 → ⊥) → Taken r b n
-refused-byte r n b f t e s = record { good = λ o. absurd (never o f); bad = λ _ rest. bad-byte r b t e s rest }
+-- a malformed line
+pub refused : (input : List ℕ) (n : Reading) → n .ok ≡ false → readLine input ≡ none → Scanned input n
+refused input n f e = record { good = λ o. absurd (never o f); bad = λ _. e }
 
-pub taken-digit : (r : Reading) (b w : ℕ) → Goes r → w ≡ b - 48 → (48 ≤ b) × (b ≤ 57) × (r .digits ≤ 6)
-    → Taken r b (record { ok = r .ok; numbers = r .numbers; count = r .count; digits = r .digits + 1; value = 10 * r .value + w; end = r .end })
-taken-digit r b w G e h = record {
-  good = λ o. (
-    record {
-      ok = o;
-      room = G .room;
-      few = G .few;
-      short = omega (arith, h .2);
-      small = tens-more (r .digits) (r .value) w (G .small) (omega (arith, e, h .1));
-    },
-    λ rest. ap (λ u. asksOf (after (numbersOf r) (numbersIn (r .digits + 1) (10 * r .value + u) rest))) e ∙ good-digit r b h rest,
-  );
-  bad = λ f. absurd (never (G .ok) f);
+-- one number more
+module _ {r n : Reading} {digits value end : ℕ} (G : Goes r) (P : Pushed r digits value end n) (t : n .ok ≡ true) where
+  numbers-more : numbersOf n ≡ numbersOf r ++ value ∷ []
+  numbers-more =
+      let g = P .good t in
+      let room : r .count < length (r .numbers) = omega (arith, G .room, g .2) in
+      ap (λ l. take (n .count) l) (g .3) ∙ ap (λ k. take k (set (r .numbers) (r .count) value)) (g .4 ∙ add-one (r .count)) ∙ take-suc-set (r .numbers) (r .count) value room
+
+  goes-on : Goes n
+  goes-on = let g = P .good t in record {
+    ok = t;
+    room = ap length (g .3) ∙ length-set (r .numbers) (r .count) value ∙ G .room;
+    few = omega (arith, g .2, g .4);
+  }
+
+full : {r : Reading} → Goes r → 7 ≤ r .count → length (numbersOf r) ≡ 7
+full {r} G h = length-take-le (r .count) (r .numbers) (omega (arith, G .room, G .few)) ∙ omega (arith, G .few)
+
+-- the line so far, its bytes up to i: what it asks for with the bytes left, and what stands after it
+pub record Scanning (input : List ℕ) (r : Reading) (i : ℕ) : Type 0 where
+  pub most : i ≤ length input
+  pub goes : Goes r
+  pub same : whole r (drop i input) ≡ readLine input
+  pub rest : afterLine (drop i input) ≡ afterLine input
+
+pub scanning : (input : List ℕ) (r : Reading) → (r .ok ≡ true) × (r .count ≡ 0) × (length (r .numbers) ≡ 7) → Scanning input r 0
+scanning input r e = record {
+  most = omega arith;
+  goes = record { ok = e .0; room = e .2; few = omega (arith, e .1) };
+  same = none-yet r input (e .1);
+  rest = refl;
 }
 
--- a reading of nothing yet
-pub goes-blank : (r : Reading) → (r .ok ≡ true) × (r .count ≡ 0) × (r .digits ≡ 0) × (r .value ≡ 0) × (length (r .numbers) ≡ 7) → Goes r
-unfolding tens
-goes-blank r e = record { ok = e .0; room = e .4; few = omega (arith, e .1); short = omega (arith, e .2); small = subst (λ d. r .value < tens d) (sym (e .2)) (omega (arith, e .3)) }
+-- the LF is never there
+pub scanned-none : {input : List ℕ} {r : Reading} {i : ℕ} → Scanning input r i → length input ≤ i → readLine input ≡ none
+scanned-none {input} {r} {i} g h = sym (g .same) ∙ ap (whole r) (drop-of-length-le input h) ∙ ap (λ o. asksOf (after (numbersOf r) o)) (none-left 0 0)
 
--- the line so far: the input's bytes up to i have been read
-module _ (input : List ℕ) (i : ℕ) (r : Reading) (G : Goes r) (same : whole r (drop i input) ≡ readLine input) (rest : afterLine (drop i input) ≡ afterLine input) where
-  module _ (h : i < length input) where
-    here : drop i input ≡ getD input i 0 ∷ drop (i + 1) input
-    here = drop-cons input i 0 h ∙ ap (λ k. getD input i 0 ∷ drop k input) (sym (add-one i))
+-- the next run of digits
+module _ {input : List ℕ} {r : Reading} {i : ℕ} (g : Scanning input r i) (run : Run) (e : run ≡ runAt longest input i) where
+  abbrev asks : Option (List ℕ) → Option Settings
+  asks o = asksOf (after (numbersOf r) o)
 
-    -- at its LF
-    pub scanned-end : (n : Reading) → getD input i 0 ≡ 10 → Pushed r (i + 1) n → Scanned input n
-    scanned-end n e P =
-        let at : drop i input ≡ 10 ∷ drop (i + 1) input = here ∙ ap (λ b. b ∷ drop (i + 1) input) e in
-        record {
-          good = λ t.
-              let g = P .good t in
-              let k = goes-on r n (i + 1) G P t in (
+  digits : run .after - i ≡ digitsIn (drop i input)
+  digits = omega (arith, ap (λ x. x .after) e)
+
+  bytes : drop (run .after) input ≡ drop (digitsIn (drop i input)) (drop i input)
+  bytes = ap (λ x. drop (x .after) input) e ∙ sym (run-rest longest input i)
+
+  stands : run .after - i ≤ 7 → asks (numbersIn (run .after - i) (run .value) (drop (run .after) input)) ≡ readLine input
+  stands l =
+      let d : run .after - i ≡ 0 + digitsIn (drop i input) = omega (arith, digits) in
+      let v : run .value ≡ valueIn longest 0 (drop i input) = ap (λ x. x .value) e in
+      rw (d, v, bytes) (ap asks (run-on 0 0 (drop i input) tens-none (omega (arith, digits)))) ∙ g .same
+
+  long : 7 < run .after - i → readLine input ≡ none
+  long l = sym (g .same) ∙ ap asks (run-long 0 0 (drop i input) (omega arith) (omega (arith, digits)))
+
+  pub run-none : length input ≤ run .after → readLine input ≡ none
+  run-none h = off (decLe (run .after - i) 7)
+    where
+      off : Dec (run .after - i ≤ 7) → readLine input ≡ none
+      off (yes l) =
+          sym (stands l) ∙ ap (λ bs. asks (numbersIn (run .after - i) (run .value) bs)) (drop-of-length-le input h) ∙ ap asks (none-left (run .after - i) (run .value))
+      off (no l) = long (omega arith)
+
+  -- and the byte after it
+  module _ (h : run .after < length input) where
+    no-digit-here : isDigit (getD input (run .after) 0) ≡ false
+    no-digit-here = rw e (run-after longest input i)
+
+    then-byte : run .after - i ≤ 7 → asks (numbersIn (run .after - i) (run .value) (getD input (run .after) 0 ∷ drop (run .after + 1) input)) ≡ readLine input
+    then-byte l = ap (λ bs. asks (numbersIn (run .after - i) (run .value) bs)) (sym (here input (run .after) h)) ∙ stands l
+
+    line-here : afterLine (getD input (run .after) 0 ∷ drop (run .after + 1) input) ≡ afterLine input
+    line-here = ap afterLine (sym (here input (run .after) h) ∙ bytes) ∙ after-run (drop i input) ∙ g .rest
+
+    module _ (n : Reading) (P : Pushed r (run .after - i) (run .value) (run .after + 1) n) where
+      pub pushed-bad : n .ok ≡ false → readLine input ≡ none
+      pushed-bad f = off (decLe (run .after - i) 7) (decLe 1 (run .after - i)) (P .bad f (g .goes .ok))
+        where
+          off : Dec (run .after - i ≤ 7) → Dec (1 ≤ run .after - i) → (run .after - i ≡ 0) ⊎ ((7 < run .after - i) ⊎ (7 ≤ r .count)) → readLine input ≡ none
+          off (no l) m k = long (omega arith)
+          off (yes l) (yes m) (inl z) = absurd (omega arith)
+          off (yes l) (yes m) (inr (inl z)) = absurd (omega arith)
+          off (yes l) (yes m) (inr (inr z)) = sym (then-byte l) ∙ no-eighth (run .value) _ (drop (run .after + 1) input) no-digit-here (numbersOf r) (full (g .goes) z) (run .after - i) m
+          off (yes l) (no m) k =
+              let z : run .after - i ≡ 0 = omega arith in
+              sym (then-byte l) ∙ ap asks (ap (λ d. numbersIn d (run .value) (getD input (run .after) 0 ∷ drop (run .after + 1) input)) z ∙ no-number (run .value) _ (drop (run .after + 1) input) no-digit-here)
+
+      module _ (t : n .ok ≡ true) where
+        pub pushed-end : getD input (run .after) 0 ≡ 10 → Scanned input n
+        pushed-end b =
+            let p = P .good t in
+            let k = goes-on (g .goes) P t in
+            let s = rw b at (then-byte (p .1)) in
+            let l = rw b at line-here in
+            record {
+              good = λ _. (
                 k .room,
                 k .few,
-                ended r n (i + 1) G P (drop (i + 1) input) t ∙ ap (whole r) (sym at) ∙ same,
-                ap (λ k. drop k input) (g .7) ∙ sym (after-end (drop (i + 1) input)) ∙ ap afterLine (sym at) ∙ rest,
-                omega (arith, g .7),
+                ap settingsOf (numbers-more (g .goes) P t) ∙ sym (ap asks (at-end (run .after - i) (run .value) (drop (run .after + 1) input) (p .0))) ∙ s,
+                ap (λ k. drop k input) (p .5) ∙ sym (after-end (drop (run .after + 1) input)) ∙ l,
+                omega (arith, p .5),
               );
-          bad = λ f. sym same ∙ ap (whole r) at ∙ unended r n (i + 1) G P (drop (i + 1) input) f;
-        }
+              bad = λ f. absurd (never t f);
+            }
 
-    -- at another byte
-    pub scanned-bad : (n : Reading) → Taken r (getD input i 0) n → n .ok ≡ false → Scanned input n
-    scanned-bad n t f = record { good = λ o. absurd (never o f); bad = λ _. sym same ∙ ap (whole r) here ∙ t .bad f (drop (i + 1) input) }
+        pub pushed-other : (getD input (run .after) 0 ≡ 10 → ⊥) → (getD input (run .after) 0 ≡ 32 → ⊥) → readLine input ≡ none
+        pushed-other b s =
+            sym (then-byte (P .good t .1)) ∙ ap asks (at-other (run .after - i) (run .value) (getD input (run .after) 0) (drop (run .after + 1) input) (rw no-digit-here) b s)
 
-    pub scan-on : (n : Reading) → (getD input i 0 ≡ 10 → ⊥) → Taken r (getD input i 0) n → n .ok ≡ true
-        → Goes n × (whole n (drop (i + 1) input) ≡ readLine input) × (afterLine (drop (i + 1) input) ≡ afterLine input)
-    scan-on n e t o =
-        let g = t .good o in
-        (g .0, g .1 (drop (i + 1) input) ∙ ap (whole r) (sym here) ∙ same, sym (after-byte (getD input i 0) (drop (i + 1) input) e) ∙ ap afterLine (sym here) ∙ rest)
-
-  -- with no byte left
-  pub scanned-none : (n : Reading) → length input ≤ i → n .ok ≡ false → Scanned input n
-  scanned-none n h f = record {
-    good = λ o. absurd (never o f);
-    bad = λ _. sym same ∙ ap (whole r) (drop-of-length-le input h) ∙ none-left r;
-  }
+        pub scanning-more : getD input (run .after) 0 ≡ 32 → Scanning input n (run .after + 1)
+        scanning-more b =
+            let p = P .good t in
+            let o : asks (numbersIn (run .after - i) (run .value) (32 ∷ drop (run .after + 1) input)) ≡ asksOf (after (numbersOf r ++ run .value ∷ []) (numbersIn 0 0 (drop (run .after + 1) input))) =
+            ap asks (at-space (run .after - i) (run .value) (drop (run .after + 1) input) (p .0)) ∙ ap asksOf (after-one (numbersOf r) (run .value) (numbersIn 0 0 (drop (run .after + 1) input))) in
+            let s = rw b at (then-byte (p .1)) in
+            let l = rw b at line-here in
+            record {
+              most = omega arith;
+              goes = goes-on (g .goes) P t;
+              same = ap (λ ns. asksOf (after ns (numbersIn 0 0 (drop (run .after + 1) input)))) (numbers-more (g .goes) P t) ∙ sym o ∙ s;
+              rest = sym (after-byte 32 (drop (run .after + 1) input) (λ e. omega arith)) ∙ l;
+            }
 
 -- what a line's numbers say
 pub none-some : (s : Settings) → none ≡ some s → ⊥

@@ -1,10 +1,10 @@
--- A line being read byte by byte: what each step keeps, and what the whole line says.
-use Prim.Native.Nat.{ℕ, zero, suc, _+_, _*_, _≤_, _<_}
+-- A line being read number by number: what each step keeps, and what the whole line says.
+use Prim.Native.Nat.{ℕ, _+_, _≤_, _<_}
 use mathlib.Core.Path.{_≡_}
 use mathlib.Core.Logic.{_⊎_}
 use mathlib.Core.Bool.{true, false}
 use mathlib.Core.Option.{Option, none, some}
-use mathlib.Core.List.{List, _∷_, _++_}
+use mathlib.Core.List.{List, _++_}
 use lib.ListN.{length, set, take, drop}
 use Rattle.answers.specs.declared.Settings.{Settings}
 use Rattle.model.specs.Line.{numbersIn, settingsOf, readLine, afterLine}
@@ -26,30 +26,18 @@ abbrev pub numbersOf : Reading → List ℕ
 numbersOf r = take (r .count) (r .numbers)
 
 abbrev pub whole : Reading → List ℕ → Option Settings
-whole r rest = asksOf (after (numbersOf r) (numbersIn (r .digits) (r .value) rest))
+whole r rest = asksOf (after (numbersOf r) (numbersIn 0 0 rest))
 
-unfoldable pub tens : ℕ → ℕ
-tens zero = 1
-tens (suc n) = 10 * tens n
-
--- while a line is read: it is good so far, of at most 7 numbers, and the one being read has at most 7 digits
+-- while a line is read: it is good so far, of at most 7 numbers
 pub record Goes (r : Reading) : Type 0 where
   pub ok : r .ok ≡ true
   pub room : length (r .numbers) ≡ 7
   pub few : r .count ≤ 7
-  pub short : r .digits ≤ 7
-  pub small : r .value < tens (r .digits)
 
--- a number is done: it stands after the others; there is none without a digit, and no eighth
-pub record Pushed (r : Reading) (end : ℕ) (n : Reading) : Type 0 where
-  pub good : n .ok ≡ true → (1 ≤ r .digits) × (r .count < 7) × (r .ok ≡ true) × (n .numbers ≡ set (r .numbers) (r .count) (r .value)) × (n .count ≡ r .count + 1)
-      × (n .digits ≡ 0) × (n .value ≡ 0) × (n .end ≡ end)
-  pub bad : n .ok ≡ false → (r .ok ≡ true) → (r .digits ≡ 0) ⊎ (7 ≤ r .count)
-
--- one byte more: what the whole line asks for stays the same, and is nothing where that byte is malformed
-pub record Taken (r : Reading) (b : ℕ) (n : Reading) : Type 0 where
-  pub good : n .ok ≡ true → Goes n × ((rest : List ℕ) → whole n rest ≡ whole r (b ∷ rest))
-  pub bad : n .ok ≡ false → (rest : List ℕ) → whole r (b ∷ rest) ≡ none
+-- one number more stands after the others; it has 1 to 7 digits, and there is no eighth number
+pub record Pushed (r : Reading) (digits value end : ℕ) (n : Reading) : Type 0 where
+  pub good : n .ok ≡ true → (1 ≤ digits) × (digits ≤ 7) × (r .count < 7) × (n .numbers ≡ set (r .numbers) (r .count) value) × (n .count ≡ r .count + 1) × (n .end ≡ end)
+  pub bad : n .ok ≡ false → r .ok ≡ true → (digits ≡ 0) ⊎ ((7 < digits) ⊎ (7 ≤ r .count))
 
 -- the line's numbers, and where the text after it begins
 pub record Scanned (input : List ℕ) (r : Reading) : Type 0 where

@@ -1,11 +1,12 @@
-// What programs read and print: the line of the program `aisle`, its numbers and the settings that they ask for; and numbers in decimal.
+// The line that the program `aisle` reads: its numbers, and the settings that they ask for. `print` has the lines that programs print.
 pub mod print;
 
 ghost use mathlib.Core.Path.{_≡_};
 ghost use Prim.Native.Nat.{_<_, _≤_};
 ghost use lib.ListN.{length};
-ghost use Rattle.line.specs.Reading.{Goes, Pushed, Taken, Scanned, Said, Reads};
+ghost use Rattle.line.specs.Reading.{Pushed, Scanned, Said, Reads};
 use answers::Settings;
+use notation::digits;
 
 // What the line says: its settings and where the text after it begins; or that it is malformed.
 pub enum Line {
@@ -13,77 +14,44 @@ pub enum Line {
     Malformed,
 }
 
-// A line being read: the numbers so far, the digits and the value of the one that is being read, and where the line ends, once it has
-// ended. `ok` is false where it is malformed.
+// A line being read: the numbers so far, and the place after the byte that ended the last. `ok` is false where it is malformed.
 pub struct Reading {
     pub ok: bool,
     pub numbers: [usize; 7],
     pub count: usize,
-    pub digits: usize,
-    pub value: usize,
     pub end: usize,
 }
 
 // A reading of nothing yet, good or malformed.
 fn blank(ok: bool) -> Reading
-    ensures { λ r. ⌜ (r .ok ≡ ok) × (r .count ≡ 0) × (r .digits ≡ 0) × (r .value ≡ 0) × (length (r .numbers) ≡ 7) ⌝ }
+    ensures { λ r. ⌜ (r .ok ≡ ok) × (r .count ≡ 0) × (length (r .numbers) ≡ 7) ⌝ }
 {
     Reading {
         ok: ok,
         numbers: [0; 7],
         count: 0,
-        digits: 0,
-        value: 0,
         end: 0,
     }
 }
 
-// The number being read is done: it is one of the line's. The line goes on at the place `end`.
-fn push(r: Reading, end: usize) -> Reading
-    ensures { λ n. ⌜ Pushed r end n ⌝ }
+// One number more, of 1 to 7 digits. The line goes on at the place `end`.
+fn push(r: Reading, digits: usize, value: usize, end: usize) -> Reading
+    ensures { λ n. ⌜ Pushed r digits value end n ⌝ }
 {
     let at = r.count;
-    if r.digits == 0 {
+    if digits == 0 {
+        return blank(false);
+    }
+    if 7 < digits {
         return blank(false);
     }
     if 7 <= at {
         return blank(false);
     }
     let mut next = r;
-    next.numbers[at] = r.value;
+    next.numbers[at] = value;
     next.count = at + 1;
-    next.digits = 0;
-    next.value = 0;
     next.end = end;
-    next
-}
-
-fn wide(b: u8) -> usize
-    ensures { λ r. ⌜ (r ≡ b) × (r < 256) ⌝ }
-{
-    b as usize
-}
-
-// One byte more of the line, which is no LF.
-fn take(r: Reading, b: u8) -> Reading
-    requires { ⌜ Goes r ⌝ ∗ ⌜ (b ≡ 10 → ⊥) ⌝ }
-    ensures { λ n. ⌜ Taken r b n ⌝ }
-{
-    if b == 32 {
-        return push(r, 0);
-    }
-    if b < 48 {
-        return blank(false);
-    }
-    if 57 < b {
-        return blank(false);
-    }
-    if 7 <= r.digits {
-        return blank(false);
-    }
-    let mut next = r;
-    next.value = 10 * r.value + wide(b - 48);
-    next.digits = r.digits + 1;
     next
 }
 
@@ -94,15 +62,22 @@ fn scan(input: &[u8]) -> Reading
     let mut r = blank(true);
     let mut i = 0;
     while i < input.len() {
-        let b = input[i];
-        if b == 10 {
-            return push(r, i + 1);
+        let run = digits::read(input, i, 9999999);
+        let end = run.after;
+        if input.len() <= end {
+            return blank(false);
         }
-        r = take(r, b);
+        r = push(r, end - i, run.value, end + 1);
         if !r.ok {
             return r;
         }
-        i += 1;
+        if input[end] == 10 {
+            return r;
+        }
+        if input[end] != 32 {
+            return blank(false);
+        }
+        i = end + 1;
     }
     blank(false)
 }

@@ -1,4 +1,6 @@
-// How numbers are held and written, whatever they count: the same number in more bits.
+// How numbers are held and written, whatever they count: the same number in more bits; `digits` reads them.
+pub mod digits;
+
 ghost use mathlib.Core.Path.{_≡_};
 ghost use Prim.Native.Nat.{_<_};
 

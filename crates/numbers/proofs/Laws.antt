@@ -4,15 +4,20 @@ use Prim.Native.Nat.{ℕ, zero, suc, _+_, _-_, _*_, _≤_, _<_}
 use mathlib.Core.Path.{_≡_, refl, sym, ap, _∙_}
 use mathlib.Core.Bool.{Bool, true, false, _&&_}
 use mathlib.Core.List.{List, [], _∷_, _++_, append-assoc, append-nil}
+use native.Mathlib.Nat.{add-zero}
+use native.Mathlib.Decide.{decLe}
 use native.Mathlib.Numerals.{add-one}
 use native.Mathlib.Omega.{arith}
-use borrow.Author.Tests.{le-leb, lt-leb}
+use borrow.Author.Tests.{le-leb, lt-leb, ne-eqb}
 use lib.Dec.{leb}
 use lib.ListN.{length, getD, set, take, drop, drop-of-length-le, length-set}
-use lib.Seq.{drop-cons, take-suc, take-all, length-take-le}
+use lib.Seq.{take-suc, take-all, length-take-le}
 use Rattle.model.specs.FloorText.{isDigit}
 use Rattle.model.specs.Line.{field}
 use Rattle.model.proofs.Openings.{not-both}
+use Rattle.notation.specs.declared.digits.Run.{Run}
+use Rattle.notation.specs.Runs.{digitsIn, valueIn, runAt}
+use Rattle.notation.proofs.Runs.{digit-bounds, here, one-digit, no-digit, with-small, with-great, stays-great, run-after, run-rest}
 use Rattle.line.specs.Printing.{Printed}
 use Rattle.line.proofs.Decimals.{printed-then, printed-none}
 use Rattle.numbers.specs.declared.Cursor.{Cursor}
@@ -20,10 +25,6 @@ use Rattle.numbers.specs.declared.Item.{Item}
 use Rattle.numbers.specs.declared.Item.the-variants.{Number, End, Malformed}
 use Rattle.numbers.specs.Reading.{isBlank, greatest, digitsFrom, numberFrom, numberAt, failed, atMost, numberIn, isEnd, endedAt, Filled, filled, fillFrom, readList, Read}
 use Rattle.numbers.specs.Printing.{fieldsOf}
-
--- the byte at a place, and the rest
-here : (input : List ℕ) (i : ℕ) → i < length input → drop i input ≡ getD input i 0 ∷ drop (i + 1) input
-here input i h = drop-cons input i 0 h ∙ ap (λ k. getD input i 0 ∷ drop k input) (sym (add-one i))
 
 -- a digit that makes the number too great
 pub too-great : (b n : ℕ) → greatest < n → (isDigit b && leb n greatest) ≡ false
@@ -50,27 +51,76 @@ module _ (i value : ℕ) where
       let t : (isDigit b && leb (10 * value + (b - 48)) greatest) ≡ true = rw (le-leb 48 b (h .0), le-leb b 57 (h .1), le-leb (10 * value + (b - 48)) greatest (h .2)) in
       sym (rw (e, t, digitsFrom))
 
--- digits so far: those from `at` to i
-module _ (input : List ℕ) (at i value : ℕ) (same : digitsFrom i value (drop i input) ≡ digitsFrom at 0 (drop at input)) where
-  pub digits-end : length input ≤ i → Number value i ≡ digitsFrom at 0 (drop at input)
-  digits-end h = at-end i value (drop i input) (drop-of-length-le input h) ∙ same
+-- a digit is no blank
+digit-not-blank : (b : ℕ) → isDigit b ≡ true → isBlank b ≡ false
+digit-not-blank b t = let h = digit-bounds b t in rw (ne-eqb b 32 (λ e. omega (arith, h .0)), ne-eqb b 10 (λ e. omega (arith, h .0)))
 
-  module _ (h : i < length input) where
-    then-byte : digitsFrom i value (getD input i 0 ∷ drop (i + 1) input) ≡ digitsFrom at 0 (drop at input)
-    then-byte = ap (digitsFrom i value) (sym (here input i h)) ∙ same
+-- a run of digits at the front: the number goes on after it with its value, or is too great
+module _ (at value b : ℕ) (bs : List ℕ) (t : isDigit b ≡ true) where
+  abbrev more : ℕ
+  more = 10 * value + (b - 48)
 
-    pub digits-blank : isBlank (getD input i 0) ≡ true → Number value i ≡ digitsFrom at 0 (drop at input)
-    digits-blank e = at-blank i value (getD input i 0) (drop (i + 1) input) e ∙ then-byte
+  fits : more ≤ greatest → (valueIn greatest value (b ∷ bs) ≡ valueIn greatest more bs) × (digitsFrom (suc at) more bs ≡ digitsFrom at value (b ∷ bs))
+  fits h = (
+    one-digit greatest value b bs t .1 ∙ ap (λ v. valueIn greatest v bs) (with-small greatest value b h),
+    let d = digit-bounds b t in at-digit at value b bs (digit-not-blank b t) (d .0, d .1, h),
+  )
 
-    pub digits-bad : isBlank (getD input i 0) ≡ false → (isDigit (getD input i 0) && leb (10 * value + (getD input i 0 - 48)) greatest) ≡ false
-        → Malformed ≡ digitsFrom at 0 (drop at input)
-    digits-bad e t = at-bad i value (getD input i 0) (drop (i + 1) input) e t ∙ then-byte
+  over : greatest < more → (valueIn greatest value (b ∷ bs) ≡ greatest + 1) × (Malformed ≡ digitsFrom at value (b ∷ bs))
+  over h = (
+    one-digit greatest value b bs t .1 ∙ ap (λ v. valueIn greatest v bs) (with-great greatest value b h) ∙ stays-great greatest bs,
+    at-bad at value b bs (digit-not-blank b t) (too-great b more h),
+  )
 
-    pub digits-more : isBlank (getD input i 0) ≡ false → (more : ℕ) → more ≡ 10 * value + (getD input i 0 - 48) → (48 ≤ getD input i 0) × (getD input i 0 ≤ 57) × (more ≤ greatest)
-        → digitsFrom (i + 1) more (drop (i + 1) input) ≡ digitsFrom at 0 (drop at input)
-    digits-more e more m t =
-        ap (λ n. digitsFrom n more (drop (i + 1) input)) (add-one i) ∙ ap (λ n. digitsFrom (suc i) n (drop (i + 1) input)) m
-        ∙ at-digit i value (getD input i 0) (drop (i + 1) input) e (t .0, t .1, omega (arith, m, t .2)) ∙ then-byte
+run-on : (at value : ℕ) (bs : List ℕ) → valueIn greatest value bs ≤ greatest → digitsFrom (at + digitsIn bs) (valueIn greatest value bs) (drop (digitsIn bs) bs) ≡ digitsFrom at value bs
+unfolding digitsIn valueIn
+run-on at value [] h = rw (add-zero at)
+run-on at value (b ∷ bs) h = go (isDigit b) refl (decLe (10 * value + (b - 48)) greatest) (λ n l. run-on (suc at) n bs l)
+  where
+    go : (t : Bool) → isDigit b ≡ t → Dec (10 * value + (b - 48) ≤ greatest)
+        → ((n : ℕ) → valueIn greatest n bs ≤ greatest → digitsFrom (suc at + digitsIn bs) (valueIn greatest n bs) (drop (digitsIn bs) bs) ≡ digitsFrom (suc at) n bs)
+        → digitsFrom (at + digitsIn (b ∷ bs)) (valueIn greatest value (b ∷ bs)) (drop (digitsIn (b ∷ bs)) (b ∷ bs)) ≡ digitsFrom at value (b ∷ bs)
+    go false t d more = let z = no-digit greatest value b bs t in rw (z .0, z .1, add-zero at)
+    go true t (yes f) more =
+        let k : at + suc (digitsIn bs) ≡ suc at + digitsIn bs = omega arith in
+        let w = fits at value b bs t f in
+        rw (one-digit greatest value b bs t .0, w .0, k) (more (10 * value + (b - 48)) (rw (w .0) at h) ∙ w .1)
+    go true t (no f) more = absurd (omega (arith, h, over at value b bs t (omega arith) .0))
+
+run-over : (at value : ℕ) (bs : List ℕ) → value ≤ greatest → greatest < valueIn greatest value bs → Malformed ≡ digitsFrom at value bs
+unfolding valueIn
+run-over at value [] l h = absurd (omega arith)
+run-over at value (b ∷ bs) l h = go (isDigit b) refl (decLe (10 * value + (b - 48)) greatest) (λ n l h. run-over (suc at) n bs l h)
+  where
+    go : (t : Bool) → isDigit b ≡ t → Dec (10 * value + (b - 48) ≤ greatest) → ((n : ℕ) → n ≤ greatest → greatest < valueIn greatest n bs → Malformed ≡ digitsFrom (suc at) n bs)
+        → Malformed ≡ digitsFrom at value (b ∷ bs)
+    go false t d more = absurd (omega (arith, h, no-digit greatest value b bs t .1))
+    go true t (yes f) more = let w = fits at value b bs t f in more (10 * value + (b - 48)) f (rw (w .0) at h) ∙ w .1
+    go true t (no f) more = over at value b bs t (omega arith) .1
+
+-- the number at a place, by the run that stands there
+module _ (input : List ℕ) (at : ℕ) (r : Run) (e : r ≡ runAt greatest input at) where
+  pub digits-over : greatest < r .value → Malformed ≡ digitsFrom at 0 (drop at input)
+  digits-over h = run-over at 0 (drop at input) (omega arith) (rw e at h)
+
+  module _ (h : r .value ≤ greatest) where
+    after-run : digitsFrom (r .after) (r .value) (drop (r .after) input) ≡ digitsFrom at 0 (drop at input)
+    after-run = rw (e, ← run-rest greatest input at) (run-on at 0 (drop at input) (rw e at h))
+
+    pub digits-end : length input ≤ r .after → Number (r .value) (r .after) ≡ digitsFrom at 0 (drop at input)
+    digits-end l = at-end (r .after) (r .value) (drop (r .after) input) (drop-of-length-le input l) ∙ after-run
+
+    module _ (l : r .after < length input) where
+      then-byte : digitsFrom (r .after) (r .value) (getD input (r .after) 0 ∷ drop (r .after + 1) input) ≡ digitsFrom at 0 (drop at input)
+      then-byte = ap (digitsFrom (r .after) (r .value)) (sym (here input (r .after) l)) ∙ after-run
+
+      pub digits-blank : isBlank (getD input (r .after) 0) ≡ true → Number (r .value) (r .after) ≡ digitsFrom at 0 (drop at input)
+      digits-blank b = at-blank (r .after) (r .value) (getD input (r .after) 0) (drop (r .after + 1) input) b ∙ then-byte
+
+      pub digits-bad : isBlank (getD input (r .after) 0) ≡ false → Malformed ≡ digitsFrom at 0 (drop at input)
+      digits-bad b =
+          let d : isDigit (getD input (r .after) 0) ≡ false = rw e (run-after greatest input at) in
+          at-bad (r .after) (r .value) (getD input (r .after) 0) (drop (r .after + 1) input) b (rw d) ∙ then-byte
 
 -- the first byte of what may begin with blanks
 module _ (i : ℕ) where
@@ -106,21 +156,16 @@ module _ (most : ℕ) (input : List ℕ) (c : Cursor) where
   number-not e = rw e
 
   module _ (t : c .ok ≡ true) where
-    taken : (n : Item) → n ≡ numberAt input (c .at) → atMost most n ≡ numberIn most input c
+    pub number-by : (n m : Item) → n ≡ numberAt input (c .at) → n ≡ m → atMost most m ≡ numberIn most input c
     unfolding numberIn
-    taken n e = sym (rw (t, ← e))
+    number-by n m e f = sym (rw (t, ← e, f))
 
-    pub number-read : (v after : ℕ) (n : Item) → n ≡ numberAt input (c .at) → n ≡ Number v after → v ≤ most → record { ok = true; at = after; value = v } ≡ numberIn most input c
-    number-read v after n e f h = sym (rw (le-leb v most h)) ∙ ap (atMost most) (sym f) ∙ taken n e
+    module _ (v after : ℕ) (n : Item) (e : n ≡ numberAt input (c .at)) (f : n ≡ Number v after) where
+      pub number-read : v ≤ most → record { ok = true; at = after; value = v } ≡ numberIn most input c
+      number-read h = sym (rw (le-leb v most h)) ∙ number-by n (Number v after) e f
 
-    pub number-over : (v after : ℕ) (n : Item) → n ≡ numberAt input (c .at) → n ≡ Number v after → most < v → failed ≡ numberIn most input c
-    number-over v after n e f h = sym (rw (lt-leb v most h)) ∙ ap (atMost most) (sym f) ∙ taken n e
-
-    pub number-none : (n : Item) → n ≡ numberAt input (c .at) → n ≡ End → failed ≡ numberIn most input c
-    number-none n e f = ap (atMost most) (sym f) ∙ taken n e
-
-    pub number-bad : (n : Item) → n ≡ numberAt input (c .at) → n ≡ Malformed → failed ≡ numberIn most input c
-    number-bad n e f = ap (atMost most) (sym f) ∙ taken n e
+      pub number-over : most < v → failed ≡ numberIn most input c
+      number-over h = sym (rw (lt-leb v most h)) ∙ number-by n (Number v after) e f
 
 -- nothing left
 module _ (input : List ℕ) (c : Cursor) where
@@ -218,16 +263,30 @@ unfolding fieldsOf
 fields-snoc [] x = append-nil (field x)
 fields-snoc (y ∷ xs) x = ap (λ l. field y ++ l) (fields-snoc xs x) ∙ sym (append-assoc (field y) (fieldsOf xs) (field x))
 
-pub fields-none : (out list : List ℕ) (at : ℕ) → Printed out at (fieldsOf (take 0 list)) out at
-unfolding fieldsOf
-fields-none out list at = printed-none out at
+-- a list so far, i entries of it printed from the place `at` on: each in at most 21 bytes
+pub record Fields (out₀ : List ℕ) (at : ℕ) (list out : List ℕ) (end i : ℕ) : Type 0 where
+  pub few : i ≤ length list
+  pub same : length out ≡ length out₀
+  pub short : end ≤ at + 21 * i
+  pub printed : Printed out₀ at (fieldsOf (take i list)) out end
 
-pub fields-more : {out mid out′ : List ℕ} {at end end′ : ℕ} (list : List ℕ) (i x : ℕ) → i < length list → x ≡ getD list i 0
-    → Printed out at (fieldsOf (take i list)) mid end → Printed mid end (field x) out′ end′ → Printed out at (fieldsOf (take (i + 1) list)) out′ end′
-fields-more {out} {mid} {out′} {at} {end} {end′} list i x h e P Q =
-    let f : fieldsOf (take i list) ++ field x ≡ fieldsOf (take (i + 1) list) =
-    ap (λ y. fieldsOf (take i list) ++ field y) e ∙ sym (fields-snoc (take i list) (getD list i 0)) ∙ ap fieldsOf (sym (take-suc list i 0 h) ∙ ap (λ k. take k list) (sym (add-one i))) in
-    rw f at (printed-then (fieldsOf (take i list)) (field x) P Q)
+module _ (out : List ℕ) (at : ℕ) (list : List ℕ) where
+  pub fields : Fields out at list out at 0
+  unfolding fieldsOf
+  fields = record { few = omega arith; same = refl; short = omega arith; printed = printed-none out at }
 
-pub fields-all : {out out′ : List ℕ} {at end : ℕ} (list : List ℕ) (i : ℕ) → length list ≤ i → Printed out at (fieldsOf (take i list)) out′ end → Printed out at (fieldsOf list) out′ end
-fields-all list i h P = rw (take-all i list h) at P
+  module _ {mid : List ℕ} {end i : ℕ} (g : Fields out at list mid end i) where
+    pub fields-more : {out′ : List ℕ} {end′ : ℕ} (x : ℕ) → i < length list → x ≡ getD list i 0 → length out′ ≡ length mid → Printed mid end (field x) out′ end′ × (end′ ≤ end + 21)
+        → Fields out at list out′ end′ (i + 1)
+    fields-more x h e l P =
+        let f : fieldsOf (take i list) ++ field x ≡ fieldsOf (take (i + 1) list) =
+        ap (λ y. fieldsOf (take i list) ++ field y) e ∙ sym (fields-snoc (take i list) (getD list i 0)) ∙ ap fieldsOf (sym (take-suc list i 0 h) ∙ ap (λ k. take k list) (sym (add-one i))) in
+        record {
+          few = omega arith;
+          same = l ∙ g .same;
+          short = omega (arith, g .short, P .1);
+          printed = rw f at (printed-then (fieldsOf (take i list)) (field x) (g .printed) (P .0));
+        }
+
+    pub fields-all : length list ≤ i → Printed out at (fieldsOf list) mid end × (end ≤ at + 21 * length list)
+    fields-all h = (rw (take-all i list h) at (g .printed), omega (arith, g .few, g .short))

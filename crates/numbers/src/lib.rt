@@ -54,12 +54,6 @@ fn expect(c: Cursor, n: usize) -> Cursor
     }
 }
 
-fn wide(b: u8) -> usize
-    ensures { λ r. ⌜ (r ≡ b) × (r < 256) ⌝ }
-{
-    b as usize
-}
-
 // A space or LF.
 fn is_blank(b: u8) -> bool
     ensures { λ r. ⌜ r ≡ isBlank b ⌝ }
@@ -74,33 +68,24 @@ fn is_blank(b: u8) -> bool
 fn digits(input: &[u8], at: usize) -> Item
     ensures { λ r. ⌜ r ≡ digitsFrom at 0 (drop at (now (input .entry))) ⌝ }
 {
-    let mut value = 0;
-    let mut i = at;
-    while i < input.len() {
-        let b = input[i];
-        if is_blank(b) {
-            return Item::Number {
-                value: value,
-                after: i,
-            };
-        }
-        if b < 48 {
-            return Item::Malformed;
-        }
-        if 57 < b {
-            return Item::Malformed;
-        }
-        let more = 10 * value + wide(b - 48);
-        if 4294967295 < more {
-            return Item::Malformed;
-        }
-        value = more;
-        i += 1;
+    let run = notation::digits::read(input, at, 4294967295);
+    let after = run.after;
+    if 4294967295 < run.value {
+        return Item::Malformed;
     }
-    Item::Number {
-        value: value,
-        after: i,
+    if input.len() <= after {
+        return Item::Number {
+            value: run.value,
+            after: after,
+        };
     }
+    if is_blank(input[after]) {
+        return Item::Number {
+            value: run.value,
+            after: after,
+        };
+    }
+    Item::Malformed
 }
 
 // What stands at a place, after any blanks.

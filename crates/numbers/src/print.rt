@@ -5,30 +5,6 @@ ghost use lib.ListN.{length};
 ghost use Rattle.line.specs.Printing.{Printed};
 ghost use Rattle.numbers.specs.Printing.{fieldsOf};
 
-fn wide8(x: u8) -> usize
-    ensures { λ r. ⌜ r ≡ x ⌝ }
-{
-    x as usize
-}
-
-fn wide16(x: u16) -> usize
-    ensures { λ r. ⌜ r ≡ x ⌝ }
-{
-    x as usize
-}
-
-fn wide32(x: u32) -> usize
-    ensures { λ r. ⌜ r ≡ x ⌝ }
-{
-    x as usize
-}
-
-fn wide64(x: u64) -> usize
-    ensures { λ r. ⌜ r ≡ x ⌝ }
-{
-    x as usize
-}
-
 // A field is at most a space and 20 digits.
 pub fn fields8(out: &mut [u8], at: usize, list: &[u8]) -> usize
     requires { ⌜ at + 21 * length (now list) ≤ length (now out) ⌝ }
@@ -38,7 +14,7 @@ pub fn fields8(out: &mut [u8], at: usize, list: &[u8]) -> usize
     let mut end = at;
     let mut i = 0;
     while i < list.len() {
-        end = line::print::field(out, end, wide8(list[i]));
+        end = line::print::field(out, end, notation::wide8(list[i]));
         i += 1;
     }
     end
@@ -52,7 +28,7 @@ pub fn fields16(out: &mut [u8], at: usize, list: &[u16]) -> usize
     let mut end = at;
     let mut i = 0;
     while i < list.len() {
-        end = line::print::field(out, end, wide16(list[i]));
+        end = line::print::field(out, end, notation::wide16(list[i]));
         i += 1;
     }
     end
@@ -66,7 +42,7 @@ pub fn fields32(out: &mut [u8], at: usize, list: &[u32]) -> usize
     let mut end = at;
     let mut i = 0;
     while i < list.len() {
-        end = line::print::field(out, end, wide32(list[i]));
+        end = line::print::field(out, end, notation::wide32(list[i]));
         i += 1;
     }
     end
@@ -80,7 +56,7 @@ pub fn fields64(out: &mut [u8], at: usize, list: &[u64]) -> usize
     let mut end = at;
     let mut i = 0;
     while i < list.len() {
-        end = line::print::field(out, end, wide64(list[i]));
+        end = line::print::field(out, end, notation::wide64(list[i]));
         i += 1;
     }
     end

@@ -8,17 +8,8 @@ use borrow.Author.Needs.{needs}
 use Rattle.floor_text.proofs.after_height.Statement.{statement}
 use Rattle.floor_text.proofs.after_height.Tie as tie
 
-size-bytes-requires : tie.Need-size-bytes-requires
-size-bytes-requires c κs = search needs
-
-add-from : tie.Need-add-from
-add-from c = search needs
-
-from-requires : tie.Need-from-requires
-from-requires c κs = search needs
-
 returns : tie.Need-returns
 returns c = c .from .ensures ∙ ap (λ (n : ℕ). drop (19 + n) (c .before .before .before .args .text .now)) (c .before .size-bytes .ensures .0 ∙ ap sizeBytes (c .before .before .before .pre))
 
 pub after-height-spec : {M : Type 1} → statement M
-after-height-spec = tie.close (tie.spec size-bytes-requires add-from from-requires returns)
+after-height-spec = tie.close (tie.spec (λ c κs. search needs) (λ c. search needs) (λ c κs. search needs) returns)

@@ -5,21 +5,11 @@ use borrow.Author.Needs.{needs}
 use Rattle.floor_text.proofs.after_width.Statement.{statement}
 use Rattle.floor_text.proofs.after_width.Tie as tie
 
-after-height-requires : tie.Need-after-height-requires
-after-height-requires c κs = search needs
-
-size-bytes-requires : tie.Need-size-bytes-requires
-size-bytes-requires c κs = search needs
-
-add-from : tie.Need-add-from
-add-from c = search needs
-
-from-requires : tie.Need-from-requires
-from-requires c κs = search needs
-
 returns : tie.Need-returns
-returns c = width-passed (c .before .before .before .before .args .text .now) _ _ (c .before .before .before .before .args .width) _ (c .from .ensures) (c .before .size-bytes .ensures .0) (c .before .before .after-height .ensures) (c .before .before .before .before .pre .0)
+returns c =
+    let start = c .before .before .before .before in
+    width-passed (start .args .text .now) _ _ (start .args .width) _ (c .from .ensures) (c .before .size-bytes .ensures .0) (c .before .before .after-height .ensures) (start .pre .0)
 
 pub after-width-spec : {M : Type 1} → statement M
 after-width-spec =
-    tie.close (tie.spec after-height-requires size-bytes-requires add-from from-requires returns)
+    tie.close (tie.spec (λ c κs. search needs) (λ c κs. search needs) (λ c. search needs) (λ c κs. search needs) returns)

@@ -6,10 +6,6 @@ use Rattle.floor_text.proofs.Laws.{Begun, begun, begun-more, begun-not,
 use mathlib.Core.Path.{sym}
 use borrow.Author.Needs.{needs}
 use native.Mathlib.Omega.{arith}
-use Prim.Native.Nat.{_-_}
-use lib.ListN.{length}
-use native.Mathlib.Omega.{arith}
-use Rattle.floor_text.proofs.Laws.{Begun, begun, begun-more, begun-not, begun-all, begins-short}
 use Rattle.floor_text.proofs.begins_with.Statement.{statement}
 use Rattle.floor_text.proofs.begins_with.Tie as tie
 
@@ -25,20 +21,8 @@ returns c = sym (begins-short _ _ (omega arith))
 loop-holds : tie.Need-loop-holds Inv-loop μ-loop
 loop-holds c = begun _ _
 
-shared-slice-read-if2 : tie.Need-shared-slice-read-if2 Inv-loop μ-loop
-shared-slice-read-if2 c = search needs
-
-shared-slice-read-if2-2 : tie.Need-shared-slice-read-if2-2 Inv-loop μ-loop
-shared-slice-read-if2-2 c = search needs
-
 returns-2 : tie.Need-returns-2 Inv-loop μ-loop
 returns-2 c = begun-not _ _ _ (c .before .before .before .before .loop .inv) (c .if2 .taken) (omega arith)
-
-add-i : tie.Need-add-i Inv-loop μ-loop
-add-i c = search needs
-
-loop-less : tie.Need-loop-less Inv-loop μ-loop
-loop-less c = search needs
 
 loop-again : tie.Need-loop-again Inv-loop μ-loop
 loop-again c = begun-more _ _ _ (c .before .before .before .before .loop .inv) (c .if2 .left) (omega arith)
@@ -54,10 +38,10 @@ begins-with-spec =
     μ-loop
     returns
     loop-holds
-    shared-slice-read-if2
-    shared-slice-read-if2-2
+    (λ c. search needs)
+    (λ c. search needs)
     returns-2
-    add-i
-    loop-less
+    (λ c. search needs)
+    (λ c. search needs)
     loop-again
     returns-3)

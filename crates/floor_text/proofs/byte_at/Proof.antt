@@ -13,14 +13,8 @@ use Rattle.floor_text.proofs.byte_at.Tie as tie
 -- `floor_text::byte_at` meets its contract: past the end a list has its default.
 -- Assumes nothing.
 
-shared-slice-read-result : tie.Need-shared-slice-read-result
-shared-slice-read-result c = search needs
-
-returns : tie.Need-returns
-returns c = search needs
-
 returns-2 : tie.Need-returns-2
 returns-2 c = sym (List·getD-eq-default (c .before .args .text .now) 0 {n = c .before .args .at} (omega arith))
 
 pub byte-at-spec : {M : Type 1} → statement M
-byte-at-spec = tie.close (tie.spec shared-slice-read-result returns returns-2)
+byte-at-spec = tie.close (tie.spec (λ c. search needs) (λ c. search needs) returns-2)

@@ -12,13 +12,19 @@ returns-2 : tie.Need-returns-2
 returns-2 c = simp (ne-eqb (c .before .before .args .b) 46 (omega arith), eq-eqb (c .before .before .args .b) 71 (omega arith))
 
 returns-3 : tie.Need-returns-3
-returns-3 c = simp (ne-eqb (c .before .before .before .args .b) 46 (omega arith), ne-eqb (c .before .before .before .args .b) 71 (omega arith), eq-eqb (c .before .before .before .args .b) 64 (omega arith))
+returns-3 c =
+    let start = c .before .before .before in
+    simp (ne-eqb (start .args .b) 46 (omega arith), ne-eqb (start .args .b) 71 (omega arith), eq-eqb (start .args .b) 64 (omega arith))
 
 returns-4 : tie.Need-returns-4
-returns-4 c = simp (ne-eqb (c .before .before .before .before .args .b) 46 (omega arith), ne-eqb (c .before .before .before .before .args .b) 71 (omega arith), ne-eqb (c .before .before .before .before .args .b) 64 (omega arith), eq-eqb (c .before .before .before .before .args .b) 79 (omega arith))
+returns-4 c =
+    let start = c .before .before .before .before in
+    simp (ne-eqb (start .args .b) 46 (omega arith), ne-eqb (start .args .b) 71 (omega arith), ne-eqb (start .args .b) 64 (omega arith), eq-eqb (start .args .b) 79 (omega arith))
 
 returns-5 : tie.Need-returns-5
-returns-5 c = simp (ne-eqb (c .before .before .before .before .args .b) 46 (omega arith), ne-eqb (c .before .before .before .before .args .b) 71 (omega arith), ne-eqb (c .before .before .before .before .args .b) 64 (omega arith), ne-eqb (c .before .before .before .before .args .b) 79 (omega arith))
+returns-5 c =
+    let start = c .before .before .before .before in
+    simp (ne-eqb (start .args .b) 46 (omega arith), ne-eqb (start .args .b) 71 (omega arith), ne-eqb (start .args .b) 64 (omega arith), ne-eqb (start .args .b) 79 (omega arith))
 
 pub is-letter-spec : {M : Type 1} → statement M
 is-letter-spec = tie.close (tie.spec returns returns-2 returns-3 returns-4 returns-5)

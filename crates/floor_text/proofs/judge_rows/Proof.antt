@@ -19,17 +19,8 @@ abbrev μ-loop : tie.MeasureT-loop
 loop-holds : tie.Need-loop-holds Inv-loop μ-loop
 loop-holds c = rowed _ _ _
 
-row-holds-requires : tie.Need-row-holds-requires Inv-loop μ-loop
-row-holds-requires c κs = search needs
-
-add-t8 : tie.Need-add-t8 Inv-loop μ-loop
-add-t8 c = search needs
-
 returns : tie.Need-returns Inv-loop μ-loop
 returns c = rowed-fault _ _ _ _ _ (c .before .before .before .loop .inv) (sym (c .before .row-holds .ensures) ∙ not-true _ (c .if1 .taken)) (omega arith)
-
-add-t : tie.Need-add-t Inv-loop μ-loop
-add-t c = search needs
 
 sub-t : tie.Need-sub-t Inv-loop μ-loop
 sub-t c = omega (arith, row-long _ _ (sym (c .before .row-holds .ensures) ∙ not-false _ (c .if1 .left)))
@@ -37,23 +28,11 @@ sub-t c = omega (arith, row-long _ _ (sym (c .before .row-holds .ensures) ∙ no
 part-t-start : tie.Need-part-t-start Inv-loop μ-loop
 part-t-start c = omega (arith, row-long _ _ (sym (c .before .row-holds .ensures) ∙ not-false _ (c .if1 .left)))
 
-part-t-end : tie.Need-part-t-end Inv-loop μ-loop
-part-t-end c = search needs
-
-add-row : tie.Need-add-row Inv-loop μ-loop
-add-row c = search needs
-
-loop-less : tie.Need-loop-less Inv-loop μ-loop
-loop-less c = search needs
-
 loop-again : tie.Need-loop-again Inv-loop μ-loop
 loop-again c = rowed-more _ _ _ _ _ (c .before .before .before .before .loop .inv) (sym (c .before .before .row-holds .ensures) ∙ not-false _ (c .before .if1 .left)) (omega arith)
 
 returns-2 : tie.Need-returns-2 Inv-loop μ-loop
 returns-2 c = (let z = eq-eqb (length (c .before .before .loop .t .now)) 0 (omega arith) in rw z at (rowed-all _ _ _ _ _ (c .before .before .loop .inv) (omega arith)))
-
-add-t15 : tie.Need-add-t15 Inv-loop μ-loop
-add-t15 c = search needs
 
 returns-3 : tie.Need-returns-3 Inv-loop μ-loop
 returns-3 c = (let z = ne-eqb (length (c .before .before .loop .t .now)) 0 (omega arith) in rw z at (rowed-all _ _ _ _ _ (c .before .before .loop .inv) (omega arith)))
@@ -65,16 +44,16 @@ judge-rows-spec =
     Inv-loop
     μ-loop
     loop-holds
-    row-holds-requires
-    add-t8
+    (λ c κs. search needs)
+    (λ c. search needs)
     returns
-    add-t
+    (λ c. search needs)
     sub-t
     part-t-start
-    part-t-end
-    add-row
-    loop-less
+    (λ c. search needs)
+    (λ c. search needs)
+    (λ c. search needs)
     loop-again
     returns-2
-    add-t15
+    (λ c. search needs)
     returns-3)

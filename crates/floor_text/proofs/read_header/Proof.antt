@@ -1,79 +1,86 @@
 -- `floor_text::read_header` meets its contract: each `return` is one law of `header`.
 -- Assumes nothing.
-use mathlib.Core.Path.{sym, _∙_, ap}
+use Prim.Native.Nat.{ℕ, _≤_}
+use mathlib.Core.Path.{_≡_, sym, _∙_, ap}
+use mathlib.Core.Bool.{true}
+use mathlib.Core.List.{List}
 use borrow.Author.Tests.{not-true, not-false}
-use Rattle.model.specs.FloorText.{begins, andWidth, andMap}
+use Rattle.model.specs.FloorText.{begins, typeAndHeight, andWidth, andMap, afterHeight}
 use Rattle.floor_text.proofs.Laws.{no-type, no-height, no-width-line, no-width, no-map, sound}
 use borrow.Author.Needs.{needs}
 use native.Mathlib.Omega.{arith}
 use Rattle.floor_text.proofs.read_header.Statement.{statement}
 use Rattle.floor_text.proofs.read_header.Tie as tie
 
-slice-aggregate-begins-with : tie.Need-slice-aggregate-begins-with
-slice-aggregate-begins-with c = search needs
-
-begins-with-requires : tie.Need-begins-with-requires
-begins-with-requires c κs = search needs
-
 returns : tie.Need-returns
 returns c = no-type _ (sym (c .before .begins-with .ensures) ∙ not-true _ (c .if1 .taken))
 
-height-in-requires : tie.Need-height-in-requires
-height-in-requires c κs = search needs
+-- past the first line's test: the text, and that it begins as it must
+abbrev text : tie.Else1 → List ℕ
+text e = e .before .before .before .before .args .text .now
+
+typed : (e : tie.Else1) → begins typeAndHeight (text e) ≡ true
+typed e = sym (e .before .begins-with .ensures) ∙ not-false _ (e .if1 .left)
 
 returns-2 : tie.Need-returns-2
-returns-2 c = no-height _ _ (sym (c .before .before .before .begins-with .ensures) ∙ not-false _ (c .before .before .if1 .left)) (c .before .height-in .ensures .0) (c .if2 .taken)
-
-slice-aggregate-begins-with-2 : tie.Need-slice-aggregate-begins-with-2
-slice-aggregate-begins-with-2 c = search needs
-
-after-height-requires : tie.Need-after-height-requires
-after-height-requires c κs = search needs
-
-begins-with-requires-2 : tie.Need-begins-with-requires-2
-begins-with-requires-2 c κs = search needs
+returns-2 c = no-height _ _ (typed (c .before .before)) (c .before .height-in .ensures .0) (c .if2 .taken)
 
 returns-3 : tie.Need-returns-3
-returns-3 c = no-width-line _ _ (sym (c .before .before .before .before .before .before .before .begins-with .ensures) ∙ not-false _ (c .before .before .before .before .before .before .if1 .left)) (c .before .before .before .before .before .height-in .ensures .0) (sym (c .before .begins-with2 .ensures ∙ ap (begins andWidth) (c .before .before .after-height .ensures)) ∙ not-true _ (c .if3 .taken)) (omega arith)
+returns-3 c =
+    let height = c .before .before .before .before .before in
+    let word = c .before .begins-with2 .ensures ∙ ap (begins andWidth) (c .before .before .after-height .ensures) in
+    no-width-line _ _ (typed (height .before)) (height .height-in .ensures .0) (sym word ∙ not-true _ (c .if3 .taken)) (omega arith)
 
-width-in-requires : tie.Need-width-in-requires
-width-in-requires c κs = search needs
+-- past the width's word
+abbrev sized : tie.Else3 → tie.After-height-in
+sized e = e .before .before .before .before .before
+
+worded : (e : tie.Else3) → begins andWidth (afterHeight (text (sized e .before))) ≡ true
+worded e = sym (e .before .begins-with2 .ensures ∙ ap (begins andWidth) (e .before .before .after-height .ensures)) ∙ not-false _ (e .if3 .left)
 
 returns-4 : tie.Need-returns-4
-returns-4 c = no-width _ _ (sym (c .before .before .before .before .before .before .before .before .before .begins-with .ensures) ∙ not-false _ (c .before .before .before .before .before .before .before .before .if1 .left)) (c .before .before .before .before .before .before .before .height-in .ensures .0) _ (sym (c .before .before .before .begins-with2 .ensures ∙ ap (begins andWidth) (c .before .before .before .before .after-height .ensures)) ∙ not-false _ (c .before .before .if3 .left)) (c .before .width-in .ensures .0) (c .if4 .taken) (omega arith)
+returns-4 c =
+    let e = c .before .before in
+    let height = sized e in
+    no-width _ _ (typed (height .before)) (height .height-in .ensures .0) _ (worded e) (c .before .width-in .ensures .0) (c .if4 .taken) (omega arith)
 
-slice-aggregate-begins-with-3 : tie.Need-slice-aggregate-begins-with-3
-slice-aggregate-begins-with-3 c = search needs
-
-after-width-requires : tie.Need-after-width-requires
-after-width-requires c κs = search needs
-
-begins-with-requires-3 : tie.Need-begins-with-requires-3
-begins-with-requires-3 c κs = search needs
+-- both sizes are at least 1
+least : (e : tie.Else4) → (1 ≤ sized (e .before .before) .height-in .result) × (1 ≤ e .before .width-in .result)
+least e = (omega (arith, e .before .before .before .before .before .before .if2 .left), omega (arith, e .if4 .left))
 
 returns-5 : tie.Need-returns-5
-returns-5 c = no-map _ _ (sym (c .before .before .before .before .before .before .before .before .before .before .before .before .before .begins-with .ensures) ∙ not-false _ (c .before .before .before .before .before .before .before .before .before .before .before .before .if1 .left)) (c .before .before .before .before .before .before .before .before .before .before .before .height-in .ensures .0) _ (sym (c .before .before .before .before .before .before .before .begins-with2 .ensures ∙ ap (begins andWidth) (c .before .before .before .before .before .before .before .before .after-height .ensures)) ∙ not-false _ (c .before .before .before .before .before .before .if3 .left)) (c .before .before .before .before .before .width-in .ensures .0) (sym (c .before .begins-with3 .ensures ∙ ap (begins andMap) (c .before .before .after-width .ensures)) ∙ not-true _ (c .if5 .taken)) (omega arith)
+returns-5 c =
+    let e = c .before .before .before .before in
+    let height = sized (e .before .before) in
+    let word = c .before .begins-with3 .ensures ∙ ap (begins andMap) (c .before .before .after-width .ensures) in
+    no-map _ _ (typed (height .before)) (height .height-in .ensures .0) _ (worded (e .before .before)) (e .before .width-in .ensures .0)
+    (sym word ∙ not-true _ (c .if5 .taken)) (least e)
 
 returns-6 : tie.Need-returns-6
-returns-6 c = sound _ _ (sym (c .before .before .before .before .before .before .before .before .before .before .before .before .before .begins-with .ensures) ∙ not-false _ (c .before .before .before .before .before .before .before .before .before .before .before .before .if1 .left)) (c .before .before .before .before .before .before .before .before .before .before .before .height-in .ensures .0) _ (sym (c .before .before .before .before .before .before .before .begins-with2 .ensures ∙ ap (begins andWidth) (c .before .before .before .before .before .before .before .before .after-height .ensures)) ∙ not-false _ (c .before .before .before .before .before .before .if3 .left)) (c .before .before .before .before .before .width-in .ensures .0) (sym (c .before .begins-with3 .ensures ∙ ap (begins andMap) (c .before .before .after-width .ensures)) ∙ not-false _ (c .if5 .left)) (omega arith)
+returns-6 c =
+    let e = c .before .before .before .before in
+    let height = sized (e .before .before) in
+    let word = c .before .begins-with3 .ensures ∙ ap (begins andMap) (c .before .before .after-width .ensures) in
+    sound _ _ (typed (height .before)) (height .height-in .ensures .0) _ (worded (e .before .before)) (e .before .width-in .ensures .0)
+    (sym word ∙ not-false _ (c .if5 .left)) (least e .0, least e .1, height .height-in .ensures .1, e .before .width-in .ensures .1)
 
 pub read-header-spec : {M : Type 1} → statement M
 read-header-spec =
     tie.close
     (tie.spec
-    slice-aggregate-begins-with
-    begins-with-requires
+    (λ c. search needs)
+    (λ c κs. search needs)
     returns
-    height-in-requires
+    (λ c κs. search needs)
     returns-2
-    slice-aggregate-begins-with-2
-    after-height-requires
-    begins-with-requires-2
+    (λ c. search needs)
+    (λ c κs. search needs)
+    (λ c κs. search needs)
     returns-3
-    width-in-requires
+    (λ c κs. search needs)
     returns-4
-    slice-aggregate-begins-with-3
-    after-width-requires
-    begins-with-requires-3
+    (λ c. search needs)
+    (λ c κs. search needs)
+    (λ c κs. search needs)
     returns-5
     returns-6)

@@ -1,8 +1,9 @@
 -- `floor_text::read_rows` meets its contract: one law for each of no room, a faulty row and all rows stored.
 -- Assumes nothing.
-use mathlib.Core.Path.{sym, _∙_, ap}
+use mathlib.Core.Path.{_≡_, sym, _∙_, ap}
 use native.Mathlib.Nat.{mul-le-mul}
 use lib.ListN.{drop}
+use Rattle.model.specs.FloorText.{rows, rowsIn}
 use Rattle.floor_text.proofs.Laws.{no-room, rows-refused, rows-read, rows-there}
 use borrow.Author.Needs.{needs}
 use native.Mathlib.Omega.{arith}
@@ -15,32 +16,31 @@ mul-if1 c = omega (arith, mul-le-mul (c .before .before .pre .narrow) (c .before
 returns : tie.Need-returns
 returns c = no-room _ _ _ _ (c .before .before .before .pre) (omega arith)
 
-after-width-requires : tie.Need-after-width-requires
-after-width-requires c κs = search needs
+-- once the rows were judged: they are the text's
+abbrev begun : tie.After-judge-rows → tie.Start
+begun e = e .before .before .before .before .before .before
 
-from-requires : tie.Need-from-requires
-from-requires c κs = search needs
+abbrev here : (e : tie.After-judge-rows) → e .before .from .result .now ≡ rowsIn (begun e .args .text .now)
+here e = e .before .from .ensures ∙ ap (drop 4) (e .before .before .after-width .ensures)
 
-judge-rows-requires : tie.Need-judge-rows-requires
-judge-rows-requires c κs = search needs
-
-enum-known-v : tie.Need-enum-known-v
-enum-known-v c = search needs
-
-enum-told : tie.Need-enum-told
-enum-told c = search needs
+judged : (e : tie.After-judge-rows) → e .judge-rows .result ≡ rows (begun e .args .width) (begun e .args .height) 5 (rowsIn (begun e .args .text .now))
+judged e = e .judge-rows .ensures ∙ ap (rows (begun e .args .width) (begun e .args .height) 5) (here e)
 
 store-rows-requires : tie.Need-store-rows-requires
-store-rows-requires c κs = (c .before .before .before .before .before .before .before .before .before .pre .narrow, c .before .before .before .before .before .before .before .before .before .pre .low, omega arith, rows-there _ _ 5 _ (sym (c .before .before .before .judge-rows .ensures) ∙ c .before .enum-told .given .1))
+store-rows-requires c κs =
+    let e = c .before .before .before in
+    (begun e .pre .narrow, begun e .pre .low, omega arith, rows-there _ _ 5 _ (sym (e .judge-rows .ensures) ∙ c .before .enum-told .given .1))
 
 returns-2 : tie.Need-returns-2
-returns-2 c = rows-refused _ _ _ _ (c .before .before .before .before .before .before .before .before .before .pre) (omega arith) (c .before .v .given .0 .0) (rw (c .before .before .before .before .from .ensures ∙ ap (drop 4) (c .before .before .before .before .before .after-width .ensures)) at (sym (c .before .before .before .judge-rows .ensures) ∙ c .before .v .given .1))
-
-same-length : tie.Need-same-length
-same-length c = search needs
+returns-2 c =
+    let e = c .before .before .before in
+    rows-refused _ _ _ _ (begun e .pre) (omega arith) (c .before .v .given .0 .0) (sym (judged e) ∙ c .before .v .given .1)
 
 returns-3 : tie.Need-returns-3
-returns-3 c = rows-read _ _ _ _ (c .before .before .before .before .before .before .before .before .before .before .before .before .pre) (omega arith) _ (rw (c .before .before .before .before .before .before .before .from .ensures ∙ ap (drop 4) (c .before .before .before .before .before .before .before .before .after-width .ensures)) at (sym (c .before .before .before .before .before .before .judge-rows .ensures) ∙ c .before .before .before .before .enum-told .given .1)) (rw (c .before .before .before .before .before .before .before .from .ensures ∙ ap (drop 4) (c .before .before .before .before .before .before .before .before .after-width .ensures)) at (c .before .before .store-rows .ensures))
+returns-3 c =
+    let told = c .before .before .before .before in
+    let e = told .before .before in
+    rows-read _ _ _ _ (begun e .pre) (omega arith) _ (sym (judged e) ∙ told .enum-told .given .1) (rw (here e) at (c .before .before .store-rows .ensures))
 
 pub read-rows-spec : {M : Type 1} → statement M
 read-rows-spec =
@@ -48,12 +48,12 @@ read-rows-spec =
     (tie.spec
     mul-if1
     returns
-    after-width-requires
-    from-requires
-    judge-rows-requires
-    enum-known-v
-    enum-told
+    (λ c κs. search needs)
+    (λ c κs. search needs)
+    (λ c κs. search needs)
+    (λ c. search needs)
+    (λ c. search needs)
     store-rows-requires
     returns-2
-    same-length
+    (λ c. search needs)
     returns-3)

@@ -1,9 +1,9 @@
 -- `floor_text::store_rows` meets its contract: the invariant: `Filled`, the cells of the rows passed are stored.
 -- Assumes nothing.
-use Prim.Native.Nat.{_-_}
+use Prim.Native.Nat.{_+_, _*_, _-_, _≤_}
 use mathlib.Core.Path.{sym}
 use lib.Seq.{length-take-le}
-use lib.ListN.{length-take, length-drop}
+use lib.ListN.{length, length-take, length-drop}
 use Rattle.floor_text.proofs.Laws.{Filled, filled, row-left, filled-more, filled-all}
 use borrow.Author.Needs.{needs}
 use native.Mathlib.Omega.{arith}
@@ -16,56 +16,17 @@ Inv-loop width height text buffer₀ t₀ row₀ buffer t row = Filled width hei
 abbrev μ-loop : tie.MeasureT-loop
 μ-loop width height text buffer₀ t₀ row₀ buffer t row = height - row
 
-loop-holds : tie.Need-loop-holds Inv-loop μ-loop
-loop-holds c = filled _ _ _ _ (omega arith)
-
-mul-at : tie.Need-mul-at Inv-loop μ-loop
-mul-at c = omega (arith, row-left _ _ _ _ _ _ _ (c .before .loop .inv) (omega arith))
-
-add-end : tie.Need-add-end Inv-loop μ-loop
-add-end c = omega (arith, row-left _ _ _ _ _ _ _ (c .before .loop .inv) (omega arith))
-
-slice-aggregate-store-row : tie.Need-slice-aggregate-store-row Inv-loop μ-loop
-slice-aggregate-store-row c = sym (length-take-le (c .before .before .before .before .before .args .width) (c .before .before .loop .t .now) (omega (arith, row-left _ _ _ _ _ _ _ (c .before .before .loop .inv) (omega arith))))
-
-sub-store-row : tie.Need-sub-store-row Inv-loop μ-loop
-sub-store-row c = omega arith
-
-part-store-row-start : tie.Need-part-store-row-start Inv-loop μ-loop
-part-store-row-start c = omega (arith, row-left _ _ _ _ _ _ _ (c .before .before .loop .inv) (omega arith))
-
-part-store-row-end : tie.Need-part-store-row-end Inv-loop μ-loop
-part-store-row-end c = omega (arith, row-left _ _ _ _ _ _ _ (c .before .before .loop .inv) (omega arith))
-
-store-row-requires : tie.Need-store-row-requires Inv-loop μ-loop
-store-row-requires c κs = simp (length-take, length-drop) (omega (arith, row-left _ _ _ _ _ _ _ (c .before .before .before .loop .inv) (omega arith)))
-
-add-t : tie.Need-add-t Inv-loop μ-loop
-add-t c = search needs
-
-sub-t : tie.Need-sub-t Inv-loop μ-loop
-sub-t c = omega (arith, row-left _ _ _ _ _ _ _ (c .before .before .before .before .before .before .loop .inv) (omega arith))
-
-part-t-start : tie.Need-part-t-start Inv-loop μ-loop
-part-t-start c = omega (arith, row-left _ _ _ _ _ _ _ (c .before .before .before .before .before .before .loop .inv) (omega arith))
-
-part-t-end : tie.Need-part-t-end Inv-loop μ-loop
-part-t-end c = omega (arith, row-left _ _ _ _ _ _ _ (c .before .before .before .before .before .before .loop .inv) (omega arith))
-
-add-row : tie.Need-add-row Inv-loop μ-loop
-add-row c = search needs
-
-loop-less : tie.Need-loop-less Inv-loop μ-loop
-loop-less c = search needs
+-- within the loop: a row is left to read, and room for its cells
+left : (e : tie.In-loop Inv-loop μ-loop) →
+    let l = e .before .loop in
+    let w = e .before .before .before .before .args .width in
+    (l .row * w + w ≤ length (l .buffer)) × (w + 1 ≤ length (l .t .now))
+left e = row-left _ _ _ _ _ _ _ (e .before .loop .inv) (omega arith)
 
 loop-again : tie.Need-loop-again Inv-loop μ-loop
-loop-again c = filled-more _ _ _ _ _ _ _ (c .before .before .before .before .before .before .before .loop .inv) _ (c .before .before .before .store-row .ensures) (omega arith)
-
-same-length : tie.Need-same-length Inv-loop μ-loop
-same-length c = omega arith
-
-returns : tie.Need-returns Inv-loop μ-loop
-returns c = filled-all _ _ _ _ _ _ _ (c .before .loop .inv) (omega arith)
+loop-again c =
+    let in-loop = c .before .before .before .before .before .before in
+    filled-more _ _ _ _ _ _ _ (in-loop .before .loop .inv) _ (c .before .before .before .store-row .ensures) (omega arith)
 
 pub store-rows-spec : {M : Type 1} → statement M
 store-rows-spec =
@@ -73,20 +34,20 @@ store-rows-spec =
     (tie.spec
     Inv-loop
     μ-loop
-    loop-holds
-    mul-at
-    add-end
-    slice-aggregate-store-row
-    sub-store-row
-    part-store-row-start
-    part-store-row-end
-    store-row-requires
-    add-t
-    sub-t
-    part-t-start
-    part-t-end
-    add-row
-    loop-less
+    (λ c. filled _ _ _ _ (omega arith))
+    (λ c. omega (arith, left c))
+    (λ c. omega (arith, left c))
+    (λ c. sym (length-take-le _ _ (omega (arith, left (c .before)))))
+    (λ c. omega arith)
+    (λ c. omega (arith, left (c .before)))
+    (λ c. omega (arith, left (c .before)))
+    (λ c κs. simp (length-take, length-drop) (omega (arith, left (c .before .before))))
+    (λ c. search needs)
+    (λ c. omega (arith, left (c .before .before .before .before .before)))
+    (λ c. omega (arith, left (c .before .before .before .before .before)))
+    (λ c. omega (arith, left (c .before .before .before .before .before)))
+    (λ c. search needs)
+    (λ c. search needs)
     loop-again
-    same-length
-    returns)
+    (λ c. omega arith)
+    (λ c. filled-all _ _ _ _ _ _ _ (c .before .loop .inv) (omega arith)))

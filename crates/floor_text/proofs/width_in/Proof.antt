@@ -9,17 +9,8 @@ use borrow.Author.Needs.{needs}
 use Rattle.floor_text.proofs.width_in.Statement.{statement}
 use Rattle.floor_text.proofs.width_in.Tie as tie
 
-after-height-requires : tie.Need-after-height-requires
-after-height-requires c κs = search needs
-
-from-requires : tie.Need-from-requires
-from-requires c κs = search needs
-
-size-in-requires : tie.Need-size-in-requires
-size-in-requires c κs = search needs
-
 returns : tie.Need-returns
 returns c = (c .size-in .ensures .0 ∙ ap sizeIn (c .before .from .ensures ∙ ap (λ (l : List ℕ). drop 6 l) (c .before .before .after-height .ensures)), c .size-in .ensures .1)
 
 pub width-in-spec : {M : Type 1} → statement M
-width-in-spec = tie.close (tie.spec after-height-requires from-requires size-in-requires returns)
+width-in-spec = tie.close (tie.spec (λ c κs. search needs) (λ c κs. search needs) (λ c κs. search needs) returns)

@@ -3,46 +3,34 @@
 use mathlib.Core.Path.{refl}
 use mathlib.Core.Logic.{inl, inr}
 use native.Mathlib.Omega.{arith}
-use Rattle.model.proofs.Accepted.{never}
 use borrow.Author.Needs.{needs}
+use Rattle.model.proofs.Accepted.{never}
 use Rattle.line.proofs.push.Statement.{statement}
 use Rattle.line.proofs.push.Tie as tie
-
-blank-requires : tie.Need-blank-requires
-blank-requires c κs = search needs
 
 returns : tie.Need-returns
 returns c = record { good = λ t. absurd (never t (c .blank .ensures .0)); bad = λ f o. inl (omega arith) }
 
-blank-requires-2 : tie.Need-blank-requires-2
-blank-requires-2 c κs = search needs
-
 returns-2 : tie.Need-returns-2
-returns-2 c = record { good = λ t. absurd (never t (c .blank2 .ensures .0)); bad = λ f o. inr (omega arith) }
-
-mul-next : tie.Need-mul-next
-mul-next c = search needs
-
-element-write-next : tie.Need-element-write-next
-element-write-next c = search needs
-
-add-next : tie.Need-add-next
-add-next c = search needs
+returns-2 c = record { good = λ t. absurd (never t (c .blank2 .ensures .0)); bad = λ f o. inr (inl (omega arith)) }
 
 returns-3 : tie.Need-returns-3
-returns-3 c =
-    let r = c .before .before .before .args .r in
-    record { good = λ t. (omega arith, omega arith, t, refl, refl, refl, refl, refl); bad = λ f o. absurd (never o f) }
+returns-3 c = record { good = λ t. absurd (never t (c .blank3 .ensures .0)); bad = λ f o. inr (inr (omega arith)) }
+
+returns-4 : tie.Need-returns-4
+returns-4 c = record { good = λ t. (omega arith, omega arith, omega arith, refl, refl, refl); bad = λ f o. absurd (never o f) }
 
 pub push-spec : {M : Type 1} → statement M
 push-spec =
     tie.close
     (tie.spec
-    blank-requires
+    (λ c κs. search needs)
     returns
-    blank-requires-2
+    (λ c κs. search needs)
     returns-2
-    mul-next
-    element-write-next
-    add-next
-    returns-3)
+    (λ c κs. search needs)
+    returns-3
+    (λ c. search needs)
+    (λ c. search needs)
+    (λ c. search needs)
+    returns-4)

@@ -9,9 +9,6 @@ use borrow.Author.Needs.{needs}
 use Rattle.line.proofs.read_line.Statement.{statement}
 use Rattle.line.proofs.read_line.Tie as tie
 
-scan-requires : tie.Need-scan-requires
-scan-requires c κs = search needs
-
 returns : tie.Need-returns
 returns c =
     let k = c .before .before .scan in
@@ -37,4 +34,4 @@ returns-2 c =
     }
 
 pub read-line-spec : {M : Type 1} → statement M
-read-line-spec = tie.close (tie.spec scan-requires returns settings-requires returns-2)
+read-line-spec = tie.close (tie.spec (λ c κs. search needs) returns settings-requires returns-2)

@@ -1,76 +1,64 @@
--- `line::scan` meets its contract. The loop's invariant: the line is good so far, what it asks for with the bytes left is what the whole line
--- asks for, and what stands after it is the same. Assumes nothing.
-use Prim.Native.Nat.{_≤_, _-_}
-use mathlib.Core.Path.{_≡_, refl}
+-- `line::scan` meets its contract. The loop's invariant: `Scanning`, the line is good so far, and asks with the bytes left for what it asks for.
+-- Each way out is one law of the run of digits at the place and the byte after it. Assumes nothing.
+use Prim.Native.Nat.{_-_, _≤_}
+use mathlib.Core.Path.{_≡_, ap}
+use mathlib.Core.Bool.{true}
 use borrow.Author.Needs.{needs}
 use borrow.Author.Tests.{not-true, not-false}
 use native.Mathlib.Omega.{arith}
-use lib.ListN.{length, drop}
-use Rattle.model.specs.Line.{readLine, afterLine}
-use Rattle.line.specs.Reading.{Goes, whole}
-use Rattle.line.proofs.Laws.{goes-blank, none-yet, scanned-end, scanned-bad, scanned-none, scan-on}
+use lib.ListN.{length}
+use Rattle.line.proofs.Laws.{Scanning, scanning, scanning-more, refused, scanned-none, run-none, pushed-bad, pushed-end, pushed-other}
 use Rattle.line.proofs.scan.Statement.{statement}
 use Rattle.line.proofs.scan.Tie as tie
 
 abbrev Inv-loop : tie.InvT-loop
-Inv-loop input r₀ i₀ r i = (i ≤ length input) × Goes r × (whole r (drop i input) ≡ readLine input) × (afterLine (drop i input) ≡ afterLine input)
+Inv-loop input r₀ i₀ r i = Scanning input r i
 
 abbrev μ-loop : tie.MeasureT-loop
 μ-loop input r₀ i₀ r i = length input - i
 
-blank-requires : tie.Need-blank-requires Inv-loop μ-loop
-blank-requires c κs = search needs
-
-loop-holds : tie.Need-loop-holds Inv-loop μ-loop
-loop-holds c =
-    let e = c .blank .ensures in
-    (omega arith, goes-blank (c .blank .result) e, none-yet (c .blank .result) (c .before .before .args .input .now) (e .1) (e .2) (e .3), refl)
-
-shared-slice-read-b : tie.Need-shared-slice-read-b Inv-loop μ-loop
-shared-slice-read-b c = omega arith
-
-add-push : tie.Need-add-push Inv-loop μ-loop
-add-push c = omega arith
-
-push-requires : tie.Need-push-requires Inv-loop μ-loop
-push-requires c κs = search needs
+-- a run ends where it begins, or after
+past : (e : tie.After-read Inv-loop μ-loop) → e .before .before .loop .i ≤ e .read .result .after
+past e = omega (arith, ap (λ x. x .after) (e .read .ensures))
 
 returns : tie.Need-returns Inv-loop μ-loop
 returns c =
-    let input = c .before .before .before .before .before .before .before .args .input .now in
-    let l = c .before .before .before .before .loop in
-    scanned-end input (l .i) (l .r) (l .inv .1) (l .inv .2) (l .inv .3) (omega arith) (c .push .result) (omega arith) (c .push .ensures)
-
-take-requires : tie.Need-take-requires Inv-loop μ-loop
-take-requires c κs = (c .before .before .before .loop .inv .1, λ e. omega arith)
+    let read = c .before .before in
+    refused _ _ (c .blank2 .ensures .0) (run-none (read .before .before .loop .inv) _ (read .read .ensures) (omega arith))
 
 returns-2 : tie.Need-returns-2 Inv-loop μ-loop
 returns-2 c =
-    let input = c .before .before .before .before .before .before .before .before .before .args .input .now in
-    let l = c .before .before .before .before .before .before .loop in
-    scanned-bad input (l .i) (l .r) (l .inv .1) (l .inv .2) (l .inv .3) (omega arith) (c .before .before .take .result) (c .before .before .take .ensures) (not-true (c .before .before .take .result .ok) (c .if2 .taken))
+    let push = c .before .before in
+    let read = push .before .before in
+    let bad = not-true (push .push .result .ok) (c .if2 .taken) in
+    refused _ _ bad (pushed-bad (read .before .before .loop .inv) _ (read .read .ensures) (omega arith) _ (push .push .ensures) bad)
 
-add-i : tie.Need-add-i Inv-loop μ-loop
-add-i c = omega arith
-
-loop-less : tie.Need-loop-less Inv-loop μ-loop
-loop-less c = omega arith
-
-loop-again : tie.Need-loop-again Inv-loop μ-loop
-loop-again c =
-    let input = c .before .before .before .before .before .before .before .before .before .args .input .now in
-    let l = c .before .before .before .before .before .before .loop in
-    let n = scan-on input (l .i) (l .r) (l .inv .1) (l .inv .2) (l .inv .3) (omega arith) (c .before .before .take .result) (λ e. omega arith) (c .before .before .take .ensures) (not-false (c .before .before .take .result .ok) (c .if2 .left)) in
-    (omega arith, n .0, n .1, n .2)
-
-blank-requires-2 : tie.Need-blank-requires-2 Inv-loop μ-loop
-blank-requires-2 c κs = search needs
+-- once a number was read that is good
+good : (e : tie.Else2 Inv-loop μ-loop) → e .before .before .push .result .ok ≡ true
+good e = not-false (e .before .before .push .result .ok) (e .if2 .left)
 
 returns-3 : tie.Need-returns-3 Inv-loop μ-loop
 returns-3 c =
-    let input = c .before .before .before .before .before .args .input .now in
-    let l = c .before .before .loop in
-    scanned-none input (l .i) (l .r) (l .inv .1) (l .inv .2) (l .inv .3) (c .blank2 .result) (omega arith) (c .blank2 .ensures .0)
+    let push = c .before .before .before .before in
+    let read = push .before .before in
+    pushed-end (read .before .before .loop .inv) _ (read .read .ensures) (omega arith) _ (push .push .ensures) (good (c .before .before)) (c .if3 .taken)
+
+returns-4 : tie.Need-returns-4 Inv-loop μ-loop
+returns-4 c =
+    let else3 = c .before .before .before in
+    let push = else3 .before .before .before .before in
+    let read = push .before .before in
+    let other = pushed-other (read .before .before .loop .inv) _ (read .read .ensures) (omega arith) _ (push .push .ensures) (good (else3 .before .before)) in
+    refused _ _ (c .blank3 .ensures .0) (other (else3 .if3 .left) (c .before .if4 .taken))
+
+loop-less : tie.Need-loop-less Inv-loop μ-loop
+loop-less c = let push = c .before .before .before .before .before .before in omega (arith, past (push .before .before))
+
+loop-again : tie.Need-loop-again Inv-loop μ-loop
+loop-again c =
+    let push = c .before .before .before .before .before .before in
+    let read = push .before .before in
+    scanning-more (read .before .before .loop .inv) _ (read .read .ensures) (omega arith) _ (push .push .ensures) (good (c .before .before .before .before)) (c .if4 .left)
 
 pub scan-spec : {M : Type 1} → statement M
 scan-spec =
@@ -78,16 +66,22 @@ scan-spec =
     (tie.spec
     Inv-loop
     μ-loop
-    blank-requires
-    loop-holds
-    shared-slice-read-b
-    add-push
-    push-requires
+    (λ c κs. search needs)
+    (λ c. scanning _ _ (c .blank .ensures))
+    (λ c κs. search needs)
+    (λ c κs. search needs)
     returns
-    take-requires
+    (λ c. omega (arith, past (c .before)))
+    (λ c. omega arith)
+    (λ c κs. search needs)
     returns-2
-    add-i
+    (λ c. omega arith)
+    returns-3
+    (λ c. omega arith)
+    (λ c κs. search needs)
+    returns-4
+    (λ c. omega arith)
     loop-less
     loop-again
-    blank-requires-2
-    returns-3)
+    (λ c κs. search needs)
+    (λ c. refused _ _ (c .blank4 .ensures .0) (scanned-none (c .before .before .loop .inv) (omega arith))))

@@ -1,5 +1,5 @@
 -- `numbers::fill32` meets its contract. The loop's invariant: `Filling`, reading on from here gives what reading the whole list gives.
--- Assumes nothing.
+-- The same loop as for every width, by the laws of `Filling`. Assumes nothing.
 use Prim.Native.Nat.{_-_}
 use native.Mathlib.Omega.{arith}
 use borrow.Author.Needs.{needs}
@@ -14,53 +14,15 @@ Inv-loop input list₀ count d₀ i₀ list d i = Filling 4294967295 input d₀ 
 abbrev μ-loop : tie.MeasureT-loop
 μ-loop input list₀ count d₀ i₀ list d i = count - i
 
-fail-requires : tie.Need-fail-requires Inv-loop μ-loop
-fail-requires c κs = search needs
-
-returns : tie.Need-returns Inv-loop μ-loop
-returns c = filling-long _ _ _ _ (omega arith) _ (c .fail .ensures)
-
-loop-holds : tie.Need-loop-holds Inv-loop μ-loop
-loop-holds c = filling _ _ _ _ (omega arith)
-
-number-requires : tie.Need-number-requires Inv-loop μ-loop
-number-requires c κs = search needs
-
-fail-requires-2 : tie.Need-fail-requires-2 Inv-loop μ-loop
-fail-requires-2 c κs = search needs
-
-same-length : tie.Need-same-length Inv-loop μ-loop
-same-length c = omega arith
-
-returns-2 : tie.Need-returns-2 Inv-loop μ-loop
-returns-2 c = filling-off _ _ _ _ (c .before .before .before .before .before .loop .inv) (omega arith) _ (c .before .before .before .number .ensures .0) (not-true _ (c .before .if2 .taken)) _ (c .fail2 .ensures)
-
-cast-list : tie.Need-cast-list Inv-loop μ-loop
-cast-list c = omega (arith, c .before .before .before .number .ensures .1)
-
-mul-list : tie.Need-mul-list Inv-loop μ-loop
-mul-list c = omega arith
-
-slice-write-list : tie.Need-slice-write-list Inv-loop μ-loop
-slice-write-list c = omega arith
-
-add-i : tie.Need-add-i Inv-loop μ-loop
-add-i c = omega arith
-
-loop-less : tie.Need-loop-less Inv-loop μ-loop
-loop-less c = omega arith
+loop-off : tie.Need-returns-2 Inv-loop μ-loop
+loop-off c =
+    let turn = c .before .before .before in
+    filling-off _ _ _ _ (turn .before .before .loop .inv) (omega arith) _ (turn .number .ensures .0) (not-true _ (c .before .if2 .taken)) _ (c .fail2 .ensures)
 
 loop-again : tie.Need-loop-again Inv-loop μ-loop
-loop-again c = filling-more _ _ _ _ (c .before .before .before .before .before .loop .inv) (omega arith) _ (c .before .before .before .number .ensures .0) (not-false _ (c .before .if2 .left))
-
-expect-requires : tie.Need-expect-requires Inv-loop μ-loop
-expect-requires c κs = search needs
-
-same-length-2 : tie.Need-same-length-2 Inv-loop μ-loop
-same-length-2 c = omega arith
-
-returns-3 : tie.Need-returns-3 Inv-loop μ-loop
-returns-3 c = filling-all _ _ _ _ (c .before .before .loop .inv) (omega arith) _ (c .expect .ensures)
+loop-again c =
+    let turn = c .before .before .before in
+    filling-more _ _ _ _ (turn .before .before .loop .inv) (omega arith) _ (turn .number .ensures .0) (not-false _ (c .before .if2 .left))
 
 pub fill32-spec : {M : Type 1} → statement M
 fill32-spec =
@@ -68,19 +30,19 @@ fill32-spec =
     (tie.spec
     Inv-loop
     μ-loop
-    fail-requires
-    returns
-    loop-holds
-    number-requires
-    fail-requires-2
-    same-length
-    returns-2
-    cast-list
-    mul-list
-    slice-write-list
-    add-i
-    loop-less
+    (λ c κs. search needs)
+    (λ c. filling-long _ _ _ _ (omega arith) _ (c .fail .ensures))
+    (λ c. filling _ _ _ _ (omega arith))
+    (λ c κs. search needs)
+    (λ c κs. search needs)
+    (λ c. omega arith)
+    loop-off
+    (λ c. omega (arith, c .before .before .before .number .ensures .1))
+    (λ c. omega arith)
+    (λ c. omega arith)
+    (λ c. omega arith)
+    (λ c. omega arith)
     loop-again
-    expect-requires
-    same-length-2
-    returns-3)
+    (λ c κs. search needs)
+    (λ c. omega arith)
+    (λ c. filling-all _ _ _ _ (c .before .before .loop .inv) (omega arith) _ (c .expect .ensures)))

@@ -4,17 +4,8 @@ use borrow.Author.Needs.{needs}
 use Rattle.numbers.proofs.several.Statement.{statement}
 use Rattle.numbers.proofs.several.Tie as tie
 
-expect-requires : tie.Need-expect-requires
-expect-requires c κs = search needs
-
-fill64-requires : tie.Need-fill64-requires
-fill64-requires c κs = search needs
-
-same-length : tie.Need-same-length
-same-length c = search needs
-
 returns : tie.Need-returns
-returns c = (rw (c .before .before .before .before .expect .ensures) at (c .before .before .fill64 .ensures .0), c .before .before .fill64 .ensures .1)
+returns c = let r = c .before .before in (rw (r .before .before .expect .ensures) at (r .fill64 .ensures .0), r .fill64 .ensures .1)
 
 pub several-spec : {M : Type 1} → statement M
-several-spec = tie.close (tie.spec expect-requires fill64-requires same-length returns)
+several-spec = tie.close (tie.spec (λ c κs. search needs) (λ c κs. search needs) (λ c. search needs) returns)

@@ -8,43 +8,30 @@ use borrow.Author.Needs.{needs}
 use Rattle.line.proofs.print.counts.Statement.{statement}
 use Rattle.line.proofs.print.counts.Tie as tie
 
-field-requires : tie.Need-field-requires
-field-requires c κs = search needs
-
-field-requires-2 : tie.Need-field-requires-2
-field-requires-2 c κs = search needs
-
-field-requires-3 : tie.Need-field-requires-3
-field-requires-3 c κs = search needs
-
-field-requires-4 : tie.Need-field-requires-4
-field-requires-4 c κs = search needs
-
-byte-requires : tie.Need-byte-requires
-byte-requires c κs = search needs
-
-same-length : tie.Need-same-length
-same-length c = search needs
-
 returns : tie.Need-returns
 returns c =
-    let r = c .before .before .before .before .before .before .before .before .before .before .before .before .before .before .before .before .before .before .before .before .before .args .r in
+    let after-field4 = c .before .before .before .before .before .before in
+    let after-field3 = after-field4 .before .before .before .before in
+    let after-field2 = after-field3 .before .before .before .before in
+    let after-field = after-field2 .before .before .before .before in
+    let start = after-field .before .before .before in
+    let r = start .args .r in
     let end = LF ∷ [] in
     let travel = field (r .travel) ++ end in
     let kept = field (r .kept) ++ travel in
-    printed-then (field (r .decisions)) (field (r .learned) ++ kept) (c .before .before .before .before .before .before .before .before .before .before .before .before .before .before .before .before .before .before .field .ensures .0)
-    (printed-then (field (r .learned)) kept (c .before .before .before .before .before .before .before .before .before .before .before .before .before .before .field2 .ensures .0)
-    (printed-then (field (r .kept)) travel (c .before .before .before .before .before .before .before .before .before .before .field3 .ensures .0)
+    printed-then (field (r .decisions)) (field (r .learned) ++ kept) (after-field .field .ensures .0)
+    (printed-then (field (r .learned)) kept (after-field2 .field2 .ensures .0)
+    (printed-then (field (r .kept)) travel (after-field3 .field3 .ensures .0)
     (printed-then (field (r .travel)) end (c .before .before .before .before .before .before .field4 .ensures .0) (c .before .before .byte .ensures))))
 
 pub counts-spec : {M : Type 1} → statement M
 counts-spec =
     tie.close
     (tie.spec
-    field-requires
-    field-requires-2
-    field-requires-3
-    field-requires-4
-    byte-requires
-    same-length
+    (λ c κs. search needs)
+    (λ c κs. search needs)
+    (λ c κs. search needs)
+    (λ c κs. search needs)
+    (λ c κs. search needs)
+    (λ c. search needs)
     returns)

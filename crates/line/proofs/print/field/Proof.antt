@@ -11,17 +11,13 @@ use borrow.Author.Needs.{needs}
 use Rattle.line.proofs.print.field.Statement.{statement}
 use Rattle.line.proofs.print.field.Tie as tie
 
-slice-write-out : tie.Need-slice-write-out
-slice-write-out c = search needs
-
-add-decimal : tie.Need-add-decimal
-add-decimal c = search needs
-
 decimal-requires : tie.Need-decimal-requires
 decimal-requires c κs = let a = c .before .before in simp length-set (omega (arith, a .pre, digits-few (a .args .n)))
 
 same-length : tie.Need-same-length
-same-length c = c .before .before .decimal .kept .0 ∙ length-set (c .before .before .before .before .before .args .out .now) (c .before .before .before .before .before .args .at) 32
+same-length c =
+    let start = c .before .before .before .before .before in
+    c .before .before .decimal .kept .0 ∙ length-set (start .args .out .now) (start .args .at) 32
 
 returns : tie.Need-returns
 returns c =
@@ -32,4 +28,4 @@ returns c =
     )
 
 pub field-spec : {M : Type 1} → statement M
-field-spec = tie.close (tie.spec slice-write-out add-decimal decimal-requires same-length returns)
+field-spec = tie.close (tie.spec (λ c. search needs) (λ c. search needs) decimal-requires same-length returns)

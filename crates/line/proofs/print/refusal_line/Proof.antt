@@ -8,42 +8,28 @@ use borrow.Author.Needs.{needs}
 use Rattle.line.proofs.print.refusal_line.Statement.{statement}
 use Rattle.line.proofs.print.refusal_line.Tie as tie
 
-slice-aggregate-bytes : tie.Need-slice-aggregate-bytes
-slice-aggregate-bytes c = search needs
-
-bytes-requires : tie.Need-bytes-requires
-bytes-requires c κs = search needs
-
-field-requires : tie.Need-field-requires
-field-requires c κs = search needs
-
-place-requires : tie.Need-place-requires
-place-requires c κs = search needs
-
-byte-requires : tie.Need-byte-requires
-byte-requires c κs = search needs
-
-same-length : tie.Need-same-length
-same-length c = search needs
-
 returns : tie.Need-returns
 unfolding refusalLine
 returns c =
-    let r = c .before .before .before .before .before .before .before .before .before .before .before .before .before .before .before .before .before .before .args .r in
+    let after-place = c .before .before .before .before .before .before in
+    let after-field = after-place .before .before .before .before in
+    let after-bytes = after-field .before .before .before .before in
+    let start = after-bytes .before .before .before .before in
+    let r = start .args .r in
     let end = LF ∷ [] in
     let place = placeField (r .place) ++ end in
-    printed-then (114 ∷ 101 ∷ 102 ∷ 117 ∷ 115 ∷ 101 ∷ 100 ∷ []) (field (r .number) ++ place) (c .before .before .before .before .before .before .before .before .before .before .before .before .before .before .bytes .ensures)
-    (printed-then (field (r .number)) place (c .before .before .before .before .before .before .before .before .before .before .field .ensures .0)
+    printed-then (114 ∷ 101 ∷ 102 ∷ 117 ∷ 115 ∷ 101 ∷ 100 ∷ []) (field (r .number) ++ place) (after-bytes .bytes .ensures)
+    (printed-then (field (r .number)) place (after-field .field .ensures .0)
     (printed-then (placeField (r .place)) end (c .before .before .before .before .before .before .place .ensures .0) (c .before .before .byte .ensures)))
 
 pub refusal-line-spec : {M : Type 1} → statement M
 refusal-line-spec =
     tie.close
     (tie.spec
-    slice-aggregate-bytes
-    bytes-requires
-    field-requires
-    place-requires
-    byte-requires
-    same-length
+    (λ c. search needs)
+    (λ c κs. search needs)
+    (λ c κs. search needs)
+    (λ c κs. search needs)
+    (λ c κs. search needs)
+    (λ c. search needs)
     returns)

@@ -1,0 +1,2 @@
+-- Laws of notation: Runs of digits.
+pub mod Runs

@@ -1,0 +1,2 @@
+-- What the functions of notation promise: Runs of digits.
+pub mod Runs
