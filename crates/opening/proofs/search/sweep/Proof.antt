@@ -1,9 +1,9 @@
--- `opening::sweep` meets its contract. The invariant: what the visits of the first k cells came to.
+-- `opening::search::sweep` meets its contract. The invariant: what the visits of the first k cells came to.
 -- Assumes nothing.
 use Prim.Native.Nat.{_-_, _*_, _≤_}
 use Rattle.floor.specs.Moves.{flat}
 use Rattle.model.proofs.Cells.{cells-le}
-use Rattle.opening.proofs.Search.{lowered-spread, swept-lowered, swept-none, swept-more}
+use Rattle.opening.proofs.Sweeping.{lowered-spread, swept-lowered, swept-none, swept-more}
 use Rattle.opening.specs.Search.{Swept}
 use borrow.Author.Needs.{needs}
 use denote.Ref.{now}
@@ -11,8 +11,8 @@ use lib.Dec.{lit<}
 use mathlib.Core.Path.{_≡_, sym, _∙_, subst}
 use native.Mathlib.Nat.{lt-of-le-of-lt}
 use native.Mathlib.Omega.{arith}
-use Rattle.opening.proofs.sweep.Statement.{statement}
-use Rattle.opening.proofs.sweep.Tie as tie
+use Rattle.opening.proofs.search.sweep.Statement.{statement}
+use Rattle.opening.proofs.search.sweep.Tie as tie
 
 abbrev Inv-loop : tie.InvT-loop
 Inv-loop width height floor dist₀ down n changed₀ k₀ dist changed k = (k ≤ n) × Swept (flat width height floor) down changed k dist₀ dist
@@ -29,39 +29,32 @@ loop-holds c =
     let f = flat (a .width) (a .height) (now (a .floor)) in
     (omega arith, swept-none f (a .down) _)
 
-in-order-requires : tie.Need-in-order-requires Inv-loop μ-loop
-in-order-requires c κs = search needs
-
 relax-requires : tie.Need-relax-requires Inv-loop μ-loop
 relax-requires c κs =
-    let a = c .before .before .before .before .before .before .args in
+    let start = c .before .before .before .before .before .before in
+    let a = start .args in
     let f = flat (a .width) (a .height) (now (a .floor)) in
     let l = c .before .before .before .loop in
-    let p = c .before .before .before .before .before .before .pre in
+    let p = start .pre in
     (p .0, lowered-spread (swept-lowered f (a .down) (l .changed) (l .k) (now (a .dist)) (l .dist) (l .inv .1)) (p .1), c .before .in-order .ensures .1)
-
-either-requires : tie.Need-either-requires Inv-loop μ-loop
-either-requires c κs = search needs
-
-add-k : tie.Need-add-k Inv-loop μ-loop
-add-k c = search needs
-
-loop-less : tie.Need-loop-less Inv-loop μ-loop
-loop-less c = omega arith
 
 loop-again : tie.Need-loop-again Inv-loop μ-loop
 loop-again c =
-    let a = c .before .before .before .before .before .before .before .before .before .before .args in
+    let in-loop = c .before .before .before .before .before .before in
+    let at-loop = in-loop .before in
+    let start = at-loop .before .before .before in
+    let a = start .args in
     let f = flat (a .width) (a .height) (now (a .floor)) in
-    let l = c .before .before .before .before .before .before .before .loop in
+    let l = at-loop .loop in
     (omega arith, swept-more f (a .down) (l .changed) (c .before .before .before .relax .result) _ (l .k) _ (now (a .dist)) (l .dist) _ (l .inv .1) (c .before .before .before .before .before .in-order .ensures .0) (c .before .before .before .relax .ensures) (c .either .ensures))
 
 same-length : tie.Need-same-length Inv-loop μ-loop
 same-length c =
-    let a = c .before .before .before .before .args in
+    let start = c .before .before .before .before in
+    let a = start .args in
     let f = flat (a .width) (a .height) (now (a .floor)) in
     let l = c .before .loop in
-    let p = c .before .before .before .before .pre in
+    let p = start .pre in
     lowered-spread (swept-lowered f (a .down) (l .changed) (l .k) (now (a .dist)) (l .dist) (l .inv .1)) (p .1) .long ∙ sym (p .1 .long)
 
 returns : tie.Need-returns Inv-loop μ-loop
@@ -79,11 +72,11 @@ sweep-spec =
     μ-loop
     mul-n
     loop-holds
-    in-order-requires
+    (λ c κs. search needs)
     relax-requires
-    either-requires
-    add-k
-    loop-less
+    (λ c κs. search needs)
+    (λ c. search needs)
+    (λ c. omega arith)
     loop-again
     same-length
     returns)

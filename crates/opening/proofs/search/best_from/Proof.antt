@@ -1,17 +1,17 @@
--- `opening::best_from` meets its contract. The invariant: the best so far is the least of what the first m moves give.
+-- `opening::search::best_from` meets its contract. The invariant: the best so far is the least of what the first m moves give.
 -- Assumes nothing.
 use Prim.Native.Nat.{_-_, _<_}
 use Rattle.floor.specs.Moves.{flat}
 use Rattle.model.proofs.Moves.{free-below, free-few}
-use Rattle.opening.proofs.Search.{BestTo, best-none, best-more, best-all, step-leading}
+use Rattle.opening.proofs.Sweeping.{BestTo, best-none, best-more, best-all, step-leading}
 use Rattle.opening.specs.Search.{throughStep}
 use borrow.Author.Needs.{needs}
 use denote.Ref.{now}
 use lib.ListN.{length}
 use mathlib.Core.Path.{ap, _∙_}
 use native.Mathlib.Omega.{arith}
-use Rattle.opening.proofs.best_from.Statement.{statement}
-use Rattle.opening.proofs.best_from.Tie as tie
+use Rattle.opening.proofs.search.best_from.Statement.{statement}
+use Rattle.opening.proofs.search.best_from.Tie as tie
 
 abbrev Inv-loop : tie.InvT-loop
 Inv-loop width height floor dist cell spot best₀ m₀ best m = BestTo (flat width height floor) dist cell m best
@@ -31,9 +31,10 @@ mul-best c =
 
 shared-slice-read-best : tie.Need-shared-slice-read-best Inv-loop μ-loop
 shared-slice-read-best c =
-    let a = c .before .before .before .before .args in
+    let start = c .before .before .before .before in
+    let a = start .args in
     let f = flat (a .width) (a .height) (now (a .floor)) in
-    let p = c .before .before .before .before .pre in
+    let p = start .pre in
     omega (arith, free-below f (a .cell) (p .2), p .1 .long)
 
 loop-holds : tie.Need-loop-holds Inv-loop μ-loop
@@ -46,19 +47,17 @@ step-from-requires c κs =
 
 through-requires : tie.Need-through-requires Inv-loop μ-loop
 through-requires c κs =
-    let p = c .before .before .before .before .before .before .before .pre in
+    let after-spot-of = c .before .before .before .before in
+    let start = after-spot-of .before .before .before in
+    let p = start .pre in
     step-leading _ _ _ _ (p .0) (p .1) _ (c .step-from .ensures)
-
-add-m : tie.Need-add-m Inv-loop μ-loop
-add-m c = search needs
-
-loop-less : tie.Need-loop-less Inv-loop μ-loop
-loop-less c = omega arith
 
 loop-again : tie.Need-loop-again Inv-loop μ-loop
 loop-again c =
+    let after-spot-of = c .before .before .before .before .before in
+    let start = after-spot-of .before .before .before in
     let l = c .before .before .before .loop in
-    best-more _ _ _ _ _ _ (c .before .before .before .before .before .before .before .before .pre .0) (omega arith) (l .inv) (c .through .ensures ∙ ap (λ s. throughStep s (now (c .before .before .before .before .before .before .before .before .args .dist)) (l .best)) (c .before .step-from .ensures))
+    best-more _ _ _ _ _ _ (start .pre .0) (omega arith) (l .inv) (c .through .ensures ∙ ap (λ s. throughStep s (now (start .args .dist)) (l .best)) (c .before .step-from .ensures))
 
 returns : tie.Need-returns Inv-loop μ-loop
 returns c = best-all _ _ _ _ _ (c .before .before .before .before .before .before .pre .0) (omega arith) (c .before .loop .inv)
@@ -75,7 +74,7 @@ best-from-spec =
     loop-holds
     step-from-requires
     through-requires
-    add-m
-    loop-less
+    (λ c. search needs)
+    (λ c. omega arith)
     loop-again
     returns)

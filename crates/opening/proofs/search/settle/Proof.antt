@@ -1,14 +1,14 @@
--- `opening::settle` meets its contract. The invariant: steps alone were made, and a sweep that lowered nothing left every cell quiet.
+-- `opening::search::settle` meets its contract. The invariant: steps alone were made, and a sweep that lowered nothing left every cell quiet.
 -- The measure is the sum of the numbers, and one more while a sweep is due. Assumes nothing.
 use Prim.Native.Nat.{_+_}
 use Rattle.floor.specs.Moves.{flat}
-use Rattle.opening.proofs.Search.{lowered-spread, lowered-join, Rested, bit, swept-lowered, swept-rested, swept-falls}
+use Rattle.opening.proofs.Sweeping.{lowered-spread, lowered-join, Rested, bit, swept-lowered, swept-rested, swept-falls}
 use Rattle.opening.specs.Search.{Lowered, none, total}
 use denote.Ref.{now}
 use mathlib.Core.Path.{sym, ap, _∙_, subst}
 use native.Mathlib.Omega.{arith}
-use Rattle.opening.proofs.settle.Statement.{statement}
-use Rattle.opening.proofs.settle.Tie as tie
+use Rattle.opening.proofs.search.settle.Statement.{statement}
+use Rattle.opening.proofs.search.settle.Tie as tie
 
 abbrev Inv-loop : tie.InvT-loop
 Inv-loop width height floor dist₀ again₀ down₀ dist again down = Lowered (flat width height floor) dist₀ dist × Rested (flat width height floor) again dist
@@ -20,24 +20,32 @@ loop-holds : tie.Need-loop-holds Inv-loop μ-loop
 loop-holds c = (none, tt)
 
 sweep-requires : tie.Need-sweep-requires Inv-loop μ-loop
-sweep-requires c κs = (c .before .before .before .before .before .pre .0, lowered-spread (c .before .before .loop .inv .0) (c .before .before .before .before .before .pre .1))
+sweep-requires c κs =
+    let start = c .before .before .before .before .before in
+    (start .pre .0, lowered-spread (c .before .before .loop .inv .0) (start .pre .1))
 
 loop-less : tie.Need-loop-less Inv-loop μ-loop
 loop-less c =
-    let a = c .before .before .before .before .before .before .before .before .args in
+    let at-loop = c .before .before .before .before .before in
+    let start = at-loop .before .before .before in
+    let a = start .args in
     let f = flat (a .width) (a .height) (now (a .floor)) in
     let l = c .before .before .before .before .before .loop in
     omega (arith, swept-falls f (l .down) (c .before .before .sweep .result) _ (l .dist) _ (c .before .before .sweep .ensures), ap bit (c .before .before .before .before .loop-test .taken))
 
 loop-again : tie.Need-loop-again Inv-loop μ-loop
 loop-again c =
-    let a = c .before .before .before .before .before .before .before .before .args in
+    let at-loop = c .before .before .before .before .before in
+    let start = at-loop .before .before .before in
+    let a = start .args in
     let f = flat (a .width) (a .height) (now (a .floor)) in
     let l = c .before .before .before .before .before .loop in
     (lowered-join (l .inv .0) (swept-lowered f (l .down) (c .before .before .sweep .result) _ (l .dist) _ (c .before .before .sweep .ensures)), swept-rested f (l .down) (c .before .before .sweep .result) (l .dist) _ (c .before .before .sweep .ensures))
 
 same-length : tie.Need-same-length Inv-loop μ-loop
-same-length c = lowered-spread (c .before .loop .inv .0) (c .before .before .before .before .pre .1) .long ∙ sym (c .before .before .before .before .pre .1 .long)
+same-length c =
+    let start = c .before .before .before .before in
+    lowered-spread (c .before .loop .inv .0) (start .pre .1) .long ∙ sym (start .pre .1 .long)
 
 returns : tie.Need-returns Inv-loop μ-loop
 returns c =

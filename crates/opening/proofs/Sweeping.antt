@@ -16,7 +16,7 @@ use Rattle.learning.specs.Ground.{Goal, netOf, listOf}
 use Rattle.learning.proofs.Spread.{list-at, list-length, list-off}
 use Rattle.learning.proofs.Certificate.{Certified, certificate}
 use Rattle.model.specs.Basics.{choose}
-use Rattle.model.specs.Floor.{Floor, size, Sized, free, price, ahead, allowed, goalsOf}
+use Rattle.model.specs.Floor.{Floor, size, Sized, free, price, dearestPrice, ahead, allowed, goalsOf}
 use Rattle.model.specs.Grounds.{groundOf, isGoal, price-high, price-same, price-free, free-inside}
 use Rattle.model.proofs.Accepted.{never}
 use Rattle.model.proofs.Cells.{cells-le}
@@ -239,7 +239,7 @@ module _ (f : Floor) (goal : ℕ) (inside : goal < size f) where
   pub settled-distances : Sized f → (d e : List ℕ) → d ≡ start → Settled f d e → Distances f (goalsOf goal) e
   settled-distances z d e q t =
       let s : Settled f start e = subst (λ y. Settled f y e) q t in
-      let large : 14 * size f < far = omega (arith, mul-le-mul-left 14 (cells-le (f .width) (f .height) (z .narrow) (z .low))) in
+      let large : dearestPrice * size f < far = omega (arith, mul-le-mul-left dearestPrice (cells-le (f .width) (f .height) (z .narrow) (z .low))) in
       record {
         long = lowered-spread (s .lowered) start-spread .long;
         each = certificate (groundOf f (goalsOf goal)) far (λ x. getD e x 0) large (certified f (goalsOf goal) start-spread start-going s);

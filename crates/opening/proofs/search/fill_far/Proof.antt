@@ -1,4 +1,4 @@
--- `opening::fill_far` meets its contract. The invariant: the places passed hold `far`.
+-- `opening::search::fill_far` meets its contract. The invariant: the places passed hold `far`.
 -- Assumes nothing.
 use Prim.Native.Nat.{_-_, _≤_}
 use Rattle.opening.proofs.Fill.{Filled, fill-more, fill-all}
@@ -7,8 +7,8 @@ use borrow.Author.Needs.{needs}
 use lib.ListN.{length, length-set}
 use mathlib.Core.Path.{_≡_, refl, _∙_}
 use native.Mathlib.Omega.{arith}
-use Rattle.opening.proofs.fill_far.Statement.{statement}
-use Rattle.opening.proofs.fill_far.Tie as tie
+use Rattle.opening.proofs.search.fill_far.Statement.{statement}
+use Rattle.opening.proofs.search.fill_far.Tie as tie
 
 abbrev Inv-loop : tie.InvT-loop
 Inv-loop dist₀ i₀ dist i = (i ≤ length dist₀) × (length dist ≡ length dist₀) × Filled (λ x. far) i dist
@@ -18,18 +18,6 @@ abbrev μ-loop : tie.MeasureT-loop
 
 loop-holds : tie.Need-loop-holds Inv-loop μ-loop
 loop-holds c = (omega arith, refl, λ k h. absurd (omega arith))
-
-mul-dist : tie.Need-mul-dist Inv-loop μ-loop
-mul-dist c = search needs
-
-slice-write-dist : tie.Need-slice-write-dist Inv-loop μ-loop
-slice-write-dist c = search needs
-
-add-i : tie.Need-add-i Inv-loop μ-loop
-add-i c = search needs
-
-loop-less : tie.Need-loop-less Inv-loop μ-loop
-loop-less c = omega arith
 
 loop-again : tie.Need-loop-again Inv-loop μ-loop
 loop-again c = (omega arith, length-set (c .before .loop .dist) (c .before .loop .i) far ∙ c .before .loop .inv .1, fill-more _ (c .before .loop .i) _ (c .before .loop .dist) (omega arith) refl (c .before .loop .inv .2))
@@ -47,10 +35,10 @@ fill-far-spec =
     Inv-loop
     μ-loop
     loop-holds
-    mul-dist
-    slice-write-dist
-    add-i
-    loop-less
+    (λ c. search needs)
+    (λ c. search needs)
+    (λ c. search needs)
+    (λ c. omega arith)
     loop-again
     same-length
     returns)
