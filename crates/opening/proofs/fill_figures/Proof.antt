@@ -24,9 +24,11 @@ loop-holds c = (omega arith, refl, λ k h. absurd (omega arith))
 
 cast-table : tie.Need-cast-table Inv-loop μ-loop
 cast-table c =
-    let a = c .before .before .before .before .args in
-    let p = c .before .before .before .before .pre in
-    record { fits = omega (arith, c .opening .ensures [], opening-high (flat (a .width) (a .height) []) (p .0) (p .1) (p .2) (a .q) (a .goal) (c .before .before .loop .x) (p .3) (p .4) (omega arith)) }
+    let start = c .before .before .before .before in
+    let a = start .args in
+    let p = start .pre in
+    let high = opening-high (flat (a .width) (a .height) []) (p .0) (p .1) (p .2) (a .q) (a .goal) (c .before .before .loop .x) (p .3) (p .4) (omega arith) in
+    record { fits = omega (arith, c .opening .ensures [], high) }
 
 loop-again : tie.Need-loop-again Inv-loop μ-loop
 loop-again c =

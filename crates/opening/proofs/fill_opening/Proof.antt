@@ -17,7 +17,10 @@ fill-figures-requires c κs =
     (o .sized .wide, o .sized .narrow, o .sized .low, omega (arith, o .scale), o .bench, o .cells)
 
 returns-2 : tie.Need-returns-2
-returns-2 c = fills-done _ _ _ _ (sym (c .before .before .before .before .enum-told .given .1) ∙ c .before .before .before .before .before .before .open-table .ensures) (c .before .before .fill-figures .ensures _)
+returns-2 c =
+    let filled = c .before .before in
+    let opened = filled .before .before in
+    fills-done _ _ _ _ (sym (opened .enum-told .given .1) ∙ opened .before .before .open-table .ensures) (filled .fill-figures .ensures _)
 
 pub fill-opening-spec : {M : Type 1} → statement M
 fill-opening-spec =

@@ -17,11 +17,12 @@ mul-result c = let h : c .wide32 .result ≤ 4294967295 = omega arith in record 
 
 returns : tie.Need-returns
 returns c =
-    let start = c .before .before .before in
-    ap₂ (λ x y. ltb (start .args .q * x) y) (c .before .wide32 .ensures .0) (c .wide322 .ensures .0) ∙ sym (ap (λ t. t && ltb (start .args .q * start .args .d) (start .args .figure)) (lt-ltb (start .args .d) far (c .before .before .if1 .taken)))
+    let a = c .before .before .before .args in
+    ap₂ (λ x y. ltb (a .q * x) y) (c .before .wide32 .ensures .0) (c .wide322 .ensures .0)
+    ∙ sym (ap (λ t. t && ltb (a .q * a .d) (a .figure)) (lt-ltb (a .d) far (c .before .before .if1 .taken)))
 
 returns-2 : tie.Need-returns-2
-returns-2 c = sym (ap (λ t. t && ltb (c .before .args .q * c .before .args .d) (c .before .args .figure)) (le-ltb (c .before .args .d) far (c .if1 .left)))
+returns-2 c = let a = c .before .args in sym (ap (λ t. t && ltb (a .q * a .d) (a .figure)) (le-ltb (a .d) far (c .if1 .left)))
 
 pub is-above-spec : {M : Type 1} → statement M
 is-above-spec = tie.close (tie.spec (λ c κs. search needs) mul-result (λ c κs. search needs) returns returns-2)

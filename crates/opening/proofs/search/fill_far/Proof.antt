@@ -20,7 +20,9 @@ loop-holds : tie.Need-loop-holds Inv-loop μ-loop
 loop-holds c = (omega arith, refl, λ k h. absurd (omega arith))
 
 loop-again : tie.Need-loop-again Inv-loop μ-loop
-loop-again c = (omega arith, length-set (c .before .loop .dist) (c .before .loop .i) far ∙ c .before .loop .inv .1, fill-more _ (c .before .loop .i) _ (c .before .loop .dist) (omega arith) refl (c .before .loop .inv .2))
+loop-again c =
+    let l = c .before .loop in
+    (omega arith, length-set (l .dist) (l .i) far ∙ l .inv .1, fill-more _ (l .i) _ (l .dist) (omega arith) refl (l .inv .2))
 
 same-length : tie.Need-same-length Inv-loop μ-loop
 same-length c = c .before .loop .inv .1

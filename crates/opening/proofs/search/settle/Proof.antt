@@ -26,21 +26,22 @@ sweep-requires c κs =
 
 loop-less : tie.Need-loop-less Inv-loop μ-loop
 loop-less c =
-    let at-loop = c .before .before .before .before .before in
-    let start = at-loop .before .before .before in
-    let a = start .args in
+    let swept = c .before .before in
+    let at-loop = swept .before .before .before in
+    let l = at-loop .loop in
+    let a = at-loop .before .before .before .args in
     let f = flat (a .width) (a .height) (now (a .floor)) in
-    let l = c .before .before .before .before .before .loop in
-    omega (arith, swept-falls f (l .down) (c .before .before .sweep .result) _ (l .dist) _ (c .before .before .sweep .ensures), ap bit (c .before .before .before .before .loop-test .taken))
+    omega (arith, swept-falls f (l .down) (swept .sweep .result) _ (l .dist) _ (swept .sweep .ensures), ap bit (swept .before .before .loop-test .taken))
 
 loop-again : tie.Need-loop-again Inv-loop μ-loop
 loop-again c =
-    let at-loop = c .before .before .before .before .before in
-    let start = at-loop .before .before .before in
-    let a = start .args in
+    let swept = c .before .before in
+    let at-loop = swept .before .before .before in
+    let l = at-loop .loop in
+    let a = at-loop .before .before .before .args in
     let f = flat (a .width) (a .height) (now (a .floor)) in
-    let l = c .before .before .before .before .before .loop in
-    (lowered-join (l .inv .0) (swept-lowered f (l .down) (c .before .before .sweep .result) _ (l .dist) _ (c .before .before .sweep .ensures)), swept-rested f (l .down) (c .before .before .sweep .result) (l .dist) _ (c .before .before .sweep .ensures))
+    let s = swept .sweep .ensures in
+    (lowered-join (l .inv .0) (swept-lowered f (l .down) (swept .sweep .result) _ (l .dist) _ s), swept-rested f (l .down) (swept .sweep .result) (l .dist) _ s)
 
 same-length : tie.Need-same-length Inv-loop μ-loop
 same-length c =

@@ -40,13 +40,16 @@ relax-requires c κs =
 
 loop-again : tie.Need-loop-again Inv-loop μ-loop
 loop-again c =
-    let in-loop = c .before .before .before .before .before .before in
-    let at-loop = in-loop .before in
-    let start = at-loop .before .before .before in
-    let a = start .args in
-    let f = flat (a .width) (a .height) (now (a .floor)) in
+    let relaxed = c .before .before .before in
+    let ordered = relaxed .before .before in
+    let at-loop = ordered .before .before in
     let l = at-loop .loop in
-    (omega arith, swept-more f (a .down) (l .changed) (c .before .before .before .relax .result) _ (l .k) _ (now (a .dist)) (l .dist) _ (l .inv .1) (c .before .before .before .before .before .in-order .ensures .0) (c .before .before .before .relax .ensures) (c .either .ensures))
+    let a = at-loop .before .before .before .args in
+    let f = flat (a .width) (a .height) (now (a .floor)) in (
+      omega arith,
+      swept-more f (a .down) (l .changed) (relaxed .relax .result) _ (l .k) _ (now (a .dist)) (l .dist) _ (l .inv .1)
+          (ordered .in-order .ensures .0) (relaxed .relax .ensures) (c .either .ensures),
+    )
 
 same-length : tie.Need-same-length Inv-loop μ-loop
 same-length c =
