@@ -5,7 +5,6 @@ use Rattle.model.proofs.Accepted.{NoneBelow, naming-names, naming-done}
 use Rattle.opening.specs.Distances.{above}
 use borrow.Author.Count.{below-more}
 use borrow.Author.Needs.{needs}
-use denote.Ref.{now}
 use lib.ListN.{length, getD}
 use mathlib.Core.Path.{sym, _∙_}
 use native.Mathlib.Omega.{arith}
