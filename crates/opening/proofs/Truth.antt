@@ -15,7 +15,7 @@ use Rattle.learning.proofs.Certificate.{dist-high}
 use Rattle.answers.specs.declared.Job.{Job}
 use Rattle.answers.specs.declared.Place.the-variants.{Nowhere}
 use Rattle.model.specs.Basics.{then, refuseAt, unless, naming}
-use Rattle.model.specs.Floor.{Floor, size, Sized}
+use Rattle.model.specs.Floor.{Floor, size, dearestPrice, Sized}
 use Rattle.model.specs.Grounds.{groundOf}
 use Rattle.model.specs.Checks.{floorOf, goals}
 use Rattle.model.specs.Opening.{soundness}
@@ -34,11 +34,11 @@ module _ (q start : ℕ) (dist table : List ℕ) where
   judged-near h = ap (λ b. then (unless b 6) (naming (length table) (λ x. above q (getD dist x 0) (getD table x 0)) 7)) (lt-ltb (getD dist start 0) far h)
 
 module _ (f : Floor) (z : Sized f) (gs : List ℕ) where
-  -- a true distance is below `far`
+  -- a true distance is at most `farthest`, and so below `far`
   near : (x : ℕ) → reachOf (groundOf f gs) x ≡ true → distOf (groundOf f gs) x < far
   near x e =
-      let few : size f - 1 ≤ 4096 = omega (arith, cells-le (f .width) (f .height) (z .narrow) (z .low)) in
-      omega (arith, dist-high (groundOf f gs) x (reach-true (groundOf f gs) x (subst T (sym e) tt)), mul-le-mul-left 14 few)
+      let few : size f - 1 ≤ 4095 = omega (arith, cells-le (f .width) (f .height) (z .narrow) (z .low)) in
+      omega (arith, dist-high (groundOf f gs) x (reach-true (groundOf f gs) x (subst T (sym e) tt)), mul-le-mul-left dearestPrice few)
 
   module _ (dist : List ℕ) (d : Distances f gs dist) (x : ℕ) (h : x < size f) where
     reach-is : ltb (getD dist x 0) far ≡ reachOf (groundOf f gs) x

@@ -11,11 +11,11 @@ use Rattle.answers.specs.declared.Verdict.{Verdict}
 use Rattle.model.specs.Basics.{then, unless, naming}
 use Rattle.model.specs.Floor.{Floor, size, Sized}
 use Rattle.model.specs.Grounds.{groundOf}
-use Rattle.model.specs.Checks.{floorOf}
+use Rattle.model.specs.Checks.{finest, ceiling, floorOf}
 
--- what stands where no walk to a goal exists: more than any distance
+-- what stands where no walk to a goal exists: the ceiling, which is more than `farthest`, the greatest true distance
 abbrev pub far : ℕ
-far = 1000000
+far = ceiling
 
 pub record Distances (f : Floor) (goals dist : List ℕ) : Type 0 where
   -- a place for each cell
@@ -35,6 +35,6 @@ judged q start dist table = then (unless (ltb (getD dist start 0) far) 6) (namin
 pub record Openable (j : Job) (bytes : List ℕ) (start : ℕ) (table : List ℕ) : Type 0 where
   pub sized : Sized (floorOf j bytes)
   pub long : length table ≡ j .width * j .height
-  pub fine : j .q ≤ 16
+  pub fine : j .q ≤ finest
   pub begin : start < j .width * j .height
   pub bench : j .goal < j .width * j .height

@@ -1,155 +1,27 @@
-// Opening a job: true distances, the checks 1 to 7, and the table of opening figures.
+// Opening a job: the checks 1 to 7, of which 6 and 7 are judged by the true distances, and the table of opening figures.
+mod search;
+
 ghost use mathlib.Core.Path.{_≡_};
-ghost use mathlib.Core.Bool.{true, _||_};
 ghost use mathlib.Core.List.{List};
 ghost use Prim.Native.Nat.{ℕ, _*_, _≤_, _<_};
 ghost use lib.ListN.{length, getD};
-ghost use Rattle.learning.specs.Ground.{listOf};
 ghost use Rattle.model.specs.Basics.{naming};
-ghost use Rattle.model.specs.Floor.{Sized, free, openingTable, goalsOf};
-ghost use Rattle.model.specs.Checks.{floorOf};
+ghost use Rattle.model.specs.Floor.{Sized, openingTable, goalsOf};
+ghost use Rattle.model.specs.Checks.{finest, floorOf};
 ghost use Rattle.model.specs.Opening.{soundness, accepts, openJob, openTrial, reportsRoom, trialsHold, openRun, openTable};
 ghost use Rattle.floor.specs.Moves.{flat};
-ghost use Rattle.opening.specs.Distances.{far, Distances, above, judged, Openable};
+ghost use Rattle.opening.specs.Distances.{above, judged, Openable};
 ghost use Rattle.opening.specs.Promise.{Answers, Fills, lineHolds};
-ghost use Rattle.opening.specs.Search.{throughStep, Leading, Spread, Best, Relaxed, inOrder, Swept, Settled};
 use answers::Job;
 use answers::Place;
 use answers::Settings;
 use answers::Verdict;
-use floor::Step;
-
-// What stands for a distance where no walk to the goal exists: more than any distance.
-pub const FAR: u32 = 1000000;
-
-// A cost in more bits.
-fn widen(cost: u16) -> u32
-    ensures { λ r. ⌜ (r ≡ cost) × (r < 65536) ⌝ }
-{
-    cost as u32
-}
-
-// The lesser of the best found so far and what a move gives: its cost and the distance from where it leads.
-fn through(step: Step, dist: &[u32], best: u32) -> u32
-    requires { ⌜ Leading step (now dist) ⌝ }
-    ensures { λ r. ⌜ r ≡ throughStep step (now (dist .entry)) best ⌝ }
-{
-    match step {
-        Step::Wall => best,
-        Step::To { cell, cost } => {
-            let d = widen(cost) + dist[cell];
-            if d < best {
-                return d;
-            }
-            best
-        }
-    }
-}
-
-// The least of a free cell's own distance and what its moves give.
-fn best_from(width: usize, height: usize, floor: &[u8], dist: &[u32], cell: usize) -> u32
-    requires { ⌜ Sized (flat width height (now floor)) × Spread (flat width height (now floor)) (now dist) × (free (flat width height (now floor)) cell ≡ true) ⌝ }
-    ensures { λ r. ⌜ Best (flat width height (now (floor .entry))) (now (dist .entry)) cell r ⌝ }
-{
-    let spot = floor::spot_of(width, height, cell);
-    let mut best = dist[cell];
-    let mut m = 0;
-    while m < 8 {
-        let step = floor::step_from(width, height, floor, cell, spot, m);
-        best = through(step, dist, best);
-        m += 1;
-    }
-    best
-}
-
-// Lowers the distance of a cell to what its moves give: whether that was less.
-fn relax(width: usize, height: usize, floor: &[u8], dist: &mut [u32], cell: usize) -> bool
-    requires { ⌜ Sized (flat width height (now floor)) × Spread (flat width height (now floor)) (now dist) × (cell < width * height) ⌝ }
-    ensures { λ r. ⌜ Relaxed (flat width height (now (floor .entry))) cell r (now (dist .entry)) (now (dist .exit)) ⌝ }
-{
-    if !floor::is_free(width, height, floor, cell) {
-        return false;
-    }
-    let best = best_from(width, height, floor, &dist[..], cell);
-    if best < dist[cell] {
-        dist[cell] = best;
-        return true;
-    }
-    false
-}
-
-// The k-th of n cells in rising or in falling order.
-fn in_order(n: usize, down: bool, k: usize) -> usize
-    requires { ⌜ k < n ⌝ }
-    ensures { λ r. ⌜ (r ≡ inOrder n down k) × (r < n) ⌝ }
-{
-    if down {
-        return n - 1 - k;
-    }
-    k
-}
-
-// Whether one of two is true.
-fn either(a: bool, b: bool) -> bool
-    ensures { λ r. ⌜ r ≡ (a || b) ⌝ }
-{
-    if a { true } else { b }
-}
-
-// Relaxes every cell once: whether a distance was lowered.
-fn sweep(width: usize, height: usize, floor: &[u8], dist: &mut [u32], down: bool) -> bool
-    requires { ⌜ Sized (flat width height (now floor)) × Spread (flat width height (now floor)) (now dist) ⌝ }
-    ensures { λ r. ⌜ Swept (flat width height (now (floor .entry))) down r (width * height) (now (dist .entry)) (now (dist .exit)) ⌝ }
-{
-    let n = width * height;
-    let mut changed = false;
-    let mut k = 0;
-    while k < n {
-        let cell = in_order(n, down, k);
-        let lowered = relax(width, height, floor, dist, cell);
-        changed = either(changed, lowered);
-        k += 1;
-    }
-    changed
-}
-
-// Sweeps in rising and in falling order by turns, until one lowers nothing.
-fn settle(width: usize, height: usize, floor: &[u8], dist: &mut [u32])
-    requires { ⌜ Sized (flat width height (now floor)) × Spread (flat width height (now floor)) (now dist) ⌝ }
-    ensures { λ r. ⌜ Settled (flat width height (now (floor .entry))) (now (dist .entry)) (now (dist .exit)) ⌝ }
-{
-    let mut again = true;
-    let mut down = false;
-    while again {
-        again = sweep(width, height, floor, dist, down);
-        down = !down;
-    }
-}
-
-// Every place holds FAR.
-fn fill_far(dist: &mut [u32])
-    ensures { λ r. ⌜ now (dist .exit) ≡ listOf (length (now (dist .entry))) (λ x. far) ⌝ }
-{
-    let mut i = 0;
-    while i < dist.len() {
-        dist[i] = FAR;
-        i += 1;
-    }
-}
-
-// The true distance of every cell, and FAR where no walk to the goal exists.
-pub fn find_distances(width: usize, height: usize, floor: &[u8], goal: usize, dist: &mut [u32])
-    requires { ⌜ Sized (flat width height (now floor)) × (length (now dist) ≡ width * height) × (goal < width * height) ⌝ }
-    ensures { λ r. ⌜ Distances (flat width height (now (floor .entry))) (goalsOf goal) (now (dist .exit)) ⌝ }
-{
-    fill_far(dist);
-    dist[goal] = 0;
-    settle(width, height, floor, dist);
-}
+use search::FAR;
+pub use search::find_distances;
 
 // Whether a figure is above the true figure of a cell at distance d, which can reach the goal.
 fn is_above(q: usize, d: u32, figure: u32) -> bool
-    requires { ⌜ q ≤ 16 ⌝ }
+    requires { ⌜ q ≤ finest ⌝ }
     ensures { λ r. ⌜ r ≡ above q d figure ⌝ }
 {
     if d < FAR {
@@ -161,7 +33,7 @@ fn is_above(q: usize, d: u32, figure: u32) -> bool
 
 // 7: a cell that can reach the goal is above its true figure; names the lowest.
 fn unsound(q: usize, dist: &[u32], table: &[u32]) -> Verdict
-    requires { ⌜ (q ≤ 16) × (length (now dist) ≡ length (now table)) ⌝ }
+    requires { ⌜ (q ≤ finest) × (length (now dist) ≡ length (now table)) ⌝ }
     ensures { λ r. ⌜ r ≡ naming (length (now (table .entry))) (λ x. above q (getD (now (dist .entry)) x 0) (getD (now (table .entry)) x 0)) 7 ⌝ }
 {
     let mut x = 0;
@@ -176,7 +48,7 @@ fn unsound(q: usize, dist: &[u32], table: &[u32]) -> Verdict
 
 // 6 and 7 by the true distances.
 fn judge_distances(q: usize, start: usize, dist: &[u32], table: &[u32]) -> Verdict
-    requires { ⌜ (q ≤ 16) × (length (now dist) ≡ length (now table)) × (start < length (now table)) ⌝ }
+    requires { ⌜ (q ≤ finest) × (length (now dist) ≡ length (now table)) × (start < length (now table)) ⌝ }
     ensures { λ r. ⌜ r ≡ judged q start (now (dist .entry)) (now (table .entry)) ⌝ }
 {
     if FAR <= dist[start] {
@@ -212,8 +84,8 @@ fn soundness(job: Job, floor: &[u8], start: usize, table: &[u32]) -> Verdict
 }
 
 // 4 to 7, which every opening ends with.
-pub fn accepts(job: Job, floor: &[u8], start: usize, table: &[u32]) -> Verdict
-    requires { ⌜ Sized (floorOf job (now floor)) × (length (now table) ≡ job .width * job .height) × (job .q ≤ 16) ⌝ }
+fn accepts(job: Job, floor: &[u8], start: usize, table: &[u32]) -> Verdict
+    requires { ⌜ Sized (floorOf job (now floor)) × (length (now table) ≡ job .width * job .height) × (job .q ≤ finest) ⌝ }
     ensures { λ r. ⌜ r ≡ accepts job (now (floor .entry)) start (now (table .entry)) ⌝ }
 {
     let v = checks::places(job.width, job.height, floor, start, job.goal);
@@ -225,40 +97,6 @@ pub fn accepts(job: Job, floor: &[u8], start: usize, table: &[u32]) -> Verdict
         return v;
     };
     soundness(job, floor, start, table)
-}
-
-// Opening a job: what the checks 1 and 3 to 7 say.
-pub fn open(job: Job, floor: &[u8], start: usize, table: &[u32]) -> Verdict
-    ensures { λ r. ⌜ Answers r (openJob job (now (floor .entry)) start (now (table .entry))) ⌝ }
-{
-    let v = checks::sizes(job.width, job.height, floor, table.len());
-    let Verdict::Done = v else {
-        return v;
-    };
-    let v = checks::settings(job);
-    let Verdict::Done = v else {
-        return v;
-    };
-    accepts(job, floor, start, table)
-}
-
-// The opening of a trial, whose path list has so many places: also 2.
-pub fn open_trial(job: Job, floor: &[u8], start: usize, table: &[u32], path: usize) -> Verdict
-    ensures { λ r. ⌜ ((places : List ℕ) → length places ≡ path → r ≡ openTrial job (now (floor .entry)) start (now (table .entry)) places) ⌝ }
-{
-    let v = checks::sizes(job.width, job.height, floor, table.len());
-    let Verdict::Done = v else {
-        return v;
-    };
-    let v = checks::path_room(table.len(), path);
-    let Verdict::Done = v else {
-        return v;
-    };
-    let v = checks::settings(job);
-    let Verdict::Done = v else {
-        return v;
-    };
-    accepts(job, floor, start, table)
 }
 
 // 2: reports shorter than trials.
@@ -338,6 +176,20 @@ pub fn open_run(
     accepts(job, floor, start, table)
 }
 
+// The opening of a trial, whose path list has so many places: that of a run of one trial with room for its report.
+pub fn open_trial(job: Job, floor: &[u8], start: usize, table: &[u32], path: usize) -> Verdict
+    ensures { λ r. ⌜ ((places : List ℕ) → length places ≡ path → r ≡ openTrial job (now (floor .entry)) start (now (table .entry)) places) ⌝ }
+{
+    open_run(job, floor, start, table, path, 1, 1)
+}
+
+// Opening a job: what the checks 1 and 3 to 7 say. A path list with a place for each figure would never be refused.
+pub fn open(job: Job, floor: &[u8], start: usize, table: &[u32]) -> Verdict
+    ensures { λ r. ⌜ Answers r (openJob job (now (floor .entry)) start (now (table .entry))) ⌝ }
+{
+    open_trial(job, floor, start, table, table.len())
+}
+
 // 1, 3 and 4 as the calls on a table alone judge them.
 pub fn open_table(
     width: usize,
@@ -362,7 +214,7 @@ pub fn open_table(
 
 // Fills a table with opening figures.
 pub fn fill_figures(width: usize, height: usize, goal: usize, q: usize, table: &mut [u32])
-    requires { ⌜ (1 ≤ width) × (width ≤ 64) × (height ≤ 64) × (q ≤ 16) × (goal < width * height) × (length (now table) ≡ width * height) ⌝ }
+    requires { ⌜ (1 ≤ width) × (width ≤ 64) × (height ≤ 64) × (q ≤ finest) × (goal < width * height) × (length (now table) ≡ width * height) ⌝ }
     ensures { λ r. ⌜ ((bytes : List ℕ) → now (table .exit) ≡ openingTable (flat width height bytes) q (goalsOf goal)) ⌝ }
 {
     let mut x = 0;

@@ -35,7 +35,8 @@ put-next at next xs ys l e h =
     let k : at + length (xs ++ ys) ≡ at + length xs + length ys = rw length-append (omega arith) in
     rw (e, take-put at xs l (omega arith), d, k, append-assoc, append-assoc)
 
-pub put-then : (at next : ℕ) (xs ys l l₁ l₂ : List ℕ) → l₁ ≡ put at xs l → l₂ ≡ put next ys l₁ → next ≡ at + length xs → at + length xs + length ys ≤ length l → l₂ ≡ put at (xs ++ ys) l
+pub put-then : (at next : ℕ) (xs ys l l₁ l₂ : List ℕ) → l₁ ≡ put at xs l → l₂ ≡ put next ys l₁ → next ≡ at + length xs → at + length xs + length ys ≤ length l
+    → l₂ ≡ put at (xs ++ ys) l
 put-then at next xs ys l l₁ l₂ a b e h = b ∙ (ap (put next ys) a ∙ put-next at next xs ys l e h)
 
 -- two stores in a row

@@ -35,7 +35,8 @@ module _ (file : List ℕ) where
   unfolding startOf
   start-some b d e = rw (e, d)
 
-  pub found-part : (b k : ℕ) → b ≡ backIn file → k ≡ countIn file → trailerHolds file ≡ true → take (length file - b + 6 * k - (length file - b)) (drop (length file - b) file) ≡ findRecords file
+  pub found-part : (b k : ℕ) → b ≡ backIn file → k ≡ countIn file → trailerHolds file ≡ true
+      → take (length file - b + 6 * k - (length file - b)) (drop (length file - b) file) ≡ findRecords file
   found-part b k d c e =
       let z : length file - b + 6 * k - (length file - b) ≡ 6 * k = omega arith in
       rw (z, d, c) (sym (found file e))
@@ -55,7 +56,8 @@ judged-by f q gs file n part v e a b = e ∙ λ i. judgeRecords f q gs (a i) 0 0
 
 -- a record by the numbers that the code reads
 module _ (f : Floor) (q : ℕ) (gs : List ℕ) (low : ℕ) (part : List ℕ) (cell figure o : ℕ) (c : cell ≡ cellIn part) where
-  pub lawful-by : free f cell ≡ true → o ≡ opening f q gs cell → figure ≡ figureIn part → (cell < size f) × (low ≤ cell) × (o < figure) × (figure ≤ ceiling) → Lawful f q gs low part
+  pub lawful-by : free f cell ≡ true → o ≡ opening f q gs cell → figure ≡ figureIn part → (cell < size f) × (low ≤ cell) × (o < figure) × (figure ≤ ceiling)
+      → Lawful f q gs low part
   lawful-by e d g h = record {
     inside = rw c at (h .0);
     open-cell = rw c at e;
@@ -112,7 +114,8 @@ module _ (n : ℕ) (part table₀ : List ℕ) where
   applying h = let e : n - 0 ≡ n = omega arith in record { most = omega arith; enough = omega arith; same = refl; left = rw e }
 
   module _ (i : ℕ) (t table : List ℕ) (g : Applying n part table₀ i t table) where
-    pub applying-more : (cell figure : ℕ) (next : List ℕ) → cell ≡ cellIn t → figure ≡ figureIn t → next ≡ set table cell figure → i < n → Applying n part table₀ (i + 1) (take (length t - 6) (drop 6 t)) next
+    pub applying-more : (cell figure : ℕ) (next : List ℕ) → cell ≡ cellIn t → figure ≡ figureIn t → next ≡ set table cell figure → i < n
+        → Applying n part table₀ (i + 1) (take (length t - 6) (drop 6 t)) next
     unfolding applied
     applying-more cell figure next c d e l =
         let k : n - i ≡ suc (n - (i + 1)) = omega arith in

@@ -18,6 +18,7 @@ use Rattle.answers.specs.declared.Verdict.the-variants as Vd
 use Rattle.answers.specs.declared.Written.the-variants as Wr
 use Rattle.model.specs.Basics.{refuseAt}
 use Rattle.model.specs.Floor.{Floor, size, free, opening, goalsOf}
+use Rattle.model.specs.Checks.{finest}
 use Rattle.model.specs.TableFile.{half, word, changed, recordsOf, trailerOf, fileOf, unlike, fileRoom, writeVerdict, writeTable}
 use Rattle.model.proofs.Files.{changed-same, changed-more, changed-few, length-records, length-file, write-gives}
 use Rattle.model.proofs.Cells.{cells-le}
@@ -140,7 +141,7 @@ pub whole : (f : Floor) (q goal n : ℕ) (table b₀ b₁ b₂ b₃ : List ℕ)
     → n ≡ length (changed f q (goalsOf goal) table (size f) 0) → b₁ ≡ recordsOf table (changed f q (goalsOf goal) table (size f) 0) ++ drop (6 * n) b₀
     → b₂ ≡ put (6 * n) (f .width % 256 ∷ f .height % 256 ∷ (half goal ++ (q % 256 ∷ 1 ∷ []))) b₁
     → b₃ ≡ put (6 * n + 6) (half n ++ (word (16 + 6 * n) ++ (80 ∷ 68 ∷ 76 ∷ 84 ∷ []))) b₂
-    → (f .width ≤ 64) × (f .height ≤ 64) × (q ≤ 16) × (16 + 6 * n ≤ length b₁)
+    → (f .width ≤ 64) × (f .height ≤ 64) × (q ≤ finest) × (16 + 6 * n ≤ length b₁)
     → b₃ ≡ fileOf f q (goalsOf goal) table ++ drop (length (fileOf f q (goalsOf goal) table)) b₀
 unfolding fileOf trailerOf
 whole f q goal n table b₀ b₁ b₂ b₃ c e₁ e₂ e₃ h =

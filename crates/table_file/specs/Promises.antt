@@ -8,12 +8,13 @@ use Rattle.answers.specs.declared.Verdict.{Verdict}
 use Rattle.answers.specs.declared.Written.{Written}
 use Rattle.model.specs.Basics.{choose}
 use Rattle.model.specs.Floor.{Floor, Sized, size}
+use Rattle.model.specs.Checks.{finest}
 use Rattle.model.specs.TableFile.{backIn, trailerHolds, WriteOutcome}
 
 -- what 1, 3 and 4 have shown
 pub record Opened (f : Floor) (q goal : ℕ) : Type 0 where
   pub sized : Sized f
-  pub scale : q ≤ 16
+  pub scale : q ≤ finest
   pub bench : goal < size f
 
 -- bytes written over those from a place on

@@ -1,69 +1,56 @@
 -- `opening::accepts` meets its contract: one check after another, and the first refusal stands.
--- Assumes nothing.
+-- Once the places hold, an answer that is what the rest says is what they and the rest say: `past-places`. Assumes nothing.
 use Rattle.model.proofs.Accepted.{then-stops, then-goes, places-judges}
 use Rattle.model.proofs.Moves.{free-below}
-use Rattle.model.specs.Checks.{floorOf}
+use Rattle.model.specs.Basics.{then}
+use Rattle.model.specs.Checks.{floorOf, goals, places, figures}
 use Rattle.model.specs.Opening.{accepts}
 use borrow.Author.Needs.{needs}
 use denote.Ref.{now}
-use mathlib.Core.Path.{sym, _∙_}
+use mathlib.Core.Path.{_≡_, sym, _∙_}
+use Rattle.answers.specs.declared.Verdict.{Verdict}
 use Rattle.opening.proofs.accepts.Statement.{statement}
 use Rattle.opening.proofs.accepts.Tie as tie
 
-places-requires : tie.Need-places-requires
-places-requires c κs = search needs
+abbrev at-start : tie.After-enum-told → tie.Start
+at-start e = e .before .before .before .before .before
 
-enum-told : tie.Need-enum-told
-enum-told c = search needs
+past-places : (e : tie.After-enum-told) {r w : Verdict} → r ≡ w → let a = at-start e .args in r ≡ then (places (floorOf (a .job) (now (a .floor))) (a .start) (goals (a .job))) w
+past-places e = then-goes _ (e .before .before .places .ensures) (e .enum-told .given .1)
 
-enum-told-2 : tie.Need-enum-told-2
-enum-told-2 c = search needs
+figures-are : (e : tie.After-figures) → let a = at-start (e .before) .args in e .figures .result ≡ figures (floorOf (a .job) (now (a .floor))) (now (a .table))
+figures-are e = e .figures .ensures _ (sym (at-start (e .before) .pre .1))
 
 returns : tie.Need-returns
 unfolding accepts
 returns c = then-stops _ (c .before .before .places .ensures) (c .enum-told2 .given .1)
 
-figures-requires : tie.Need-figures-requires
-figures-requires c κs = search needs
-
-enum-told-3 : tie.Need-enum-told-3
-enum-told-3 c = search needs
-
-enum-told-4 : tie.Need-enum-told-4
-enum-told-4 c = search needs
-
 returns-2 : tie.Need-returns-2
 unfolding accepts
-returns-2 c =
-    let a = c .before .before .before .before .before .before .before .before .args in
-    let f = floorOf (a .job) (now (a .floor)) in
-    then-goes _ (c .before .before .before .before .before .places .ensures) (c .before .before .before .enum-told .given .1) (then-stops _ (c .before .before .figures .ensures f (sym (c .before .before .before .before .before .before .before .before .pre .1))) (c .enum-told4 .given .1))
+returns-2 c = past-places (c .before .before .before) (then-stops _ (figures-are (c .before .before)) (c .enum-told4 .given .1))
 
 soundness-requires : tie.Need-soundness-requires
 soundness-requires c κs =
-    let a = c .before .before .before .before .before .before .before .before .args in
-    let f = floorOf (a .job) (now (a .floor)) in
-    let p = c .before .before .before .before .before .before .before .before .pre in
-    let h = places-judges f (a .start) (a .job .goal) .gives (sym (c .before .before .before .before .before .places .ensures) ∙ c .before .before .before .enum-told .given .1) in record { sized = p .0; long = p .1; fine = p .2; begin = free-below f _ (h .0); bench = free-below f _ (h .1) }
+    let placed = c .before .before .before in
+    let p = at-start placed .pre in
+    let h = places-judges _ _ _ .gives (sym (placed .before .before .places .ensures) ∙ placed .enum-told .given .1) in
+    record { sized = p .0; long = p .1; fine = p .2; begin = free-below _ _ (h .0); bench = free-below _ _ (h .1) }
 
 returns-3 : tie.Need-returns-3
 unfolding accepts
-returns-3 c =
-    let a = c .before .before .before .before .before .before .before .before .before .args in
-    let f = floorOf (a .job) (now (a .floor)) in
-    then-goes _ (c .before .before .before .before .before .before .places .ensures) (c .before .before .before .before .enum-told .given .1) (then-goes _ (c .before .before .before .figures .ensures f (sym (c .before .before .before .before .before .before .before .before .before .pre .1))) (c .before .enum-told3 .given .1) (c .soundness .ensures))
+returns-3 c = past-places (c .before .before .before .before) (then-goes _ (figures-are (c .before .before .before)) (c .before .enum-told3 .given .1) (c .soundness .ensures))
 
 pub accepts-spec : {M : Type 1} → statement M
 accepts-spec =
     tie.close
     (tie.spec
-    places-requires
-    enum-told
-    enum-told-2
+    (λ c κs. search needs)
+    (λ c. search needs)
+    (λ c. search needs)
     returns
-    figures-requires
-    enum-told-3
-    enum-told-4
+    (λ c κs. search needs)
+    (λ c. search needs)
+    (λ c. search needs)
     returns-2
     soundness-requires
     returns-3)

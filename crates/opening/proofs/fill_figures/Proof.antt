@@ -22,26 +22,13 @@ abbrev μ-loop : tie.MeasureT-loop
 loop-holds : tie.Need-loop-holds Inv-loop μ-loop
 loop-holds c = (omega arith, refl, λ k h. absurd (omega arith))
 
-opening-requires : tie.Need-opening-requires Inv-loop μ-loop
-opening-requires c κs = search needs
-
 cast-table : tie.Need-cast-table Inv-loop μ-loop
 cast-table c =
-    let a = c .before .before .before .before .args in
-    let p = c .before .before .before .before .pre in
-    record { fits = omega (arith, c .opening .ensures [], opening-high (flat (a .width) (a .height) []) (p .0) (p .1) (p .2) (a .q) (a .goal) (c .before .before .loop .x) (p .3) (p .4) (omega arith)) }
-
-mul-table : tie.Need-mul-table Inv-loop μ-loop
-mul-table c = search needs
-
-slice-write-table : tie.Need-slice-write-table Inv-loop μ-loop
-slice-write-table c = search needs
-
-add-x : tie.Need-add-x Inv-loop μ-loop
-add-x c = search needs
-
-loop-less : tie.Need-loop-less Inv-loop μ-loop
-loop-less c = omega arith
+    let start = c .before .before .before .before in
+    let a = start .args in
+    let p = start .pre in
+    let high = opening-high (flat (a .width) (a .height) []) (p .0) (p .1) (p .2) (a .q) (a .goal) (c .before .before .loop .x) (p .3) (p .4) (omega arith) in
+    record { fits = omega (arith, c .opening .ensures [], high) }
 
 loop-again : tie.Need-loop-again Inv-loop μ-loop
 loop-again c =
@@ -65,12 +52,12 @@ fill-figures-spec =
     Inv-loop
     μ-loop
     loop-holds
-    opening-requires
+    (λ c κs. search needs)
     cast-table
-    mul-table
-    slice-write-table
-    add-x
-    loop-less
+    (λ c. search needs)
+    (λ c. search needs)
+    (λ c. search needs)
+    (λ c. omega arith)
     loop-again
     same-length
     returns)

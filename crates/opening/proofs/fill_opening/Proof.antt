@@ -4,17 +4,9 @@ use Rattle.model.proofs.Files.{openable}
 use Rattle.opening.proofs.Promise.{fills-refused, fills-done}
 use borrow.Author.Needs.{needs}
 use mathlib.Core.Path.{sym, _∙_}
+use native.Mathlib.Omega.{arith}
 use Rattle.opening.proofs.fill_opening.Statement.{statement}
 use Rattle.opening.proofs.fill_opening.Tie as tie
-
-open-table-requires : tie.Need-open-table-requires
-open-table-requires c κs = search needs
-
-enum-told : tie.Need-enum-told
-enum-told c = search needs
-
-enum-told-2 : tie.Need-enum-told-2
-enum-told-2 c = search needs
 
 returns : tie.Need-returns
 returns c = fills-refused _ _ _ _ (c .before .before .open-table .ensures) (c .enum-told2 .given .1)
@@ -22,22 +14,22 @@ returns c = fills-refused _ _ _ _ (c .before .before .open-table .ensures) (c .e
 fill-figures-requires : tie.Need-fill-figures-requires
 fill-figures-requires c κs =
     let o = openable _ _ _ _ (sym (c .before .before .before .open-table .ensures) ∙ c .before .enum-told .given .1) in
-    (o .sized .wide, o .sized .narrow, o .sized .low, o .scale, o .bench, o .cells)
-
-same-length : tie.Need-same-length
-same-length c = search needs
+    (o .sized .wide, o .sized .narrow, o .sized .low, omega (arith, o .scale), o .bench, o .cells)
 
 returns-2 : tie.Need-returns-2
-returns-2 c = fills-done _ _ _ _ (sym (c .before .before .before .before .enum-told .given .1) ∙ c .before .before .before .before .before .before .open-table .ensures) (c .before .before .fill-figures .ensures _)
+returns-2 c =
+    let filled = c .before .before in
+    let opened = filled .before .before in
+    fills-done _ _ _ _ (sym (opened .enum-told .given .1) ∙ opened .before .before .open-table .ensures) (filled .fill-figures .ensures _)
 
 pub fill-opening-spec : {M : Type 1} → statement M
 fill-opening-spec =
     tie.close
     (tie.spec
-    open-table-requires
-    enum-told
-    enum-told-2
+    (λ c κs. search needs)
+    (λ c. search needs)
+    (λ c. search needs)
     returns
     fill-figures-requires
-    same-length
+    (λ c. search needs)
     returns-2)

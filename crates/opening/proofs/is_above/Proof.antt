@@ -12,20 +12,17 @@ use native.Mathlib.Omega.{arith}
 use Rattle.opening.proofs.is_above.Statement.{statement}
 use Rattle.opening.proofs.is_above.Tie as tie
 
-wide32-requires : tie.Need-wide32-requires
-wide32-requires c κs = search needs
-
 mul-result : tie.Need-mul-result
 mul-result c = let h : c .wide32 .result ≤ 4294967295 = omega arith in record { fits = lt-of-le-of-lt (mul-le-mul (c .before .before .pre) h) (lit< tt) }
 
-wide32-requires-2 : tie.Need-wide32-requires-2
-wide32-requires-2 c κs = search needs
-
 returns : tie.Need-returns
-returns c = ap₂ (λ x y. ltb (c .before .before .before .args .q * x) y) (c .before .wide32 .ensures .0) (c .wide322 .ensures .0) ∙ sym (ap (λ t. t && ltb (c .before .before .before .args .q * c .before .before .before .args .d) (c .before .before .before .args .figure)) (lt-ltb (c .before .before .before .args .d) far (c .before .before .if1 .taken)))
+returns c =
+    let a = c .before .before .before .args in
+    ap₂ (λ x y. ltb (a .q * x) y) (c .before .wide32 .ensures .0) (c .wide322 .ensures .0)
+    ∙ sym (ap (λ t. t && ltb (a .q * a .d) (a .figure)) (lt-ltb (a .d) far (c .before .before .if1 .taken)))
 
 returns-2 : tie.Need-returns-2
-returns-2 c = sym (ap (λ t. t && ltb (c .before .args .q * c .before .args .d) (c .before .args .figure)) (le-ltb (c .before .args .d) far (c .if1 .left)))
+returns-2 c = let a = c .before .args in sym (ap (λ t. t && ltb (a .q * a .d) (a .figure)) (le-ltb (a .d) far (c .if1 .left)))
 
 pub is-above-spec : {M : Type 1} → statement M
-is-above-spec = tie.close (tie.spec wide32-requires mul-result wide32-requires-2 returns returns-2)
+is-above-spec = tie.close (tie.spec (λ c κs. search needs) mul-result (λ c κs. search needs) returns returns-2)

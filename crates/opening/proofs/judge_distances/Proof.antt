@@ -6,20 +6,8 @@ use mathlib.Core.Path.{sym, _∙_}
 use Rattle.opening.proofs.judge_distances.Statement.{statement}
 use Rattle.opening.proofs.judge_distances.Tie as tie
 
-mul-if1 : tie.Need-mul-if1
-mul-if1 c = search needs
-
-shared-slice-read-if1 : tie.Need-shared-slice-read-if1
-shared-slice-read-if1 c = search needs
-
-refuse-requires : tie.Need-refuse-requires
-refuse-requires c κs = search needs
-
 returns : tie.Need-returns
 returns c = c .refuse .ensures ∙ sym (judged-far _ _ _ _ (c .before .if1 .taken))
-
-unsound-requires : tie.Need-unsound-requires
-unsound-requires c κs = search needs
 
 returns-2 : tie.Need-returns-2
 returns-2 c = c .unsound .ensures ∙ sym (judged-near _ _ _ _ (c .before .if1 .left))
@@ -27,4 +15,4 @@ returns-2 c = c .unsound .ensures ∙ sym (judged-near _ _ _ _ (c .before .if1 .
 pub judge-distances-spec : {M : Type 1} → statement M
 judge-distances-spec =
     tie.close
-    (tie.spec mul-if1 shared-slice-read-if1 refuse-requires returns unsound-requires returns-2)
+    (tie.spec (λ c. search needs) (λ c. search needs) (λ c κs. search needs) returns (λ c κs. search needs) returns-2)

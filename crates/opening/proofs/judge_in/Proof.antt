@@ -6,19 +6,12 @@ use mathlib.Core.Path.{_∙_}
 use Rattle.opening.proofs.judge_in.Statement.{statement}
 use Rattle.opening.proofs.judge_in.Tie as tie
 
-find-distances-requires : tie.Need-find-distances-requires
-find-distances-requires c κs = search needs
-
-judge-distances-requires : tie.Need-judge-distances-requires
-judge-distances-requires c κs = search needs
-
-same-length : tie.Need-same-length
-same-length c = search needs
-
 returns : tie.Need-returns
 returns c =
-    c .judge-distances .ensures ∙ judged-soundness _ _ _ _ _ (c .before .before .before .before .before .before .before .before .before .pre .0) (c .before .before .before .before .find-distances .ensures)
+    let after-find-distances = c .before .before .before .before in
+    let start = after-find-distances .before .before .before .before .before in
+    c .judge-distances .ensures ∙ judged-soundness _ _ _ _ _ (start .pre .0) (c .before .before .before .before .find-distances .ensures)
 
 pub judge-in-spec : {M : Type 1} → statement M
 judge-in-spec =
-    tie.close (tie.spec find-distances-requires judge-distances-requires same-length returns)
+    tie.close (tie.spec (λ c κs. search needs) (λ c κs. search needs) (λ c. search needs) returns)

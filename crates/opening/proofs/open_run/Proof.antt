@@ -1,128 +1,114 @@
 -- `opening::open_run` meets its contract: one check after another, and the first refusal stands.
--- Assumes nothing.
-use Rattle.model.proofs.Accepted.{then-stops, then-goes, sizes-judges, settings-judges}
-use Rattle.model.specs.Checks.{floorOf, pathRoom}
-use Rattle.model.specs.Opening.{openRun}
+-- Once checks are passed, an answer that is what the rest says is what they and the rest say: `past-..`. Assumes nothing.
+use mathlib.Core.Path.{_≡_, sym, ap, _∙_}
+use mathlib.Core.List.{List}
+use Prim.Native.Nat.{ℕ}
 use borrow.Author.Needs.{needs}
 use denote.Ref.{now}
 use lib.ListN.{length}
-use mathlib.Core.Path.{sym, ap, _∙_}
+use Rattle.answers.specs.declared.Verdict.{Verdict}
+use Rattle.model.specs.Basics.{then}
+use Rattle.model.specs.Floor.{size, Sized}
+use Rattle.model.specs.Checks.{floorOf, sizes, pathRoom, settings}
+use Rattle.model.specs.Opening.{reportsRoom, openRun}
+use Rattle.model.proofs.Accepted.{then-stops, then-goes, sizes-judges, settings-judges}
 use Rattle.opening.proofs.open_run.Statement.{statement}
 use Rattle.opening.proofs.open_run.Tie as tie
 
-sizes-requires : tie.Need-sizes-requires
-sizes-requires c κs = search needs
+-- the places: at the start, once the sizes hold, and once the path list is long enough
+abbrev at-start : tie.After-enum-told → tie.Start
+at-start e = e .before .before .before .before .before
 
-enum-told : tie.Need-enum-told
-enum-told c = search needs
+abbrev at-sizes : tie.After-enum-told3 → tie.After-enum-told
+at-sizes e = e .before .before .before
 
-enum-told-2 : tie.Need-enum-told-2
-enum-told-2 c = search needs
+abbrev at-room : tie.After-enum-told7 → tie.After-enum-told3
+at-room e = e .before .before .before .before .before .before
+
+sized : (e : tie.After-enum-told) → let a = at-start e .args in let f = floorOf (a .job) (now (a .floor)) in Sized f × (length (now (a .table)) ≡ size f)
+sized e = sizes-judges _ _ .gives (sym (e .before .before .sizes .ensures) ∙ e .enum-told .given .1)
+
+past-sizes : (e : tie.After-enum-told) {r w : Verdict} → r ≡ w → let a = at-start e .args in r ≡ then (sizes (floorOf (a .job) (now (a .floor))) (length (now (a .table)))) w
+past-sizes e = then-goes _ (e .before .before .sizes .ensures) (e .enum-told .given .1)
+
+-- the path list that the check speaks of is any of that length
+room-is : (e : tie.After-path-room) (places : List ℕ) → let a = at-start (e .before) .args in
+    length places ≡ a .path → e .path-room .result ≡ pathRoom (floorOf (a .job) (now (a .floor))) (length places)
+room-is e places q = e .path-room .ensures _ (sym (sized (e .before) .1)) ∙ ap (pathRoom _) (sym q)
+
+past-room : (e : tie.After-enum-told3) (places : List ℕ) {r w : Verdict} → let a = at-start (at-sizes e) .args in let f = floorOf (a .job) (now (a .floor)) in
+    length places ≡ a .path → r ≡ w → r ≡ then (sizes f (length (now (a .table)))) (then (pathRoom f (length places)) w)
+past-room e places q g = past-sizes (at-sizes e) (then-goes _ (room-is (e .before .before) places q) (e .enum-told3 .given .1) g)
+
+past-settings : (e : tie.After-enum-told7) {r w : Verdict} → r ≡ w →
+    let a = at-start (at-sizes (at-room e)) .args in r ≡ then (reportsRoom (a .trials) (a .records)) (then (settings (a .job)) w)
+past-settings e g =
+    let reported = e .before .before .before in
+    then-goes _ (reported .before .before .reports-room .ensures) (reported .enum-told5 .given .1)
+    (then-goes _ (e .before .before .settings .ensures) (e .enum-told7 .given .1) g)
 
 returns : tie.Need-returns
 unfolding openRun
-returns c = λ places e. then-stops _ (c .before .before .sizes .ensures) (c .enum-told2 .given .1)
-
-path-room-requires : tie.Need-path-room-requires
-path-room-requires c κs = search needs
-
-enum-told-3 : tie.Need-enum-told-3
-enum-told-3 c = search needs
-
-enum-told-4 : tie.Need-enum-told-4
-enum-told-4 c = search needs
+returns c = λ places q. then-stops _ (c .before .before .sizes .ensures) (c .enum-told2 .given .1)
 
 returns-2 : tie.Need-returns-2
 unfolding openRun
-returns-2 c =
-    let a = c .before .before .before .before .before .before .before .before .args in
-    let f = floorOf (a .job) (now (a .floor)) in
-    λ places e. then-goes _ (c .before .before .before .before .before .sizes .ensures) (c .before .before .before .enum-told .given .1) (then-stops _ (c .before .before .path-room .ensures f (sym (sizes-judges f _ .gives (sym (c .before .before .before .before .before .sizes .ensures) ∙ c .before .before .before .enum-told .given .1) .1)) ∙ ap (pathRoom f) (sym e)) (c .enum-told4 .given .1))
-
-reports-room-requires : tie.Need-reports-room-requires
-reports-room-requires c κs = search needs
-
-enum-told-5 : tie.Need-enum-told-5
-enum-told-5 c = search needs
-
-enum-told-6 : tie.Need-enum-told-6
-enum-told-6 c = search needs
+returns-2 c = λ places q. past-sizes (c .before .before .before) (then-stops _ (room-is (c .before .before) places q) (c .enum-told4 .given .1))
 
 returns-3 : tie.Need-returns-3
 unfolding openRun
-returns-3 c =
-    let a = c .before .before .before .before .before .before .before .before .before .before .before .args in
-    let f = floorOf (a .job) (now (a .floor)) in
-    λ places e. then-goes _ (c .before .before .before .before .before .before .before .before .sizes .ensures) (c .before .before .before .before .before .before .enum-told .given .1) (then-goes _ (c .before .before .before .before .before .path-room .ensures f (sym (sizes-judges f _ .gives (sym (c .before .before .before .before .before .before .before .before .sizes .ensures) ∙ c .before .before .before .before .before .before .enum-told .given .1) .1)) ∙ ap (pathRoom f) (sym e)) (c .before .before .before .enum-told3 .given .1) (then-stops _ (c .before .before .reports-room .ensures) (c .enum-told6 .given .1)))
-
-settings-requires : tie.Need-settings-requires
-settings-requires c κs = search needs
-
-enum-told-7 : tie.Need-enum-told-7
-enum-told-7 c = search needs
-
-enum-told-8 : tie.Need-enum-told-8
-enum-told-8 c = search needs
+returns-3 c = λ places q. past-room (c .before .before .before) places q (then-stops _ (c .before .before .reports-room .ensures) (c .enum-told6 .given .1))
 
 returns-4 : tie.Need-returns-4
 unfolding openRun
-returns-4 c =
-    let a = c .before .before .before .before .before .before .before .before .before .before .before .before .before .before .args in
-    let f = floorOf (a .job) (now (a .floor)) in
-    λ places e. then-goes _ (c .before .before .before .before .before .before .before .before .before .before .before .sizes .ensures) (c .before .before .before .before .before .before .before .before .before .enum-told .given .1) (then-goes _ (c .before .before .before .before .before .before .before .before .path-room .ensures f (sym (sizes-judges f _ .gives (sym (c .before .before .before .before .before .before .before .before .before .before .before .sizes .ensures) ∙ c .before .before .before .before .before .before .before .before .before .enum-told .given .1) .1)) ∙ ap (pathRoom f) (sym e)) (c .before .before .before .before .before .before .enum-told3 .given .1) (then-goes _ (c .before .before .before .before .before .reports-room .ensures) (c .before .before .before .enum-told5 .given .1) (then-stops _ (c .before .before .settings .ensures) (c .enum-told8 .given .1))))
-
-trials-hold-requires : tie.Need-trials-hold-requires
-trials-hold-requires c κs = search needs
-
-enum-told-9 : tie.Need-enum-told-9
-enum-told-9 c = search needs
-
-enum-told-10 : tie.Need-enum-told-10
-enum-told-10 c = search needs
+returns-4 c = λ places q.
+    let reported = c .before .before .before in
+    past-room (reported .before .before .before) places q
+    (then-goes _ (reported .before .before .reports-room .ensures) (reported .enum-told5 .given .1)
+    (then-stops _ (c .before .before .settings .ensures) (c .enum-told8 .given .1)))
 
 returns-5 : tie.Need-returns-5
 unfolding openRun
-returns-5 c =
-    let a = c .before .before .before .before .before .before .before .before .before .before .before .before .before .before .before .before .before .args in
-    let f = floorOf (a .job) (now (a .floor)) in
-    λ places e. then-goes _ (c .before .before .before .before .before .before .before .before .before .before .before .before .before .before .sizes .ensures) (c .before .before .before .before .before .before .before .before .before .before .before .before .enum-told .given .1) (then-goes _ (c .before .before .before .before .before .before .before .before .before .before .before .path-room .ensures f (sym (sizes-judges f _ .gives (sym (c .before .before .before .before .before .before .before .before .before .before .before .before .before .before .sizes .ensures) ∙ c .before .before .before .before .before .before .before .before .before .before .before .before .enum-told .given .1) .1)) ∙ ap (pathRoom f) (sym e)) (c .before .before .before .before .before .before .before .before .before .enum-told3 .given .1) (then-goes _ (c .before .before .before .before .before .before .before .before .reports-room .ensures) (c .before .before .before .before .before .before .enum-told5 .given .1) (then-goes _ (c .before .before .before .before .before .settings .ensures) (c .before .before .before .enum-told7 .given .1) (then-stops _ (c .before .before .trials-hold .ensures) (c .enum-told10 .given .1)))))
+returns-5 c = λ places q.
+    let set = c .before .before .before in
+    past-room (at-room set) places q (past-settings set (then-stops _ (c .before .before .trials-hold .ensures) (c .enum-told10 .given .1)))
 
 accepts-requires : tie.Need-accepts-requires
 accepts-requires c κs =
-    let a = c .before .before .before .before .before .before .before .before .before .before .before .before .before .before .before .before .before .args in
-    let f = floorOf (a .job) (now (a .floor)) in
-    let s = sizes-judges f (length (now (a .table))) .gives (sym (c .before .before .before .before .before .before .before .before .before .before .before .before .before .before .sizes .ensures) ∙ c .before .before .before .before .before .before .before .before .before .before .before .before .enum-told .given .1) in let g = settings-judges (a .job) .gives (sym (c .before .before .before .before .before .settings .ensures) ∙ c .before .before .before .enum-told7 .given .1) in (s .0, s .1, g .fine)
+    let set = c .before .before .before in
+    let s = sized (at-sizes (at-room set)) in
+    (s .0, s .1, settings-judges _ .gives (sym (set .before .before .settings .ensures) ∙ set .enum-told7 .given .1) .fine)
 
 returns-6 : tie.Need-returns-6
 unfolding openRun
-returns-6 c =
-    let a = c .before .before .before .before .before .before .before .before .before .before .before .before .before .before .before .before .before .before .args in
-    let f = floorOf (a .job) (now (a .floor)) in
-    λ places e. then-goes _ (c .before .before .before .before .before .before .before .before .before .before .before .before .before .before .before .sizes .ensures) (c .before .before .before .before .before .before .before .before .before .before .before .before .before .enum-told .given .1) (then-goes _ (c .before .before .before .before .before .before .before .before .before .before .before .before .path-room .ensures f (sym (sizes-judges f _ .gives (sym (c .before .before .before .before .before .before .before .before .before .before .before .before .before .before .before .sizes .ensures) ∙ c .before .before .before .before .before .before .before .before .before .before .before .before .before .enum-told .given .1) .1)) ∙ ap (pathRoom f) (sym e)) (c .before .before .before .before .before .before .before .before .before .before .enum-told3 .given .1) (then-goes _ (c .before .before .before .before .before .before .before .before .before .reports-room .ensures) (c .before .before .before .before .before .before .before .enum-told5 .given .1) (then-goes _ (c .before .before .before .before .before .before .settings .ensures) (c .before .before .before .before .enum-told7 .given .1) (then-goes _ (c .before .before .before .trials-hold .ensures) (c .before .enum-told9 .given .1) (c .accepts .ensures)))))
+returns-6 c = λ places q.
+    let set = c .before .before .before .before in
+    past-room (at-room set) places q
+    (past-settings set (then-goes _ (c .before .before .before .trials-hold .ensures) (c .before .enum-told9 .given .1) (c .accepts .ensures)))
 
 pub open-run-spec : {M : Type 1} → statement M
 open-run-spec =
     tie.close
     (tie.spec
-    sizes-requires
-    enum-told
-    enum-told-2
+    (λ c κs. search needs)
+    (λ c. search needs)
+    (λ c. search needs)
     returns
-    path-room-requires
-    enum-told-3
-    enum-told-4
+    (λ c κs. search needs)
+    (λ c. search needs)
+    (λ c. search needs)
     returns-2
-    reports-room-requires
-    enum-told-5
-    enum-told-6
+    (λ c κs. search needs)
+    (λ c. search needs)
+    (λ c. search needs)
     returns-3
-    settings-requires
-    enum-told-7
-    enum-told-8
+    (λ c κs. search needs)
+    (λ c. search needs)
+    (λ c. search needs)
     returns-4
-    trials-hold-requires
-    enum-told-9
-    enum-told-10
+    (λ c κs. search needs)
+    (λ c. search needs)
+    (λ c. search needs)
     returns-5
     accepts-requires
     returns-6)

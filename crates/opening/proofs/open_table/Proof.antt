@@ -7,27 +7,9 @@ use mathlib.Core.Path.{sym, _∙_}
 use Rattle.opening.proofs.open_table.Statement.{statement}
 use Rattle.opening.proofs.open_table.Tie as tie
 
-sizes-requires : tie.Need-sizes-requires
-sizes-requires c κs = search needs
-
-enum-told : tie.Need-enum-told
-enum-told c = search needs
-
-enum-told-2 : tie.Need-enum-told-2
-enum-told-2 c = search needs
-
 returns : tie.Need-returns
 unfolding openTable
 returns c = then-stops _ (c .before .before .sizes .ensures) (c .enum-told2 .given .1)
-
-scale-requires : tie.Need-scale-requires
-scale-requires c κs = search needs
-
-enum-told-3 : tie.Need-enum-told-3
-enum-told-3 c = search needs
-
-enum-told-4 : tie.Need-enum-told-4
-enum-told-4 c = search needs
 
 returns-2 : tie.Need-returns-2
 unfolding openTable
@@ -48,13 +30,13 @@ pub open-table-spec : {M : Type 1} → statement M
 open-table-spec =
     tie.close
     (tie.spec
-    sizes-requires
-    enum-told
-    enum-told-2
+    (λ c κs. search needs)
+    (λ c. search needs)
+    (λ c. search needs)
     returns
-    scale-requires
-    enum-told-3
-    enum-told-4
+    (λ c κs. search needs)
+    (λ c. search needs)
+    (λ c. search needs)
     returns-2
     bench-requires
     returns-3)

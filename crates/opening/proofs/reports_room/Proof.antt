@@ -7,9 +7,6 @@ use native.Mathlib.Omega.{arith}
 use Rattle.opening.proofs.reports_room.Statement.{statement}
 use Rattle.opening.proofs.reports_room.Tie as tie
 
-refuse-requires : tie.Need-refuse-requires
-refuse-requires c κs = search needs
-
 returns : tie.Need-returns
 returns c = c .refuse .ensures ∙ sym (reports-judges _ _ .refused (λ h. omega arith))
 
@@ -17,4 +14,4 @@ returns-2 : tie.Need-returns-2
 returns-2 c = sym (reports-judges _ _ .done (omega arith))
 
 pub reports-room-spec : {M : Type 1} → statement M
-reports-room-spec = tie.close (tie.spec refuse-requires returns returns-2)
+reports-room-spec = tie.close (tie.spec (λ c κs. search needs) returns returns-2)

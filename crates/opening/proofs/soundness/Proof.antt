@@ -8,9 +8,6 @@ use native.Mathlib.Omega.{arith}
 use Rattle.opening.proofs.soundness.Statement.{statement}
 use Rattle.opening.proofs.soundness.Tie as tie
 
-no-distances-requires : tie.Need-no-distances-requires
-no-distances-requires c κs = search needs
-
 array-borrow-prefix-dist : tie.Need-array-borrow-prefix-dist
 array-borrow-prefix-dist c =
     let p = c .before .before .before .pre in
@@ -26,15 +23,12 @@ judge-in-requires c κs =
     let p = c .before .before .before .before .pre in
     (p, length-take-le _ (c .before .no-distances .result) (omega (arith, p .long, c .before .no-distances .ensures, cells-le _ _ (p .sized .narrow) (p .sized .low))) ∙ p .long)
 
-returns : tie.Need-returns
-returns c = search needs
-
 pub soundness-spec : {M : Type 1} → statement M
 soundness-spec =
     tie.close
     (tie.spec
-    no-distances-requires
+    (λ c κs. search needs)
     array-borrow-prefix-dist
     slice-aggregate-judge-in
     judge-in-requires
-    returns)
+    (λ c. search needs))

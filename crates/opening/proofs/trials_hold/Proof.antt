@@ -7,14 +7,8 @@ use native.Mathlib.Omega.{arith}
 use Rattle.opening.proofs.trials_hold.Statement.{statement}
 use Rattle.opening.proofs.trials_hold.Tie as tie
 
-refuse-requires : tie.Need-refuse-requires
-refuse-requires c κs = search needs
-
 returns : tie.Need-returns
 returns c = c .refuse .ensures ∙ sym (trials-judges _ .refused (λ h. omega arith))
-
-refuse-requires-2 : tie.Need-refuse-requires-2
-refuse-requires-2 c κs = search needs
 
 returns-2 : tie.Need-returns-2
 returns-2 c = c .refuse2 .ensures ∙ sym (trials-judges _ .refused (λ h. omega arith))
@@ -24,4 +18,4 @@ returns-3 c = sym (trials-judges _ .done (omega arith))
 
 pub trials-hold-spec : {M : Type 1} → statement M
 trials-hold-spec =
-    tie.close (tie.spec refuse-requires returns refuse-requires-2 returns-2 returns-3)
+    tie.close (tie.spec (λ c κs. search needs) returns (λ c κs. search needs) returns-2 returns-3)

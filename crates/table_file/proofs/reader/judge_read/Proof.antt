@@ -1,0 +1,97 @@
+-- `table_file::reader::judge_read` meets its contract: one check after another, and the first refusal stands.
+-- Once checks are passed, an answer that is what the rest says is what they and the rest say: `past-..`. Assumes nothing.
+use mathlib.Core.Path.{_≡_, refl, sym, _∙_}
+use mathlib.Core.Bool.{true}
+use denote.Ref.{now}
+use borrow.Author.Tests.{not-true, not-false}
+use Rattle.answers.specs.declared.Verdict.{Verdict}
+use Rattle.model.specs.Basics.{then}
+use Rattle.model.specs.Opening.{openTable}
+use Rattle.model.specs.TableFile.{trailerHolds, checkTrailer, readVerdict}
+use Rattle.model.proofs.Accepted.{then-refused, then-stops, then-goes}
+use Rattle.model.proofs.Files.{trailer-gives, check-done, check-refused}
+use Rattle.table_file.specs.Site.{floorAt, goalsAt}
+use Rattle.table_file.proofs.Reading.{opened, records-long, judged-by}
+use borrow.Author.Needs.{needs}
+use Rattle.table_file.proofs.reader.judge_read.Statement.{statement}
+use Rattle.table_file.proofs.reader.judge_read.Tie as tie
+
+-- the places: at the start, once the table is opened, and once the trailer holds
+abbrev at-start : tie.After-enum-told → tie.Start
+at-start e = e .before .before .before .before .before
+
+abbrev at-opened : tie.Else1 → tie.After-enum-told
+at-opened e = e .before .before
+
+abbrev at-trailer : tie.After-enum-told3 → tie.Else1
+at-trailer e = e .before .before .before
+
+holds : (e : tie.Else1) → trailerHolds (now (at-start (at-opened e) .args .file)) ≡ true
+holds e = sym (e .before .trailer-holds .ensures) ∙ not-false _ (e .if1 .left)
+
+past-opened : (e : tie.After-enum-told) {r w : Verdict} → r ≡ w → let a = at-start e .args in
+    r ≡ then (openTable (floorAt (a .site) (now (a .floor))) (a .site .q) (goalsAt (a .site)) (a .figures)) w
+past-opened e = then-goes _ (e .before .before .open-table .ensures) (e .enum-told .given .1)
+
+past-trailer : (e : tie.Else1) {r w : Verdict} → r ≡ w → let a = at-start (at-opened e) .args in
+    r ≡ then (openTable (floorAt (a .site) (now (a .floor))) (a .site .q) (goalsAt (a .site)) (a .figures)) (then (checkTrailer (now (a .file))) w)
+past-trailer e g = past-opened (at-opened e) (then-goes _ refl (check-done _ (holds e)) g)
+
+returns : tie.Need-returns
+unfolding readVerdict
+returns c = then-stops _ (c .before .before .open-table .ensures) (c .enum-told2 .given .1)
+
+returns-2 : tie.Need-returns-2
+unfolding readVerdict
+returns-2 c =
+    let opened = c .before .before .before in
+    past-opened opened (c .refuse .ensures ∙ sym (then-refused _ (check-refused _ (sym (c .before .before .trailer-holds .ensures) ∙ not-true _ (c .before .if1 .taken)))))
+
+same-job-requires : tie.Need-same-job-requires
+same-job-requires c κs = trailer-gives _ (holds c) .long
+
+returns-3 : tie.Need-returns-3
+unfolding readVerdict
+returns-3 c =
+    let held = c .before .before .before in
+    past-trailer held (then-stops _ (c .before .before .same-job .ensures (now (at-start (at-opened held) .args .floor))) (c .enum-told4 .given .1))
+
+count-in-requires : tie.Need-count-in-requires
+count-in-requires c κs = trailer-gives _ (holds (at-trailer c)) .long
+
+judge-records-requires : tie.Need-judge-records-requires
+judge-records-requires c κs =
+    let held = at-trailer (c .before .before) in
+    let table = at-opened held in (
+      opened _ _ _ _ (sym (table .before .before .open-table .ensures) ∙ table .enum-told .given .1) .0,
+      records-long _ _ _ (c .before .count-in .ensures .0) (c .find-records .ensures .0) (holds held),
+    )
+
+returns-4 : tie.Need-returns-4
+unfolding readVerdict
+returns-4 c =
+    let same = c .before .before .before in
+    let held = at-trailer same in
+    past-trailer held
+    (then-goes _ (same .before .before .same-job .ensures (now (at-start (at-opened held) .args .floor))) (same .enum-told3 .given .1)
+    (judged-by _ _ _ _ _ _ _ (c .judge-records .ensures) (c .before .before .count-in .ensures .0) (c .before .find-records .ensures .0)))
+
+pub judge-read-spec : {M : Type 1} → statement M
+judge-read-spec =
+    tie.close
+    (tie.spec
+    (λ c κs. search needs)
+    (λ c. search needs)
+    (λ c. search needs)
+    returns
+    (λ c κs. search needs)
+    (λ c κs. search needs)
+    returns-2
+    same-job-requires
+    (λ c. search needs)
+    (λ c. search needs)
+    returns-3
+    count-in-requires
+    (λ c κs. search needs)
+    judge-records-requires
+    returns-4)

@@ -1,0 +1,40 @@
+-- `table_file::writer::put_back` meets its contract: a half, a word and two pairs, one after another.
+-- Assumes nothing.
+use Prim.Native.Nat.{_+_, _*_}
+use mathlib.Core.Path.{refl}
+use mathlib.Core.List.{[], _∷_, _++_}
+use Rattle.model.specs.TableFile.{half, word}
+use Rattle.table_file.proofs.Puts.{put-then}
+use borrow.Author.Needs.{needs}
+use native.Mathlib.Omega.{arith}
+use Rattle.table_file.proofs.writer.put_back.Statement.{statement}
+use Rattle.table_file.proofs.writer.put_back.Tie as tie
+
+returns : tie.Need-returns
+returns c =
+    let letters = c .before .before .before .before .before .before in
+    let back = letters .before .before .before .before in
+    let counted = back .before .before .before .before in
+    let a = counted .before .before .before .args in
+    let k = a .count in
+    put-then (a .at) _ (half k ++ (word (16 + 6 * k) ++ (80 ∷ 68 ∷ []))) (76 ∷ 84 ∷ []) _ _ _
+    (put-then (a .at) _ (half k ++ word (16 + 6 * k)) (80 ∷ 68 ∷ []) _ _ _
+    (put-then (a .at) _ (half k) (word (16 + 6 * k)) _ _ _ (counted .put-half .ensures) (back .put-word .ensures) refl (omega arith))
+    (letters .put-pair .ensures) refl (omega arith))
+    (c .before .before .put-pair2 .ensures) refl (omega arith)
+
+pub put-back-spec : {M : Type 1} → statement M
+put-back-spec =
+    tie.close
+    (tie.spec
+    (λ c κs. search needs)
+    (λ c. search needs)
+    (λ c. search needs)
+    (λ c. search needs)
+    (λ c κs. search needs)
+    (λ c. search needs)
+    (λ c κs. search needs)
+    (λ c. search needs)
+    (λ c κs. search needs)
+    (λ c. search needs)
+    returns)

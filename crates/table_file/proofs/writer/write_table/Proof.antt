@@ -1,0 +1,71 @@
+-- `table_file::writer::write_table` meets its contract: a refusal leaves the buffer; else the records and the two parts of the trailer are the whole file.
+-- Assumes nothing.
+use mathlib.Core.Path.{_≡_, sym, _∙_}
+use Prim.Native.Nat.{_+_, _*_, _≤_}
+use denote.Ref.{now}
+use lib.ListN.{length}
+use Rattle.model.specs.Floor.{size, goalsOf}
+use Rattle.model.specs.TableFile.{changed}
+use Rattle.floor.specs.Moves.{flat}
+use Rattle.table_file.specs.Promises.{Opened}
+use Rattle.table_file.proofs.Writing.{write-open, at-most, whole, write-refused, write-done}
+use borrow.Author.Needs.{needs}
+use native.Mathlib.Omega.{arith}
+use Rattle.table_file.proofs.writer.write_table.Statement.{statement}
+use Rattle.table_file.proofs.writer.write_table.Tie as tie
+
+-- the places: once the checks are passed, the records put, and the job put
+abbrev at-passed : tie.After-put-records → tie.After-enum-told
+at-passed e = e .before .before
+
+abbrev at-records : tie.After-put-job → tie.After-put-records
+at-records e = e .before .before .before .before
+
+abbrev at-job : tie.After-put-back → tie.After-put-job
+at-job e = e .before .before .before .before
+
+-- what the checks have shown, and that there are at most 4,096 records
+passed : (e : tie.After-enum-told) →
+    let a = e .before .before .before .before .before .before .args in
+    let f = flat (a .width) (a .height) (now (a .floor)) in
+    let n = length (changed f (a .q) (goalsOf (a .goal)) (now (a .table)) (size f) 0) in
+    Opened f (a .q) (a .goal) × (length (now (a .table)) ≡ size f) × (16 + 6 * n ≤ length (now (a .buffer))) × (n ≤ 4096)
+passed e =
+    let w = write-open _ _ _ _ _ (sym (e .before .before .judge-write .ensures) ∙ e .enum-told .given .1) in
+    (w .0, w .1, w .2, at-most _ _ _ _ _ (w .0))
+
+put-records-requires : tie.Need-put-records-requires
+put-records-requires c κs = let p = passed (c .before) in (p .0, (p .1, omega arith))
+
+returns : tie.Need-returns
+returns c = write-refused _ _ _ _ _ _ (c .before .before .before .judge-write .ensures) (c .before .v .given .0 .0) (c .before .v .given .1)
+
+returns-2 : tie.Need-returns-2
+returns-2 c =
+    let back = c .before .before in
+    let job = at-job back in
+    let records = at-records job in
+    let checked = at-passed records in
+    let p = passed checked in
+    let n = records .put-records .ensures in
+    write-done _ _ _ _ _ _ (checked .before .before .judge-write .ensures) _ _ (checked .enum-told .given .1) (n .0)
+    (whole _ _ _ _ _ _ _ _ _ (n .0) (n .1) (job .put-job .ensures) (back .put-back .ensures) (p .0 .sized .narrow, p .0 .sized .low, p .0 .scale, omega arith))
+
+pub write-table-spec : {M : Type 1} → statement M
+write-table-spec =
+    tie.close
+    (tie.spec
+    (λ c κs. search needs)
+    (λ c. search needs)
+    (λ c. search needs)
+    put-records-requires
+    (λ c. omega (arith, passed (at-passed (c .before .before .before))))
+    (λ c κs. omega (arith, passed (at-passed (c .before .before .before))))
+    (λ c. omega (arith, passed (at-passed (at-records (c .before .before .before)))))
+    (λ c. omega (arith, passed (at-passed (at-records (c .before .before .before)))))
+    (λ c κs. omega (arith, passed (at-passed (at-records (c .before .before .before)))))
+    (λ c. omega (arith, passed (at-passed (at-records (at-job (c .before .before))))))
+    (λ c. omega (arith, passed (at-passed (at-records (at-job (c .before .before))))))
+    returns
+    (λ c. search needs)
+    returns-2)

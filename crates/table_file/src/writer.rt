@@ -1,0 +1,183 @@
+// The writer of a table file: it judges everything before it stores.
+ghost use mathlib.Core.Path.{_≡_};
+ghost use mathlib.Core.List.{[], _∷_, _++_};
+ghost use Prim.Native.Nat.{_+_, _*_, _%_, _≤_, _<_};
+ghost use lib.ListN.{length, drop};
+ghost use Rattle.model.specs.Basics.{naming};
+ghost use Rattle.model.specs.Floor.{opening, goalsOf};
+ghost use Rattle.model.specs.TableFile.{half, word, recordsOf, unlike, writeVerdict, writeTable};
+ghost use Rattle.floor.specs.Moves.{flat};
+ghost use Rattle.table_file.specs.Site.{floorAt, goalsAt, changedAt};
+ghost use Rattle.table_file.specs.Promises.{Opened, put, Writes};
+use super::Site;
+use super::bytes::put_half;
+use super::bytes::put_pair;
+use super::bytes::put_word;
+use answers::Place;
+use answers::Verdict;
+use answers::Written;
+
+// The opening figure of a cell.
+fn opening_of(site: Site, floor: &[u8], cell: usize) -> usize
+    requires { ⌜ Opened (floorAt site (now floor)) (site .q) (site .goal) ⌝ ∗ ⌜ cell < site .width * site .height ⌝ }
+    ensures { λ r. ⌜ (r ≡ opening (floorAt site (now (floor .entry))) (site .q) (goalsAt site) cell) × (r < 4294967296) ⌝ }
+{
+    floor::opening(site.width, site.height, site.goal, site.q, cell)
+}
+
+// Whether a free cell is below its opening figure, or a blocked one unlike it.
+fn is_unlike(site: Site, floor: &[u8], table: &[u32], x: usize) -> bool
+    requires { ⌜ Opened (floorAt site (now floor)) (site .q) (site .goal) ⌝ ∗ ⌜ (length (now table) ≡ site .width * site .height) × (x < site .width * site .height) ⌝ }
+    ensures { λ r. ⌜ r ≡ unlike (floorAt site (now (floor .entry))) (site .q) (goalsAt site) (now (table .entry)) x ⌝ }
+{
+    let figure = notation::wide32(table[x]);
+    let least = opening_of(site, floor, x);
+    if floor::is_free(site.width, site.height, floor, x) {
+        return figure < least;
+    }
+    figure != least
+}
+
+// 16: names the lowest such cell.
+fn judge_unlike(site: Site, floor: &[u8], table: &[u32]) -> Verdict
+    requires { ⌜ Opened (floorAt site (now floor)) (site .q) (site .goal) ⌝ ∗ ⌜ length (now table) ≡ site .width * site .height ⌝ }
+    ensures { λ r. ⌜ r ≡ naming (site .width * site .height) (unlike (floorAt site (now (floor .entry))) (site .q) (goalsAt site) (now (table .entry))) 16 ⌝ }
+{
+    let mut x = 0;
+    while x < table.len() {
+        if is_unlike(site, floor, table, x) {
+            return checks::refuse_at(16, Place::Cell(x));
+        }
+        x += 1;
+    }
+    Verdict::Done
+}
+
+// How many cells have a figure that differs from the opening figure.
+fn count_changed(site: Site, floor: &[u8], table: &[u32]) -> usize
+    requires { ⌜ Opened (floorAt site (now floor)) (site .q) (site .goal) ⌝ ∗ ⌜ length (now table) ≡ site .width * site .height ⌝ }
+    ensures { λ r. ⌜ (r ≡ length (changedAt site (now (floor .entry)) (now (table .entry)))) × (r ≤ 4096) ⌝ }
+{
+    let mut n = 0;
+    let mut x = 0;
+    while x < table.len() {
+        if notation::wide32(table[x]) != opening_of(site, floor, x) {
+            n += 1;
+        }
+        x += 1;
+    }
+    n
+}
+
+// A record at a place.
+fn put_record(out: &mut [u8], at: usize, cell: usize, figure: usize)
+    requires { ⌜ at + 6 ≤ length (now out) ⌝ }
+    ensures { λ _. ⌜ now (out .exit) ≡ put at (half cell ++ word figure) (now (out .entry)) ⌝ }
+{
+    put_half(out, at, cell);
+    put_word(out, at + 2, figure);
+}
+
+// The records, from the first byte on; how many they are.
+fn put_records(site: Site, floor: &[u8], table: &[u32], out: &mut [u8]) -> usize
+    requires { ⌜ Opened (floorAt site (now floor)) (site .q) (site .goal) ⌝ ∗ ⌜ length (now table) ≡ site .width * site .height ⌝
+        ∗ ⌜ 6 * length (changedAt site (now floor) (now table)) ≤ length (now out) ⌝ }
+    ensures { λ r. ⌜ (r ≡ length (changedAt site (now (floor .entry)) (now (table .entry))))
+        × (now (out .exit) ≡ recordsOf (now (table .entry)) (changedAt site (now (floor .entry)) (now (table .entry))) ++ drop (6 * r) (now (out .entry))) ⌝ }
+{
+    let mut n = 0;
+    let mut x = 0;
+    while x < table.len() {
+        let figure = notation::wide32(table[x]);
+        if figure != opening_of(site, floor, x) {
+            put_record(out, 6 * n, x, figure);
+            n += 1;
+        }
+        x += 1;
+    }
+    n
+}
+
+// The trailer's job, 6 bytes: width, height, goal, q and the edition; and what points back, 10 bytes: count, back and the letters.
+fn put_job(out: &mut [u8], at: usize, site: Site)
+    requires { ⌜ at + 6 ≤ length (now out) ⌝ }
+    ensures { λ _. ⌜ now (out .exit) ≡ put at (site .width % 256 ∷ site .height % 256 ∷ (half (site .goal) ++ (site .q % 256 ∷ 1 ∷ []))) (now (out .entry)) ⌝ }
+{
+    put_pair(out, at, site.width, site.height);
+    put_half(out, at + 2, site.goal);
+    put_pair(out, at + 4, site.q, 1);
+}
+
+fn put_back(out: &mut [u8], at: usize, count: usize)
+    requires { ⌜ (at + 10 ≤ length (now out)) × (count ≤ 4096) ⌝ }
+    ensures { λ _. ⌜ now (out .exit) ≡ put at (half count ++ (word (16 + 6 * count) ++ (80 ∷ 68 ∷ 76 ∷ 84 ∷ []))) (now (out .entry)) ⌝ }
+{
+    put_half(out, at, count);
+    put_word(out, at + 2, 16 + 6 * count);
+    put_pair(out, at + 6, 80, 68);
+    put_pair(out, at + 8, 76, 84);
+}
+
+// 1, 3, 4, 5, 16 and 17.
+fn judge_write(site: Site, floor: &[u8], table: &[u32], room: usize) -> Verdict
+    ensures { λ r. ⌜ r ≡ writeVerdict (floorAt site (now (floor .entry))) (site .q) (goalsAt site) (now (table .entry)) room ⌝ }
+{
+    let v = opening::open_table(
+        site.width,
+        site.height,
+        site.goal,
+        site.q,
+        floor,
+        table.len(),
+    );
+    let Verdict::Done = v else {
+        return v;
+    };
+    let v = checks::figures(table);
+    let Verdict::Done = v else {
+        return v;
+    };
+    let v = judge_unlike(site, floor, table);
+    let Verdict::Done = v else {
+        return v;
+    };
+    // Room for a record of every cell needs no count.
+    if 16 + 6 * table.len() <= room {
+        return Verdict::Done;
+    }
+    let count = count_changed(site, floor, table);
+    if room < 16 + 6 * count {
+        return checks::refuse(17);
+    }
+    Verdict::Done
+}
+
+// The writer: it fills the buffer from the first byte and answers the length. A refusal leaves the buffer as lent.
+pub fn write_table(
+    width: usize,
+    height: usize,
+    goal: usize,
+    q: usize,
+    floor: &[u8],
+    table: &[u32],
+    buffer: &mut [u8],
+) -> Written
+    ensures { λ r. ⌜ Writes (writeTable (flat width height (now (floor .entry))) q (goalsOf goal) (now (table .entry)) (now (buffer .entry))) r (now (buffer .exit)) ⌝ }
+{
+    let site = Site {
+        width: width,
+        height: height,
+        goal: goal,
+        q: q,
+    };
+    let v = judge_write(site, floor, table, buffer.len());
+    match v {
+        Verdict::Refused(r) => Written::Refused(r),
+        Verdict::Done => {
+            let n = put_records(site, floor, table, buffer);
+            put_job(buffer, 6 * n, site);
+            put_back(buffer, 6 * n + 6, n);
+            Written::Length(16 + 6 * n)
+        }
+    }
+}
