@@ -7,9 +7,9 @@ use crate::rooms::Moves;
 use crate::sheet;
 use crate::sheet::Sheet;
 use drawing::Page;
-use notation::wide8;
 use learner::Job;
 use learner::State;
+use notation::wide8;
 
 // One move: from the middle of a cell to the middle of the next.
 fn draw_move(page: &mut Page, at: usize, m: u8) -> usize {
