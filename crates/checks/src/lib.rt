@@ -10,15 +10,20 @@ use answers::Job;
 use answers::Place;
 use answers::Refusal;
 use answers::Verdict;
+use floor::CEILING;
+use floor::DEEPEST;
+use floor::FINEST;
+
+// The greatest quota; and the ceiling in the bits of a table's figure.
+const LARGEST_QUOTA: usize = 1000000;
+
+const HIGHEST: u32 = CEILING as u32;
 
 // A refusal by its number, which names no place; and one that names a place.
 pub fn refuse(number: usize) -> Verdict
     ensures { λ r. ⌜ r ≡ refuseAt number Place.Nowhere ⌝ }
 {
-    Verdict::Refused(Refusal {
-        number: number,
-        place: Place::Nowhere,
-    })
+    refuse_at(number, Place::Nowhere)
 }
 
 pub fn refuse_at(number: usize, place: Place) -> Verdict
@@ -72,7 +77,7 @@ pub fn settings(job: Job) -> Verdict
     if job.depth < 1 {
         return refuse(3);
     }
-    if 8 < job.depth {
+    if DEEPEST < job.depth {
         return refuse(3);
     }
     if job.p < 1 {
@@ -81,10 +86,10 @@ pub fn settings(job: Job) -> Verdict
     if job.q < job.p {
         return refuse(3);
     }
-    if 16 < job.q {
+    if FINEST < job.q {
         return refuse(3);
     }
-    if 1000000 < job.quota {
+    if LARGEST_QUOTA < job.quota {
         return refuse(3);
     }
     Verdict::Done
@@ -97,7 +102,7 @@ pub fn scale(q: usize) -> Verdict
     if q < 1 {
         return refuse(3);
     }
-    if 16 < q {
+    if FINEST < q {
         return refuse(3);
     }
     Verdict::Done
@@ -131,7 +136,7 @@ pub fn figures(table: &[u32]) -> Verdict
 {
     let mut x = 0;
     while x < table.len() {
-        if 917280 < table[x] {
+        if HIGHEST < table[x] {
             return refuse_at(5, Place::Cell(x));
         }
         x += 1;

@@ -6,7 +6,7 @@ use mathlib.Core.Bool.{Bool, true, false, _&&_}
 use mathlib.Core.List.{List, [], _++_}
 use native.Mathlib.Nat.{mul-le-mul, add-zero}
 use native.Mathlib.Omega.{arith}
-use borrow.Author.Tests.{eq-eqb, ne-eqb, eqb-true, le-leb, lt-leb}
+use borrow.Author.Tests.{eq-eqb, ne-eqb, eqb-true, eqb-false, le-leb, lt-leb}
 use lib.Dec.{ltb, eqb}
 use lib.ListN.{length, getD, take, drop, take-append-drop, replicate, length-replicate}
 use Rattle.answers.specs.declared.Job.{Job}
@@ -16,13 +16,14 @@ use Rattle.answers.specs.declared.Answer.the-variants as A
 use Rattle.answers.specs.declared.Verdict.the-variants as Vd
 use Rattle.answers.specs.declared.Decided.{Decided}
 use Rattle.answers.specs.Says.{saysAnswer}
-use Rattle.model.specs.Floor.{size, free}
+use Rattle.model.specs.Basics.{member}
+use Rattle.model.specs.Floor.{size, free, goalsOf}
 use Rattle.model.specs.Checks.{ceiling, floorOf}
 use Rattle.model.specs.Lookahead.{seen, ring, w, emptyRing, target}
 use Rattle.model.specs.Decision.{Deed, Outcome, atGoal, judge, refused, unchanged, rise, stored, forward, backOut, stay, goBack, learn, act, outcomeOf, decide, laid}
 use Rattle.model.proofs.Accepted.{never}
 use Rattle.model.proofs.Moves.{sized-cells, free-below, free-few}
-use Rattle.model.proofs.Held.{at-goal}
+use Rattle.model.proofs.Held.{or-false, at-goal}
 use Rattle.model.proofs.Meaning.{window-inside, nine-not}
 use Rattle.model.proofs.Cases.{act-arrived, act-blind, act-learns, learn-over, learn-forward, learn-back, back-stays, back-lost, back-goes, decide-refused, decide-acts}
 use Rattle.lookahead.specs.declared.Ahead.{Ahead}
@@ -81,6 +82,15 @@ module _ {j : Job} {bytes : List ℕ} {s : State} {table path : List ℕ} {moves
 
   pub quota-low : j .q * j .quota ≤ 16000000
   quota-low = mul-le-mul (r .settings .fine) (r .settings .within)
+
+-- a cell is a goal just where it is the job's
+pub goal-here : (goal x : ℕ) → member x (goalsOf goal) ≡ true → x ≡ goal
+unfolding member
+goal-here goal x e = eqb-true x goal (sym (or-false (eqb x goal)) ∙ e)
+
+pub goal-away : (goal x : ℕ) → member x (goalsOf goal) ≡ false → x ≡ goal → ⊥
+unfolding member
+goal-away goal x e = eqb-false x goal (sym (or-false (eqb x goal)) ∙ e)
 
 -- such a cell is not at the goal
 aside : {j : Job} {bytes : List ℕ} {s : ℕ} → Asked j bytes s → atGoal j bytes s ≡ false

@@ -18,7 +18,7 @@ use Rattle.model.specs.Checks.{ceiling, floorOf, goals, sizes, pathRoom, settin
 use Rattle.model.specs.Decision.{movesRoom, stateHolds, judge}
 use Rattle.model.proofs.Accepted.{not-refused, then-done, sizes-judges, path-judges, settings-judges, places-judges, figures-accepted}
 use Rattle.model.proofs.Held.{Held, held-judges, moves-judges, sound-room}
-use Rattle.decision.specs.Ready.{Places, Ready, Judged}
+use Rattle.decision.specs.Ready.{leastRoom, Places, Ready, Judged}
 use Rattle.decision.specs.Inner.{listsFit, Checked}
 
 then-assoc : (a b c : Verdict) → then (then a b) c ≡ then a (then b c)
@@ -31,7 +31,7 @@ pub record Fits (j : Job) (bytes : List ℕ) (figures places room from : ℕ) : 
   pub sized : Sized (floorOf j bytes)
   pub figures-are : figures ≡ size (floorOf j bytes)
   pub path : size (floorOf j bytes) ≤ places
-  pub moves : from + 288 ≤ room
+  pub moves : from + leastRoom ≤ room
 
 pub fits : (j : Job) (bytes : List ℕ) (figures places room from : ℕ) → listsFit j bytes figures places room from ≡ Vd.Done → Fits j bytes figures places room from
 unfolding listsFit

@@ -11,8 +11,10 @@ use lib.Seq.{drop-cons, drop-drop, set-at, drop-append-le, length-take-le, getD-
 use Rattle.answers.specs.declared.Job.{Job}
 use Rattle.model.specs.Basics.{choose}
 use Rattle.model.specs.Floor.{opposite}
+use Rattle.model.specs.Lookahead.{mostMoves}
 use Rattle.model.specs.Decision.{stored, laid}
 use Rattle.lookahead.specs.Contract.{movesTo, Traced}
+use Rattle.decision.specs.Ready.{leastRoom}
 use Rattle.decision.specs.Inner.{Lays, wayBack}
 
 -- ---- the figure
@@ -42,12 +44,12 @@ laid-in moves way part from n d p e h l =
     rest = drop from moves
 
 -- the part that a decision lends on
-pub part-long : (moves : List ℕ) (from : ℕ) → from + 288 ≤ length moves → 288 ≤ length (take (from + 288 - from) (drop from moves))
-part-long moves from h = omega (arith, length-take-le (from + 288 - from) (drop from moves) (omega (arith, length-drop from moves)))
+pub part-long : (moves : List ℕ) (from : ℕ) → from + leastRoom ≤ length moves → leastRoom ≤ length (take (from + leastRoom - from) (drop from moves))
+part-long moves from h = omega (arith, length-take-le (from + leastRoom - from) (drop from moves) (omega (arith, length-drop from moves)))
 
 -- the route as it is traced into the part
 pub lays : {j : Job} {bytes : List ℕ} {s x n : ℕ} {part : List ℕ} (moves : List ℕ) (from d : ℕ) → Traced j bytes s x (take d (drop from moves)) part n
-    → from + d ≤ length moves → 11 ≤ d → Lays moves from (movesTo j bytes s x) (take from moves ++ (part ++ drop d (drop from moves))) n
+    → from + d ≤ length moves → mostMoves ≤ d → Lays moves from (movesTo j bytes s x) (take from moves ++ (part ++ drop d (drop from moves))) n
 lays {j} {bytes} {s} {x} {n} {part} moves from d t h l =
     record { count = t .count; moves = laid-in moves (movesTo j bytes s x) part from n d (t .written) (t .count) h (omega (arith, t .few)) }
 
@@ -62,7 +64,7 @@ module _ {j : Job} {bytes : List ℕ} {l x n : ℕ} {out there : List ℕ} (t : 
 
   -- the route as it is turned round into the part
   pub lays-back : (moves part : List ℕ) (from d : ℕ) → part ≡ map opposite (reverse (take n there)) ++ drop n (take d (drop from moves))
-      → from + d ≤ length moves → 11 ≤ d → Lays moves from (wayBack j bytes l x) (take from moves ++ (part ++ drop d (drop from moves))) n
+      → from + d ≤ length moves → mostMoves ≤ d → Lays moves from (wayBack j bytes l x) (take from moves ++ (part ++ drop d (drop from moves))) n
   lays-back moves part from d p h m =
       let way : take n there ≡ movesTo j bytes l x = ap (take n) (t .written) ∙ take-at (movesTo j bytes l x) (drop n out) n (sym (t .count)) in
       let count : n ≡ length (wayBack j bytes l x) =

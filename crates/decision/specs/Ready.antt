@@ -18,6 +18,10 @@ use Rattle.model.proofs.Held.{Fair}
 use Rattle.lookahead.specs.Contract.{Fresh}
 use Rattle.decision.specs.declared.Acted.{Acted}
 
+-- how many places a decision needs for its moves
+abbrev pub leastRoom : ℕ
+leastRoom = 288
+
 -- The place of each of the path's first n cells is noted under the cell's number, so no cell stands there twice.
 pub record Places (place path : List ℕ) (n : ℕ) : Type 0 where
   pub size : length place ≡ 4096
@@ -31,7 +35,7 @@ pub record Ready (j : Job) (bytes : List ℕ) (s : State) (table path : List ℕ
   pub figures : length table ≡ size (floorOf j bytes)
   pub low : (x : ℕ) → getD table x 0 ≤ ceiling
   pub wide : size (floorOf j bytes) ≤ length path
-  pub room : from + 288 ≤ moves
+  pub room : from + leastRoom ≤ moves
   pub here : free (floorOf j bytes) (s .current) ≡ true
   pub bench : free (floorOf j bytes) (j .goal) ≡ true
   pub within : s .learned ≤ j .q * j .quota

@@ -4,12 +4,14 @@ ghost use mathlib.Core.List.{List, _++_, map, reverse};
 ghost use Prim.Native.Nat.{ℕ, _+_, _-_, _<_, _≤_};
 ghost use lib.ListN.{length, getD, take, drop};
 ghost use Rattle.model.specs.Floor.{opposite};
-ghost use Rattle.model.specs.Lookahead.{seen};
+ghost use Rattle.model.specs.Checks.{deepest};
+ghost use Rattle.model.specs.Lookahead.{seen, highestNew};
 ghost use Rattle.model.specs.Decision as model;
 ghost use Rattle.lookahead.specs.Contract.{Asked, Used, Near, Seen};
-ghost use Rattle.decision.specs.Ready.{Ready, Acts};
+ghost use Rattle.decision.specs.Ready.{leastRoom, Ready, Acts};
 ghost use Rattle.decision.specs.Inner.{Lays, wayBack};
 use super::Acted;
+use super::LEAST_ROOM;
 use answers::Answer;
 use answers::Job;
 use answers::State;
@@ -48,12 +50,12 @@ fn lay_back(
     from: usize,
 ) -> usize
     requires { ⌜ Asked job (now floor) l ⌝ ∗ ⌜ Seen job (now floor) l base (now mark) (now cost) ⌝ ∗ ⌜ Near job (now floor) l x ⌝
-        ∗ ⌜ from + 288 ≤ length (now moves) ⌝ }
+        ∗ ⌜ from + leastRoom ≤ length (now moves) ⌝ }
     ensures { λ r. ⌜ Lays (now (moves .entry)) from (wayBack job (now (floor .entry)) l x) (now (moves .exit)) r ⌝ }
 {
-    let mut there = [0u8; 288];
+    let mut there = [0u8; LEAST_ROOM];
     let n = lookahead::trace(job, floor, l, base, mark, cost, x, &mut there);
-    let end = from + 288;
+    let end = from + LEAST_ROOM;
     turn(&there, n, &mut moves[from..end]);
     n
 }
@@ -75,7 +77,7 @@ fn back_to(
     cost: &[u16],
 ) -> Acted
     requires { ⌜ Asked job (now floor) l ⌝ ∗ ⌜ Seen job (now floor) l base (now mark) (now cost) ⌝ ∗ ⌜ last ≡ seen job (now floor) l .last ⌝
-        ∗ ⌜ (last ≤ 8) × (1 ≤ state .length) × (state .current < length (now table)) × (length (now table) ≤ 4096) × (from + 288 ≤ length (now moves)) × (figure ≤ 919072) × (rise ≡ figure - getD (now table) (state .current) 0) ⌝ }
+        ∗ ⌜ (last ≤ deepest) × (1 ≤ state .length) × (state .current < length (now table)) × (length (now table) ≤ 4096) × (from + leastRoom ≤ length (now moves)) × (figure ≤ highestNew) × (rise ≡ figure - getD (now table) (state .current) 0) ⌝ }
     ensures { λ r. ⌜ ((path : List ℕ) → l ≡ getD path (state .length - 1) 0 → Acts (model.goBack job (now (floor .entry)) state (now (table .entry)) path figure)
         (now (moves .entry)) from r (now (table .exit)) path (now (moves .exit))) ⌝ }
     ensures { λ r. ⌜ (r .base ≡ base) × (r .state .length ≤ state .length) ⌝ }
@@ -121,7 +123,7 @@ pub(crate) fn go_back(
     list: &mut [u16],
 ) -> Acted
     requires { ⌜ Ready job (now floor) state (now table) (now path) (length (now moves)) from ⌝ ∗ ⌜ Used base (now mark) (now cost) (now list) ⌝
-        ∗ ⌜ (figure ≤ 919072) × (rise ≡ figure - getD (now table) (state .current) 0) ⌝ }
+        ∗ ⌜ (figure ≤ highestNew) × (rise ≡ figure - getD (now table) (state .current) 0) ⌝ }
     ensures { λ r. ⌜ Acts (model.goBack job (now (floor .entry)) state (now (table .entry)) (now (path .entry)) figure)
         (now (moves .entry)) from r (now (table .exit)) (now (path .entry)) (now (moves .exit)) ⌝ }
     ensures { λ r. ⌜ Used (r .base) (now (mark .exit)) (now (cost .exit)) (now (list .exit)) × (r .state .length ≤ state .length) ⌝ }

@@ -33,7 +33,7 @@ fn stands(job: Job, floor: &[u8], current: usize, path: &[u16], i: usize, place:
     if !floor::is_free(job.width, job.height, floor, c) {
         return false;
     }
-    if c == job.goal {
+    if floor::is_goal(job.goal, c) {
         return false;
     }
     if c == current {

@@ -23,6 +23,9 @@ use answers::Verdict;
 use floor::CEILING;
 use lookahead::Around;
 
+// How many places a decision needs for its moves.
+const LEAST_ROOM: usize = 288;
+
 // What a decision past the checks comes to: its answer, the state after it, its rise, what its moves cost, and the next lookahead's base.
 pub struct Acted {
     pub answer: Answer,
@@ -36,10 +39,10 @@ pub struct Acted {
 fn moves_room(room: usize, from: usize) -> Verdict
     ensures { λ r. ⌜ r ≡ model.movesRoom room from ⌝ }
 {
-    if room < 288 {
+    if room < LEAST_ROOM {
         return checks::refuse(2);
     }
-    if room - 288 < from {
+    if room - LEAST_ROOM < from {
         return checks::refuse(2);
     }
     Verdict::Done
@@ -264,7 +267,7 @@ pub fn act(
         (now (moves .entry)) from r (now (table .exit)) (now (path .exit)) (now (moves .exit)) ⌝ }
     ensures { λ r. ⌜ Serves r (now (mark .exit)) (now (cost .exit)) (now (list .exit)) (now (place .exit)) (now (path .exit)) ⌝ }
 {
-    if state.current == job.goal {
+    if floor::is_goal(job.goal, state.current) {
         return Acted {
             answer: Answer::Arrived,
             state: state,

@@ -2,20 +2,21 @@
 ghost use mathlib.Core.Path.{_≡_};
 ghost use Prim.Native.Nat.{_+_, _-_, _<_, _≤_};
 ghost use lib.ListN.{length, getD};
-ghost use Rattle.model.specs.Lookahead.{seen};
+ghost use Rattle.model.specs.Lookahead.{seen, highestNew};
 ghost use Rattle.model.specs.Decision as model;
 ghost use Rattle.lookahead.specs.Contract.{Asked, Near, Seen, Aimed, movesTo};
-ghost use Rattle.decision.specs.Ready.{Ready, Places, Acts};
+ghost use Rattle.decision.specs.Ready.{leastRoom, Ready, Places, Acts};
 ghost use Rattle.decision.specs.Inner.{Open, Extended, Lays};
 use super::Acted;
+use super::LEAST_ROOM;
 use answers::Answer;
 use answers::Job;
 use answers::State;
 use lookahead::Ahead;
 
-// The new figure is stored where it is greater than the cell's. It is at most 919,072: the ceiling, and 16 × 112 for the way there.
+// The new figure is stored where it is greater than the cell's. It is at most the ceiling and what the way there adds.
 pub(crate) fn store(table: &mut [u32], cell: usize, figure: usize)
-    requires { ⌜ (cell < length (now table)) × (figure ≤ 919072) ⌝ }
+    requires { ⌜ (cell < length (now table)) × (figure ≤ highestNew) ⌝ }
     ensures { λ _. ⌜ now (table .exit) ≡ model.stored (now (table .entry)) cell figure ⌝ }
 {
     if figure <= notation::wide32(table[cell]) {
@@ -50,10 +51,10 @@ fn lay(
     from: usize,
 ) -> usize
     requires { ⌜ Asked job (now floor) s ⌝ ∗ ⌜ Seen job (now floor) s base (now mark) (now cost) ⌝ ∗ ⌜ Near job (now floor) s x ⌝
-        ∗ ⌜ from + 288 ≤ length (now moves) ⌝ }
+        ∗ ⌜ from + leastRoom ≤ length (now moves) ⌝ }
     ensures { λ r. ⌜ Lays (now (moves .entry)) from (movesTo job (now (floor .entry)) s x) (now (moves .exit)) r ⌝ }
 {
-    let end = from + 288;
+    let end = from + LEAST_ROOM;
     lookahead::trace(job, floor, s, base, mark, cost, x, &mut moves[from..end])
 }
 

@@ -9,7 +9,7 @@ use borrow.Author.Tests.{lt-ltb, eq-eqb, eqb-true}
 use lib.Dec.{eqb, ltb}
 use lib.ListN.{getD}
 use Rattle.model.specs.Basics.{choose}
-use Rattle.model.specs.Floor.{Floor, Sized, size, column, row, free, clear, price, ahead, allowed, east, south}
+use Rattle.model.specs.Floor.{Floor, Sized, size, column, row, free, straight, diagonal, clear, price, ahead, allowed, east, south}
 use Rattle.model.specs.Grounds.{clear-true}
 use Rattle.model.proofs.Cells.{cells-le, row-lt, cell-at}
 use Rattle.model.proofs.Moves.{all8, toll, Inside, both, both-of, free-below, ahead-lt, allowed-inside, allowed-free, allowed-true, price-ahead}
@@ -24,8 +24,8 @@ east-by = all8 (λ m. cond (eqb (m % 4) 0) 1 (cond (ltb m 4) 2 0) ≡ east m) re
 pub south-by : (m : ℕ) → m < 8 → cond (eqb (m % 4) 2) 1 (cond (ltb m 2) 0 (cond (ltb m 6) 2 0)) ≡ south m
 south-by = all8 (λ m. cond (eqb (m % 4) 2) 1 (cond (ltb m 2) 0 (cond (ltb m 6) 2 0)) ≡ south m) refl refl refl refl refl refl refl refl
 
-pub toll-by : (m : ℕ) → m < 8 → cond (eqb (m % 2) 0) 10 14 ≡ toll m
-toll-by = all8 (λ m. cond (eqb (m % 2) 0) 10 14 ≡ toll m) refl refl refl refl refl refl refl refl
+pub toll-by : (m : ℕ) → m < 8 → cond (eqb (m % 2) 0) straight diagonal ≡ toll m
+toll-by = all8 (λ m. cond (eqb (m % 2) 0) straight diagonal ≡ toll m) refl refl refl refl refl refl refl refl
 
 -- the cell at a column and row, moved by so many columns and rows
 moved : (w x y e s : ℕ) → 1 ≤ x + e → 1 ≤ y + s → (y + s - 1) * w + (x + e - 1) + (w + 1) ≡ y * w + x + s * w + e

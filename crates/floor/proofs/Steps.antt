@@ -5,7 +5,7 @@ use mathlib.Core.Bool.{Bool, true, false}
 use Prim.Native.Nat.{ℕ, _≤_, _<_}
 use native.Mathlib.Omega.{arith}
 use Rattle.model.specs.Basics.{choose}
-use Rattle.model.specs.Floor.{Floor, Sized, free, price, ahead, allowed, heading, opposite}
+use Rattle.model.specs.Floor.{Floor, Sized, free, leastPrice, dearestPrice, price, ahead, allowed, heading, opposite}
 use Rattle.model.specs.Grounds.{price-low, price-high}
 use Rattle.model.proofs.Moves.{allowed-some, allowed-free, free-few, opposite-ahead, opposite-allowed, opposite-lt, price-move, heading-is}
 use Rattle.floor.specs.declared.Step.the-variants.{To, Wall}
@@ -26,8 +26,8 @@ pub record Stepped (f : Floor) (x m d v : ℕ) : Type 0 where
   pub allowed : allowed f x m ≡ true
   pub cell : ahead f x m ≡ d
   pub price : price f x d ≡ v
-  pub least : 10 ≤ v
-  pub most : v ≤ 14
+  pub least : leastPrice ≤ v
+  pub most : v ≤ dearestPrice
   pub free : free f d ≡ true
   pub few : d < 4096
 

@@ -3,11 +3,12 @@ ghost use mathlib.Core.Path.{_≡_};
 ghost use mathlib.Core.Bool.{true};
 ghost use mathlib.Core.List.{List};
 ghost use Prim.Native.Nat.{ℕ, _<_, _≤_, _*_, min};
+ghost use Rattle.model.specs.Basics.{member};
+ghost use Rattle.model.specs.Checks.{finest};
 ghost use Rattle.model.specs.Floor.{Sized, free, apart, goalsOf};
 ghost use Rattle.model.specs.Floor as model;
 ghost use Rattle.model.proofs.Moves.{toll};
 ghost use Rattle.floor.specs.Moves.{flat, Inner, Spotted, Placed, Off, stepOf};
-ghost use Rattle.model.specs.Basics.{member};
 
 // What a move leads to: the cell moved into and what the move costs, or nothing that may be moved into.
 pub enum Step {
@@ -182,7 +183,7 @@ fn smaller(a: usize, b: usize) -> usize
 
 // The opening figure of a cell, which does not depend on the floor's bytes.
 pub fn opening(width: usize, height: usize, goal: usize, q: usize, cell: usize) -> usize
-    requires { ⌜ 1 ≤ width ⌝ ∗ ⌜ width ≤ 64 ⌝ ∗ ⌜ height ≤ 64 ⌝ ∗ ⌜ q ≤ 16 ⌝ ∗ ⌜ (cell < width * height) × (goal < width * height) ⌝ }
+    requires { ⌜ 1 ≤ width ⌝ ∗ ⌜ width ≤ 64 ⌝ ∗ ⌜ height ≤ 64 ⌝ ∗ ⌜ q ≤ finest ⌝ ∗ ⌜ (cell < width * height) × (goal < width * height) ⌝ }
     ensures { λ r. ⌜ ((bytes : List ℕ) → r ≡ model.opening (flat width height bytes) q (goalsOf goal) cell) ⌝ }
 {
     let dx = gap(cell % width, goal % width);

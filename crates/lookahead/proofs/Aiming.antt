@@ -13,23 +13,23 @@ use Rattle.learning.proofs.Unique.{ring-unique}
 use Rattle.learning.proofs.Found.{found}
 use Rattle.answers.specs.declared.Job.{Job}
 use Rattle.model.specs.Floor.{size}
-use Rattle.model.specs.Checks.{groundIn}
+use Rattle.model.specs.Checks.{deepest, groundIn}
 use Rattle.model.specs.Lookahead.{seen}
 use Rattle.model.proofs.Rings.{empty-full}
 use Rattle.lookahead.specs.Contract.{Asked, Near, Figures, Aimed}
 use Rattle.lookahead.specs.Contract as contract
 use Rattle.lookahead.specs.Marks.{In}
 use Rattle.lookahead.specs.Costs.{at, Listing}
-use Rattle.lookahead.specs.Bests.{ringAt, Scores, Bests, Topped}
+use Rattle.lookahead.specs.Bests.{mostRings, ringAt, unset, Scores, Bests, Topped}
 use Rattle.lookahead.proofs.Meaning.{start-on, not-goal, job-window, near-cell, near-few, near-leg, near-of, near-high, seen-window}
 use Rattle.lookahead.proofs.Weighing.{weighed, weighed-high}
 
 -- no cell is entered
-pub bests-none : (base : ℕ) (mark cost table : List ℕ) (p : ℕ) (list : List ℕ) → Bests base mark cost table p list 0 (replicate 9 4294967296)
+pub bests-none : (base : ℕ) (mark cost table : List ℕ) (p : ℕ) (list : List ℕ) → Bests base mark cost table p list 0 (replicate mostRings unset)
 bests-none base mark cost table p list = record {
-  size = length-replicate {A = ℕ} 9 4294967296;
+  size = length-replicate {A = ℕ} mostRings unset;
   low = λ i h. absurd (omega arith);
-  met = λ k l h. absurd (omega (arith, h, getD-replicate {A = ℕ} 9 k 4294967296 0 (omega arith)));
+  met = λ k l h. absurd (omega (arith, h, getD-replicate {A = ℕ} mostRings k unset 0 (omega arith)));
 }
 
 module _ (j : Job) (bytes : List ℕ) (s : ℕ) (Q : Asked j bytes s) (table : List ℕ) (T : Figures j bytes table)
@@ -78,7 +78,7 @@ module _ (j : Job) (bytes : List ℕ) (s : ℕ) (Q : Asked j bytes s) (table : L
       abbrev target : ℕ
       target = getD best last 0 % 4096
 
-      deep : last ≤ 8
+      deep : last ≤ deepest
       deep = omega (arith, W .depth, Q .deep)
 
       A : Ahead (j .p) last (ringAt base mark) (at cost) (figure table) (top / 4096) target

@@ -6,9 +6,7 @@ use Prim.Native.Nat.{ℕ, zero, suc}
 use native.Mathlib.Omega.{arith}
 use lib.ListN.{getD, replicate, length-replicate}
 use Rattle.answers.specs.declared.Job.{Job}
-use Rattle.lookahead.specs.declared.Around.{Around}
-use Rattle.lookahead.specs.declared.Around.the-variants as A
-use Rattle.lookahead.specs.Contract.{Marks, Fresh, Used, Window, Looked}
+use Rattle.lookahead.specs.Contract.{Marks, Fresh, Used, Window}
 
 zeros : (n i : ℕ) → _≡_ {A = ℕ} (getD (replicate n 0) i 0) 0
 zeros zero i = refl
@@ -23,10 +21,6 @@ marks-zeros n e = record { size = length-replicate {A = ℕ} n 0 ∙ e; room = o
 pub window-used : {j : Job} {bytes : List ℕ} {s base : ℕ} {mark cost list : List ℕ} {n last : ℕ}
     → Window j bytes s base mark cost list n last → Used base mark cost list
 window-used W = record { marks = W .view .spent; costs = W .view .size; cells = W .room }
-
-pub looked-used : (j : Job) (bytes : List ℕ) (s base : ℕ) (mark cost list : List ℕ) (a : Around) → Looked j bytes s base mark cost list a → Used base mark cost list
-looked-used j bytes s base mark cost list (A.Window last n) W = window-used W
-looked-used j bytes s base mark cost list A.Empty e = e .0
 
 -- with the marks renewed they can be lent again
 pub renewed : {base next : ℕ} {mark mark′ cost list : List ℕ} → Used base mark cost list → Marks next mark′ → Fresh next mark′ cost list

@@ -13,12 +13,12 @@ use lib.ListN.{length, getD, set, length-set}
 use lib.Seq.{getD-set-same, getD-set-other}
 use Rattle.learning.specs.Walk.{Walk, move, Leads}
 use Rattle.learning.proofs.Walks.{widen, restate}
-use Rattle.model.specs.Floor.{Floor, Sized, free, price}
+use Rattle.model.specs.Floor.{Floor, Sized, free, dearestPrice, price}
 use Rattle.model.specs.Grounds.{price-same}
 use Rattle.floor.specs.declared.Step.the-variants.{To, Wall}
 use Rattle.floor.specs.Moves.{stepOf}
 use Rattle.floor.proofs.Steps.{Stepped, stepped, wall≢to, same-to}
-use Rattle.lookahead.specs.Marks.{net, State, state, entered, markOf, costAt, cellOf, noteOf, In, Sizes, Room, Spread, Kept, Grew, Reached, Extended, Left, Swept, Out}
+use Rattle.lookahead.specs.Marks.{net, State, state, entered, markOf, costAt, cellOf, noteAt, In, Sizes, Room, Spread, Kept, Grew, Reached, Extended, Left, Swept, Out}
 use Rattle.lookahead.proofs.Blanks.{blanks-pos, blanks-set}
 use Rattle.lookahead.proofs.Stores.{by-store}
 
@@ -116,9 +116,9 @@ module _
       grown-kept : Kept base S (grown k d u S)
       grown-kept = record { marks = marks-kept; costs = λ x p. omega (arith, costs-kept x p); cells = cells-kept; grows = omega arith }
 
-      grown-cheap : (x : ℕ) → In base mark′ x → costAt (grown k d u S) x ≤ 14 * (getD mark′ x 0 - base)
+      grown-cheap : (x : ℕ) → In base mark′ x → costAt (grown k d u S) x ≤ dearestPrice * (getD mark′ x 0 - base)
       grown-cheap x =
-          by-store (λ y. base ≤ y → costAt (grown k d u S) x ≤ 14 * (y - base)) (S .mark) d (k + 1) x inside
+          by-store (λ y. base ≤ y → costAt (grown k d u S) x ≤ dearestPrice * (y - base)) (S .mark) d (k + 1) x inside
           (λ e p. rw (e, cost-new) (omega (arith, E .most, R .cheap c from-in, own, from, pos)))
           (λ n p. rw (costs-kept x p) (R .cheap x p))
 
@@ -127,10 +127,10 @@ module _
 
       -- the new cell's moves were not followed; those of the others lead where they led
       grown-notes : (i : ℕ) → i < S .n + 1 → (j x y : ℕ) → j < 8 → stepOf f (cellOf (grown k d u S) i) j ≡ To x y
-          → (noteOf (grown k d u S) i ≡ 65535) ⊎ (In base mark′ x × (costAt (grown k d u S) x ≤ noteOf (grown k d u S) i + y))
+          → (noteAt (grown k d u S .list) i ≡ 65535) ⊎ (In base mark′ x × (costAt (grown k d u S) x ≤ noteAt (grown k d u S .list) i + y))
       grown-notes i l j x y lj e = by (decLt i (S .n))
         where
-          by : Dec (i < S .n) → (noteOf (grown k d u S) i ≡ 65535) ⊎ (In base mark′ x × (costAt (grown k d u S) x ≤ noteOf (grown k d u S) i + y))
+          by : Dec (i < S .n) → (noteAt (grown k d u S .list) i ≡ 65535) ⊎ (In base mark′ x × (costAt (grown k d u S) x ≤ noteAt (grown k d u S .list) i + y))
           by (yes p) =
               rw (entered-note (S .list) (S .n) d (R .sizes .cells) space i p)
               (⊎-elim inl (λ q. inr (stays-in x (q .0), omega (arith, q .1, costs-kept x (q .0))))
@@ -317,7 +317,7 @@ module _ (f : Floor) (base k c w i : ℕ) (A B : State) (L : Left f base k c 8 w
   cells j p = getD-set-other (B .list) (i + 4096) j w 0 (λ e. omega (arith, short))
 
   noted-notes : (j : ℕ) → j < B .n → (m d v : ℕ) → m < 8 → stepOf f (cellOf N j) m ≡ To d v
-      → (noteOf N j ≡ 65535) ⊎ (In base (B .mark) d × (costAt B d ≤ noteOf N j + v))
+      → (noteAt (N .list) j ≡ 65535) ⊎ (In base (B .mark) d × (costAt B d ≤ noteAt (N .list) j + v))
   noted-notes j p m d v lm e =
       let s = subst (λ y. stepOf f y m ≡ To d v) (cells j p) e in
       by-store (λ y. (y ≡ 65535) ⊎ (In base (B .mark) d × (costAt B d ≤ y + v))) (B .list) (i + 4096) w (j + 4096) (omega (arith, R .sizes .cells, short))

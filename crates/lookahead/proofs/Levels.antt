@@ -12,10 +12,11 @@ use lib.Seq.{getD-set-same}
 use Rattle.learning.specs.Walk.{Walk, stop, move, Any}
 use Rattle.learning.proofs.Walks.{restate}
 use Rattle.model.specs.Floor.{Floor, Sized, free, price}
+use Rattle.model.specs.Checks.{deepest}
 use Rattle.floor.specs.declared.Step.the-variants.{To}
 use Rattle.floor.specs.Moves.{stepOf}
 use Rattle.floor.proofs.Steps.{price-step}
-use Rattle.lookahead.specs.Contract.{Fresh}
+use Rattle.lookahead.specs.Contract.{lastBase, Fresh}
 use Rattle.lookahead.specs.Marks.{net, State, begun, markOf, costAt, cellOf, In, Sizes, Room, Spread, Kept, Swept, Segment}
 use Rattle.lookahead.specs.Rings.{Done, Level, Full, Marked, Framed, Blocked}
 use Rattle.lookahead.proofs.Blanks.{blanks-set, blanks-all}
@@ -87,7 +88,7 @@ module _ (f : Floor) (s base : ℕ) (mark cost list : List ℕ) (on : free f s �
 
 -- the ring that is marked last is left next
 module _ (f : Floor) (z : Sized f) (s base k from : ℕ) (S : State) (L : Level f s base k from S) where
-  pub level-segment : base ≤ k → k ≤ base + 7 → base ≤ 4294967279 → Segment base from (S .n) k S
+  pub level-segment : base ≤ k → k < base + deepest → base ≤ lastBase → Segment base from (S .n) k S
   level-segment p q r =
       record { order = L .spread .upto; end = refl; ring = record { first = p; last = q; room = r }; marked = λ j a b. L .spread .late j b a }
 

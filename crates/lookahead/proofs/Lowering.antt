@@ -12,14 +12,15 @@ use lib.ListN.{length, getD, set, length-set}
 use lib.Seq.{getD-set-same, getD-set-other}
 use Rattle.learning.specs.Walk.{Walk, stop, move, Least, Leads}
 use Rattle.learning.proofs.Walks.{restate, first-in}
-use Rattle.model.specs.Floor.{Floor, Sized, price}
+use Rattle.model.specs.Floor.{Floor, Sized, leastPrice, price}
+use Rattle.model.specs.Lookahead.{dearestLeg}
 use Rattle.model.specs.Grounds.{price-same}
 use Rattle.floor.specs.declared.Step.the-variants.{To, Wall}
 use Rattle.floor.specs.Moves.{stepOf}
 use Rattle.model.proofs.Moves.{free-few}
 use Rattle.floor.proofs.Steps.{stepped, price-step, wall≢to, same-to}
-use Rattle.lookahead.specs.Marks.{net, In}
-use Rattle.lookahead.specs.Costs.{total, at, noteAt, Costs, Walked, Under, Followed, Eased, Easing, Lowered, Lower, Listing, Noted, Topmost, Again, Passed, Relaxed}
+use Rattle.lookahead.specs.Marks.{net, noteAt, In}
+use Rattle.lookahead.specs.Costs.{total, at, Costs, Walked, Under, Followed, Eased, Easing, Lowered, Lower, Listing, Noted, Topmost, Again, Passed, Relaxed}
 use Rattle.lookahead.proofs.Stores.{by-store, set-self}
 use Rattle.lookahead.proofs.Grow.{edge-back}
 
@@ -96,7 +97,7 @@ module _ (f : Floor) (base : ℕ) (mark : List ℕ) where
           marks = C .marks;
           costs = simp length-set (C .costs);
           free = C .free;
-          small = λ x. by-store (λ y. In base mark x → y ≤ 112) cost d u x inside (λ e i. omega (arith, C .small d to)) (λ n i. C .small x i);
+          small = λ x. by-store (λ y. In base mark x → y ≤ dearestLeg) cost d u x inside (λ e i. omega (arith, C .small d to)) (λ n i. C .small x i);
         };
         walked = λ s W x. by-store (λ y. In base mark x → Leads (net f) (In base mark) x s y) cost d u x inside
             (λ e i. let k = W c from in rw e (suc (k .0), restate (omega (arith, own)) refl (move to (edge-back f z c m d v step) (k .1)))) (λ n i. W x i);
@@ -147,9 +148,9 @@ module _ (f : Floor) (base : ℕ) (mark : List ℕ) where
     calm = λ z. rw e (omega (arith, own));
   }
 
-  -- where every cost is at most 10 above its own, following them lowers nothing
+  -- where every cost is at most the least price above its own, following them lowers nothing
   pub again-topped : Sized f → (i c w high : ℕ) (cost list : List ℕ) (b : Bool) → Costs f base mark cost → getD list i 0 ≡ c → at cost c ≡ w → Topmost base mark cost high
-      → high ≤ w + 10 → Again f base mark i cost list b cost (set list (i + 4096) w) b
+      → high ≤ w + leastPrice → Again f base mark i cost list b cost (set list (i + 4096) w) b
   again-topped z i c w high cost list b C e own top l = record {
     note = w;
     noted = refl;

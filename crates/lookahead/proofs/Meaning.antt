@@ -18,15 +18,15 @@ use Rattle.learning.proofs.Look.{walk-inside}
 use Rattle.learning.proofs.Same.{window-same}
 use Rattle.learning.proofs.Route.{leg-high}
 use Rattle.answers.specs.declared.Job.{Job}
-use Rattle.model.specs.Floor.{Floor, size, free}
+use Rattle.model.specs.Floor.{Floor, size, free, dearestPrice}
 use Rattle.model.specs.Grounds.{price-free, price-high}
-use Rattle.model.specs.Checks.{floorOf, groundIn}
-use Rattle.model.specs.Lookahead.{seen, ring, w, emptyRing}
+use Rattle.model.specs.Checks.{deepest, floorOf, groundIn}
+use Rattle.model.specs.Lookahead.{seen, ring, w, emptyRing, dearestLeg}
 use Rattle.model.proofs.Cells.{cells-le}
 use Rattle.model.proofs.Moves.{is-true, free-below}
 use Rattle.model.proofs.Rings.{empty-none, empty-of}
 use Rattle.model.proofs.Meaning.{goal-means}
-use Rattle.lookahead.specs.Contract.{Spent, Used, Asked, Near, Seen}
+use Rattle.lookahead.specs.Contract.{lastBase, Spent, Used, Asked, Near, Seen}
 use Rattle.lookahead.specs.Contract as contract
 use Rattle.lookahead.specs.Marks.{state, In}
 use Rattle.lookahead.specs.Rings.{Framed, Blocked}
@@ -80,10 +80,10 @@ module _ (j : Job) (bytes : List ℕ) (s : ℕ) (Q : Asked j bytes s) where
   unfolding ringOf lastOf
   near-free x h = free-inside x h
 
-  low-leg : (x : ℕ) → ringOf G d s x ≤ lastOf G d s → legOf G d s x ≤ 112
-  low-leg x h = omega (arith, leg-high job-window 14 (λ a b c e. omega (arith, e .1, price-high f a b)) x h, h, job-window .depth, Q .deep)
+  low-leg : (x : ℕ) → ringOf G d s x ≤ lastOf G d s → legOf G d s x ≤ dearestLeg
+  low-leg x h = omega (arith, leg-high job-window dearestPrice (λ a b c e. omega (arith, e .1, price-high f a b)) x h, h, job-window .depth, Q .deep)
 
-  pub near-leg : (x : ℕ) → Near j bytes s x → w j bytes (seen j bytes s) x ≤ 112
+  pub near-leg : (x : ℕ) → Near j bytes s x → w j bytes (seen j bytes s) x ≤ dearestLeg
   unfolding ringOf lastOf legOf
   near-leg x h = low-leg x h
 
@@ -143,7 +143,7 @@ module _ (j : Job) (bytes : List ℕ) (s : ℕ) (Q : Asked j bytes s) where
             (x .0, inside (x .0) (omega (arith, back (x .0) l, l)), back (x .0) l ∙ e)
 
   -- the window that `look` leaves
-  module _ (base last n : ℕ) (mark cost list : List ℕ) (F : Framed (floorOf j bytes) s (j .goal) (j .depth) base last (state mark cost list n)) (room : base ≤ 4294967279)
+  module _ (base last n : ℕ) (mark cost list : List ℕ) (F : Framed (floorOf j bytes) s (j .goal) (j .depth) base last (state mark cost list n)) (room : base ≤ lastBase)
       (cost′ list′ : List ℕ) (R : Relaxed (floorOf j bytes) base mark n cost cost′ list′)
     where
       W : Window (netOf G) (Goal G) d s last (ringAt base mark) (at cost′)
@@ -166,7 +166,7 @@ module _ (j : Job) (bytes : List ℕ) (s : ℕ) (Q : Asked j bytes s) where
       }
 
   -- number 9's case
-  module _ (base r n : ℕ) (mark cost list : List ℕ) (B : Blocked (floorOf j bytes) s (j .goal) (j .depth) base r (state mark cost list n)) (room : base ≤ 4294967279) where
+  module _ (base r n : ℕ) (mark cost list : List ℕ) (B : Blocked (floorOf j bytes) s (j .goal) (j .depth) base r (state mark cost list n)) (room : base ≤ lastBase) where
     goal-far : (y : ℕ) → Goal G y → ringOf G d s y ≡ lastOf G d s → lastOf G d s ≤ r → ⊥
     goal-far y g e h =
         let (c, v) = job-window .attained y (omega (arith, e)) in
@@ -211,7 +211,7 @@ module _ (j : Job) (bytes : List ℕ) (s : ℕ) (Q : Asked j bytes s) where
     pub seen-window : Window (netOf (groundIn j bytes)) (Goal (groundIn j bytes)) (j .depth) s (lastOf (groundIn j bytes) (j .depth) s) (ringAt base mark) (at cost)
     seen-window = window-same (ringAt base mark) (at cost) job-window agree far
 
-    -- a marked cell is in the window, and its mark is one of the rings 0 to 8
+    -- a marked cell is in the window, and its mark is a ring's up to the deepest
     pub near-of : (x : ℕ) → In base mark x → Near j bytes s x
     near-of x i = by (decLe (ring j bytes (seen j bytes s) x) (seen j bytes s .last))
       where
@@ -219,13 +219,13 @@ module _ (j : Job) (bytes : List ℕ) (s : ℕ) (Q : Asked j bytes s) where
         by (yes h) = h
         by (no h) = absurd (omega (arith, i, E .none x (omega (arith, h))))
 
-    low : (x : ℕ) → lastOf G d s < ringOf G d s x → getD mark x 0 ≤ base + 8
+    low : (x : ℕ) → lastOf G d s < ringOf G d s x → getD mark x 0 ≤ base + deepest
     unfolding ringOf lastOf
     low x h = omega (arith, E .none x h)
 
-    pub near-high : (x : ℕ) → getD mark x 0 ≤ base + 8
+    pub near-high : (x : ℕ) → getD mark x 0 ≤ base + deepest
     near-high x = by (decLe (ringOf G d s x) (lastOf G d s))
       where
-        by : Dec (ringOf G d s x ≤ lastOf G d s) → getD mark x 0 ≤ base + 8
+        by : Dec (ringOf G d s x ≤ lastOf G d s) → getD mark x 0 ≤ base + deepest
         by (yes h) = omega (arith, agree x h .0, h, job-window .depth, Q .deep)
         by (no h) = low x (omega (arith, h))

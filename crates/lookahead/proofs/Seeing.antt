@@ -12,6 +12,7 @@ use Rattle.learning.specs.Ahead.{Window}
 use Rattle.learning.specs.Ground.{Goal}
 use Rattle.learning.proofs.Walks.{restate, turn, widen, least-same}
 use Rattle.model.specs.Floor.{Floor, Sized, free, goalsOf}
+use Rattle.model.specs.Checks.{deepest}
 use Rattle.model.specs.Grounds.{groundOf}
 use Rattle.model.proofs.Moves.{free-below}
 use Rattle.model.proofs.Meaning.{goal-means, goal-is}
@@ -22,7 +23,7 @@ use Rattle.lookahead.specs.Bests.{ringAt}
 use Rattle.lookahead.proofs.Weighing.{ring-in, in-ring, ring-is}
 
 -- what the relaxation takes
-module _ (f : Floor) (s goal depth base last : ℕ) (S : State) (F : Framed f s goal depth base last S) (deep : depth ≤ 8) where
+module _ (f : Floor) (s goal depth base last : ℕ) (S : State) (F : Framed f s goal depth base last S) (deep : depth ≤ deepest) where
   pub framed-costs : Costs f base (S .mark) (S .cost)
   framed-costs =
       let R = F .marked .room in record {

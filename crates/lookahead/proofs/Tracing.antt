@@ -11,10 +11,10 @@ use Rattle.learning.specs.Ground.{Ground, viewOf, ringOf, lastOf, legOf}
 use Rattle.learning.specs.Route.{priorIn}
 use Rattle.learning.proofs.Routes.{prior-before, prior-is, route-none, route-more, route-chain}
 use Rattle.answers.specs.declared.Job.{Job}
-use Rattle.model.specs.Floor.{Floor, free, heading}
+use Rattle.model.specs.Floor.{Floor, free, leastPrice, heading}
 use Rattle.model.specs.Grounds.{price-low}
 use Rattle.model.specs.Checks.{floorOf, groundIn}
-use Rattle.model.specs.Lookahead.{movesAlong}
+use Rattle.model.specs.Lookahead.{movesAlong, mostMoves}
 use Rattle.model.proofs.Steps.{moves-more}
 use Rattle.lookahead.specs.declared.Link.{Link}
 use Rattle.lookahead.specs.Contract.{Asked, Near, Seen, movesTo, Traced}
@@ -66,13 +66,13 @@ module _ (j : Job) (bytes : List ℕ) (s : ℕ) (Q : Asked j bytes s) (base : �
   unfolding movesAlong
   moves-none = ap (movesAlong f s) (route-none G d s (Q .shallow) (start-on j bytes s Q) (not-goal j bytes s Q))
 
-  pub collects-none : (x : ℕ) (way : List ℕ) → Near j bytes s x → length way ≡ 11 → Collecting j bytes s cost x 11 x way
+  pub collects-none : (x : ℕ) (way : List ℕ) → Near j bytes s x → length way ≡ mostMoves → Collecting j bytes s cost x mostMoves x way
   collects-none x way h l = record {
     near = h;
     fits = omega arith;
     size = l;
     room = omega (arith, E .costs x h, near-leg j bytes s Q x h);
-    moves = sym (ap (λ r. movesTo j bytes s x ++ r) (drop-of-length-le way {i = 11} (omega (arith, l))) ∙ append-nil (movesTo j bytes s x));
+    moves = sym (ap (λ r. movesTo j bytes s x ++ r) (drop-of-length-le way {i = mostMoves} (omega (arith, l))) ∙ append-nil (movesTo j bytes s x));
     low = λ i p. rw (List·getD-eq-default way 0 {n = i} (omega (arith, l))) (omega arith);
   }
 
@@ -85,7 +85,7 @@ module _ (j : Job) (bytes : List ℕ) (s : ℕ) (Q : Asked j bytes s) (base : �
   }
 
   -- copied to the front, they are the route
-  pub traced : (x k n : ℕ) (way out out′ : List ℕ) → Collected j bytes s x way k → n ≡ 11 - k → out′ ≡ take n (drop k way) ++ drop n out → Traced j bytes s x out out′ n
+  pub traced : (x k n : ℕ) (way out out′ : List ℕ) → Collected j bytes s x way k → n ≡ mostMoves - k → out′ ≡ take n (drop k way) ++ drop n out → Traced j bytes s x out out′ n
   traced x k n way out out′ c e w =
       let count : n ≡ length (movesTo j bytes s x) = omega (arith, e, c .size, c .fits, ap length (c .moves), length-drop k way) in record {
         count = count;
@@ -99,7 +99,7 @@ module _ (j : Job) (bytes : List ℕ) (s : ℕ) (Q : Asked j bytes s) (base : �
     pub prior-near : Near j bytes s (b .cell)
     prior-near = near (b .cell) (P .from .before .inside)
 
-    pub prior-cheap : at cost (b .cell) + 10 ≤ at cost x
+    pub prior-cheap : at cost (b .cell) + leastPrice ≤ at cost x
     prior-cheap = omega (arith, P .from .before .exact, price-low f (b .cell) x (P .from .before .move))
 
     prior-same : priorIn G d s (viewOf G d s) x ≡ b .cell

@@ -12,14 +12,16 @@ use lib.Seq.{getD-set-same}
 use Rattle.learning.specs.Walk.{Least}
 use Rattle.learning.specs.Ahead.{Ahead, OnRing}
 use Rattle.learning.specs.Trial.{figure}
+use Rattle.model.specs.Checks.{deepest, finest}
+use Rattle.model.specs.Lookahead.{dearestLeg, highestNew}
 use Rattle.model.proofs.Cells.{col-at, row-at}
 use Rattle.lookahead.specs.Marks.{In}
 use Rattle.lookahead.specs.Costs.{Listing, at}
 use Rattle.lookahead.specs.Bests.{ringAt, value, key, unset, Scores, Bests, Topped}
 use Rattle.lookahead.proofs.Stores.{by-store}
 
--- a cell of a ring up to 8 is marked, and a marked cell is of such a ring
-pub ring-in : (base : ℕ) (mark : List ℕ) (x : ℕ) → ringAt base mark x ≤ 8 → In base mark x
+-- a cell of a ring up to the deepest is marked, and a marked cell is of such a ring
+pub ring-in : (base : ℕ) (mark : List ℕ) (x : ℕ) → ringAt base mark x ≤ deepest → In base mark x
 ring-in base mark x h = omega arith
 
 pub in-ring : (base : ℕ) (mark : List ℕ) (x m : ℕ) → In base mark x → getD mark x 0 ≤ base + m → ringAt base mark x ≤ m
@@ -51,14 +53,14 @@ module _ (base : ℕ) (mark cost table : List ℕ) (p : ℕ) where
   ring = ringAt base mark
 
   -- a value is small, and so is a key
-  pub value-lt : (x : ℕ) → Scores base mark cost table p → In base mark x → value cost table p x ≤ 919072
-  value-lt x S i = omega (arith, mul-le-mul {n₁ = p} {m₁ = getD cost x 0} {n₂ = 16} {m₂ = 112} (S .weight) (S .small x i .0), S .small x i .1)
+  pub value-lt : (x : ℕ) → Scores base mark cost table p → In base mark x → value cost table p x ≤ highestNew
+  value-lt x S i = omega (arith, mul-le-mul {n₁ = p} {m₁ = getD cost x 0} {n₂ = finest} {m₂ = dearestLeg} (S .weight) (S .small x i .0), S .small x i .1)
 
   pub key-lt : (x : ℕ) → Scores base mark cost table p → In base mark x → key cost table p x < unset
   key-lt x S i = omega (arith, value-lt x S i, S .inside x i .0)
 
   -- one cell more is entered
-  module _ (list : List ℕ) (i c : ℕ) (best : List ℕ) (e : getD list i 0 ≡ c) (near : ring c ≤ 8) (B : Bests base mark cost table p list i best) where
+  module _ (list : List ℕ) (i c : ℕ) (best : List ℕ) (e : getD list i 0 ≡ c) (near : ring c ≤ deepest) (B : Bests base mark cost table p list i best) where
     abbrev v : ℕ
     v = min (key cost table p c) (getD best (ring c) 0)
 
@@ -76,7 +78,7 @@ module _ (base : ℕ) (mark cost table : List ℕ) (p : ℕ) where
     new : getD best′ (ring (getD list i 0)) 0 ≤ key cost table p (getD list i 0)
     new = rw (e, getD-set-same best (ring c) v 0 room) (omega arith)
 
-    met′ : (k : ℕ) → k ≤ 8 → getD best′ k 0 < unset → (x : ℕ) × (ring x ≡ k) × (key cost table p x ≡ getD best′ k 0)
+    met′ : (k : ℕ) → k ≤ deepest → getD best′ k 0 < unset → (x : ℕ) × (ring x ≡ k) × (key cost table p x ≡ getD best′ k 0)
     met′ k l =
         by-store (λ y. y < unset → (x : ℕ) × (ring x ≡ k) × (key cost table p x ≡ y)) best (ring c) v k room
         (λ q h. by q h (decLe (key cost table p c) (getD best (ring c) 0))) (λ n h. B .met k l h)
@@ -94,7 +96,7 @@ module _ (base : ℕ) (mark cost table : List ℕ) (p : ℕ) where
   -- the keys of every ring 1 to m, of which none is empty
   module _
       (list : List ℕ) (n m : ℕ) (best : List ℕ) (S : Scores base mark cost table p) (L : Listing base mark list n) (B : Bests base mark cost table p list n best)
-      (few : m ≤ 8) (full : (k : ℕ) → k ≤ m → (x : ℕ) × (ring x ≡ k))
+      (few : m ≤ deepest) (full : (k : ℕ) → k ≤ m → (x : ℕ) × (ring x ≡ k))
     where
       low : (x : ℕ) → ring x ≤ m → getD best (ring x) 0 ≤ key cost table p x
       low x h =
@@ -159,7 +161,7 @@ module _ (base : ℕ) (mark cost table : List ℕ) (p : ℕ) where
           }
 
       -- the new figure is small
-      pub weighed-high : 1 ≤ m → (top : ℕ) → Topped best (m + 1) top → top / 4096 ≤ 919072
+      pub weighed-high : 1 ≤ m → (top : ℕ) → Topped best (m + 1) top → top / 4096 ≤ highestNew
       weighed-high some top T =
           let g = T .met (omega arith) in
           let h : g .0 ≤ m = omega (arith, g .2) in

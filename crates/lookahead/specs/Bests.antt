@@ -3,11 +3,17 @@ use mathlib.Core.Path.{_≡_}
 use mathlib.Core.List.{List}
 use Prim.Native.Nat.{ℕ, _+_, _-_, _*_, _≤_, _<_}
 use lib.ListN.{length, getD}
+use Rattle.model.specs.Checks.{deepest, finest, ceiling}
+use Rattle.model.specs.Lookahead.{dearestLeg, highestNew}
 use Rattle.lookahead.specs.Marks.{In}
 
--- the ring that a mark says, and at least 9 where there is none
+-- how many rings there are, 0 to the deepest
+abbrev pub mostRings : ℕ
+mostRings = deepest + 1
+
+-- the ring that a mark says, and past the deepest where there is none
 abbrev pub ringAt : ℕ → List ℕ → ℕ → ℕ
-ringAt base mark x = (getD mark x 0 - base) + 9 * (base - getD mark x 0)
+ringAt base mark x = (getD mark x 0 - base) + mostRings * (base - getD mark x 0)
 
 -- p × w + figure, and the key
 abbrev pub value : (cost table : List ℕ) → (p x : ℕ) → ℕ
@@ -18,22 +24,22 @@ key cost table p x = value cost table p x * 4096 + x
 
 -- more than any key
 abbrev pub unset : ℕ
-unset = 4294967296
+unset = (highestNew + 1) * 4096
 
--- the window's cells are marked by rings 0 to 8 and stand in the table, and their costs and figures are small
+-- the window's cells are marked by rings up to the deepest and stand in the table, and their costs and figures are small
 pub record Scores (base : ℕ) (mark cost table : List ℕ) (p : ℕ) : Type 0 where
-  pub weight : p ≤ 16
+  pub weight : p ≤ finest
   pub marks : length mark ≡ 4096
   pub costs : length cost ≡ 4096
   pub inside : (x : ℕ) → In base mark x → (x < 4096) × (x < length table)
-  pub top : (x : ℕ) → getD mark x 0 ≤ base + 8
-  pub small : (x : ℕ) → In base mark x → (getD cost x 0 ≤ 112) × (getD table x 0 ≤ 917280)
+  pub top : (x : ℕ) → getD mark x 0 ≤ base + deepest
+  pub small : (x : ℕ) → In base mark x → (getD cost x 0 ≤ dearestLeg) × (getD table x 0 ≤ ceiling)
 
 -- of the cells at the first i places of the list, the least key of each ring
 pub record Bests (base : ℕ) (mark cost table : List ℕ) (p : ℕ) (list : List ℕ) (i : ℕ) (best : List ℕ) : Type 0 where
-  pub size : length best ≡ 9
+  pub size : length best ≡ mostRings
   pub low : (j : ℕ) → j < i → getD best (ringAt base mark (getD list j 0)) 0 ≤ key cost table p (getD list j 0)
-  pub met : (k : ℕ) → k ≤ 8 → getD best k 0 < unset → (x : ℕ) × (ringAt base mark x ≡ k) × (key cost table p x ≡ getD best k 0)
+  pub met : (k : ℕ) → k ≤ deepest → getD best k 0 < unset → (x : ℕ) × (ringAt base mark x ≡ k) × (key cost table p x ≡ getD best k 0)
 
 -- the greatest of the entries 1 to k - 1
 pub record Topped (best : List ℕ) (k v : ℕ) : Type 0 where

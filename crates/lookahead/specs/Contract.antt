@@ -1,27 +1,34 @@
 -- What the lookahead takes and what it promises, over the model's own functions.
-use Prim.Native.Nat.{ℕ, _+_, _≤_, _<_}
+use Prim.Native.Nat.{ℕ, _+_, _-_, _*_, _≤_, _<_}
 use mathlib.Core.Path.{_≡_}
 use mathlib.Core.Bool.{true, false}
 use mathlib.Core.List.{List, _++_}
 use lib.ListN.{length, getD, drop}
 use Rattle.answers.specs.declared.Job.{Job}
 use Rattle.model.specs.Floor.{Sized, size, free}
-use Rattle.model.specs.Checks.{ceiling, floorOf}
-use Rattle.model.specs.Lookahead.{seen, ring, w, emptyRing, newFigure, target, route, movesAlong}
+use Rattle.model.specs.Checks.{deepest, finest, ceiling, floorOf}
+use Rattle.model.specs.Lookahead.{seen, ring, w, emptyRing, newFigure, target, route, movesAlong, mostMoves, highestNew}
 use Rattle.lookahead.specs.declared.Around.{Around}
 use Rattle.lookahead.specs.declared.Around.the-variants as A
 use Rattle.lookahead.specs.declared.Ahead.{Ahead}
 
+-- how far a lookahead's base is from the next one's: past its rings; and the last base that leaves the 32 bits of a mark room for one
+abbrev pub stride : ℕ
+stride = 2 * deepest
+
+abbrev pub lastBase : ℕ
+lastBase = 4294967295 - stride
+
 -- Marks as a lookahead takes them: all below the base, which leaves room for one; and as it leaves them.
 pub record Marks (base : ℕ) (mark : List ℕ) : Type 0 where
   pub size : length mark ≡ 4096
-  pub room : base ≤ 4294967279
+  pub room : base ≤ lastBase
   pub below : (x : ℕ) → getD mark x 0 < base
 
 pub record Spent (base : ℕ) (mark : List ℕ) : Type 0 where
   pub size : length mark ≡ 4096
-  pub room : base ≤ 4294967279
-  pub below : (x : ℕ) → getD mark x 0 < base + 16
+  pub room : base ≤ lastBase
+  pub below : (x : ℕ) → getD mark x 0 < base + stride
 
 -- The lent lists before a lookahead, and after. The list of cells has two places for each: the cell, and 4096 further on a cost.
 pub record Fresh (base : ℕ) (mark cost list : List ℕ) : Type 0 where
@@ -41,7 +48,7 @@ pub record Asked (j : Job) (bytes : List ℕ) (s : ℕ) : Type 0 where
   pub bench : free (floorOf j bytes) (j .goal) ≡ true
   pub apart : s ≡ j .goal → ⊥
   pub shallow : 1 ≤ j .depth
-  pub deep : j .depth ≤ 8
+  pub deep : j .depth ≤ deepest
 
 -- x is in the window around s.
 abbrev pub Near : Job → List ℕ → (s x : ℕ) → Type 0
@@ -74,7 +81,7 @@ Looked j bytes s base mark cost list A.Empty = Used base mark cost list × (empt
 
 -- The figures that a new one is worked out from.
 pub record Figures (j : Job) (bytes table : List ℕ) : Type 0 where
-  pub weight : j .p ≤ 16
+  pub weight : j .p ≤ finest
   pub size : length table ≡ size (floorOf j bytes)
   pub small : (x : ℕ) → getD table x 0 ≤ ceiling
 
@@ -84,7 +91,7 @@ pub record Aimed (j : Job) (bytes : List ℕ) (s : ℕ) (table : List ℕ) (a : 
   pub target : a .target ≡ target j bytes (seen j bytes s) table
   pub leg : a .leg ≡ w j bytes (seen j bytes s) (a .target)
   pub on-last : ring j bytes (seen j bytes s) (a .target) ≡ seen j bytes s .last
-  pub high : a .figure ≤ 919072
+  pub high : a .figure ≤ highestNew
 
 -- Point 5: the moves of the route from s to x, written at the front of the list.
 abbrev pub movesTo : Job → List ℕ → (s x : ℕ) → List ℕ
@@ -93,5 +100,5 @@ movesTo j bytes s x = movesAlong (floorOf j bytes) s (route j bytes s (seen j by
 pub record Traced (j : Job) (bytes : List ℕ) (s x : ℕ) (out out′ : List ℕ) (n : ℕ) : Type 0 where
   pub count : n ≡ length (movesTo j bytes s x)
   pub written : out′ ≡ movesTo j bytes s x ++ drop n out
-  pub few : n ≤ 11
+  pub few : n ≤ mostMoves
   pub moves : (i : ℕ) → getD (movesTo j bytes s x) i 0 < 8

@@ -7,10 +7,11 @@ use Prim.Native.Nat.{ℕ, _+_, _≤_, _<_}
 use lib.ListN.{length, getD, set}
 use Rattle.learning.specs.Walk.{Least, Leads}
 use Rattle.model.specs.Floor.{Floor, free}
+use Rattle.model.specs.Lookahead.{dearestLeg}
 use Rattle.floor.specs.declared.Spot.{Spot}
 use Rattle.floor.specs.declared.Step.the-variants.{To}
 use Rattle.floor.specs.Moves.{Placed, stepOf}
-use Rattle.lookahead.specs.Marks.{net, In}
+use Rattle.lookahead.specs.Marks.{net, noteAt, In}
 
 -- the sum of all costs, which falls with each that is lowered
 unfoldable pub total : List ℕ → ℕ
@@ -25,7 +26,7 @@ pub record Costs (f : Floor) (base : ℕ) (mark cost : List ℕ) : Type 0 where
   pub marks : length mark ≡ 4096
   pub costs : length cost ≡ 4096
   pub free : (x : ℕ) → In base mark x → free f x ≡ true
-  pub small : (x : ℕ) → In base mark x → at cost x ≤ 112
+  pub small : (x : ℕ) → In base mark x → at cost x ≤ dearestLeg
 
 -- each cost is that of a walk to s in the window
 abbrev pub Walked : Floor → (s base : ℕ) → (mark cost : List ℕ) → Type 0
@@ -71,10 +72,6 @@ pub record Listing (base : ℕ) (mark list : List ℕ) (n : ℕ) : Type 0 where
   pub fits : n ≤ 4096
   pub early : (i : ℕ) → i < n → In base mark (getD list i 0)
   pub listed : (x : ℕ) → In base mark x → (i : ℕ) × (i < n) × (getD list i 0 ≡ x)
-
--- the cost at which the moves of the list's i-th cell were followed last
-abbrev pub noteAt : List ℕ → ℕ → ℕ
-noteAt list i = getD list (i + 4096) 0
 
 -- followed at these costs, no cell's moves lower a cost
 abbrev pub Noted : Floor → ℕ → (mark list : List ℕ) → (n : ℕ) → (cost : List ℕ) → Type 0

@@ -9,11 +9,13 @@ use lib.Dec.{ltb}
 use lib.ListN.{length, getD, set}
 use Rattle.learning.specs.Walk.{Network, Walk, Leads}
 use Rattle.learning.specs.Ground.{netOf}
-use Rattle.model.specs.Floor.{Floor, free}
+use Rattle.model.specs.Floor.{Floor, free, dearestPrice}
+use Rattle.model.specs.Checks.{deepest}
 use Rattle.model.specs.Grounds.{groundOf}
 use Rattle.floor.specs.declared.Spot.{Spot}
 use Rattle.floor.specs.declared.Step.the-variants.{To}
 use Rattle.floor.specs.Moves.{Placed, stepOf}
+use Rattle.lookahead.specs.Contract.{lastBase}
 
 -- the moves of a floor
 abbrev pub net : Floor → Network
@@ -43,8 +45,8 @@ abbrev pub cellOf : State → ℕ → ℕ
 cellOf S i = getD (S .list) i 0
 
 -- the cost at which the moves of the list's i-th cell were followed, and 65535 before they were
-abbrev pub noteOf : State → ℕ → ℕ
-noteOf S i = getD (S .list) (i + 4096) 0
+abbrev pub noteAt : List ℕ → ℕ → ℕ
+noteAt list i = getD list (i + 4096) 0
 
 -- the cells of a window: those with a mark
 abbrev pub In : ℕ → List ℕ → ℕ → Type 0
@@ -57,14 +59,14 @@ pub record Sizes (base : ℕ) (S : State) : Type 0 where
   pub cells : length (S .list) ≡ 8192
   pub count : S .n + blanks base (S .mark) ≡ 4096
 
--- and the marked cells are free, at no more than 14 for each move of their ring; where a cell's moves were followed, they lead to marked cells,
+-- and the marked cells are free, at no more than the dearest price for each move of their ring; where a cell's moves were followed, they lead to marked cells,
 -- which cost no more than the move adds
 pub record Room (f : Floor) (base : ℕ) (S : State) : Type 0 where
   pub sizes : Sizes base S
   pub free : (x : ℕ) → In base (S .mark) x → free f x ≡ true
-  pub cheap : (x : ℕ) → In base (S .mark) x → costAt S x ≤ 14 * (markOf S x - base)
+  pub cheap : (x : ℕ) → In base (S .mark) x → costAt S x ≤ dearestPrice * (markOf S x - base)
   pub notes : (i : ℕ) → i < S .n → (m d v : ℕ) → m < 8 → stepOf f (cellOf S i) m ≡ To d v
-      → (noteOf S i ≡ 65535) ⊎ (In base (S .mark) d × (costAt S d ≤ noteOf S i + v))
+      → (noteAt (S .list) i ≡ 65535) ⊎ (In base (S .mark) d × (costAt S d ≤ noteAt (S .list) i + v))
 
 -- the cells of mark g are being found, and stand in the list from `to` on; a walk of its ring's moves leads
 -- from each marked cell to s, and its cost is that of a walk
@@ -104,11 +106,11 @@ pub record Grew (f : Floor) (base k : ℕ) (S S′ : State) : Type 0 where
   pub kept : Kept base S S′
   pub spread : (s to : ℕ) → Spread f s base (k + 1) to S → Spread f s base (k + 1) to S′
 
--- k is the mark of one of the rings 0 to 7
+-- k is the mark of a ring before the deepest
 pub record Ring (base k : ℕ) : Type 0 where
   pub first : base ≤ k
-  pub last : k ≤ base + 7
-  pub room : base ≤ 4294967279
+  pub last : k < base + deepest
+  pub room : base ≤ lastBase
 
 -- the cell c of mark k and cost w, where it stands
 pub record Leaving (f : Floor) (base c : ℕ) (at : Spot) (k w : ℕ) (S : State) : Type 0 where

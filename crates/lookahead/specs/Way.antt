@@ -4,7 +4,8 @@ use mathlib.Core.List.{List, _++_}
 use Prim.Native.Nat.{ℕ, _+_, _*_, _≤_, _<_}
 use lib.ListN.{length, getD, drop}
 use Rattle.answers.specs.declared.Job.{Job}
-use Rattle.model.specs.Floor.{Floor, price, heading}
+use Rattle.model.specs.Floor.{Floor, leastPrice, price, heading}
+use Rattle.model.specs.Lookahead.{mostMoves}
 use Rattle.floor.specs.declared.Step.the-variants.{To}
 use Rattle.floor.specs.Moves.{stepOf}
 use Rattle.lookahead.specs.Contract.{Near, movesTo}
@@ -37,15 +38,15 @@ pub record Prior (f : Floor) (base : ℕ) (mark cost : List ℕ) (x : ℕ) (b : 
 -- while the moves of the route from s to x are found: those from the cell on stand from place k on, and the cell's cost leaves room for the rest
 pub record Collecting (j : Job) (bytes : List ℕ) (s : ℕ) (cost : List ℕ) (x k cell : ℕ) (way : List ℕ) : Type 0 where
   pub near : Near j bytes s cell
-  pub fits : k ≤ 11
-  pub size : length way ≡ 11
-  pub room : at cost cell < 10 * k + 10
+  pub fits : k ≤ mostMoves
+  pub size : length way ≡ mostMoves
+  pub room : at cost cell < leastPrice * k + leastPrice
   pub moves : movesTo j bytes s x ≡ movesTo j bytes s cell ++ drop k way
   pub low : (i : ℕ) → k ≤ i → getD way i 0 < 8
 
--- the moves of the route from s to x, at the places from k on of a list of 11
+-- the moves of the route from s to x, at the places from k on of a list for the most moves
 pub record Collected (j : Job) (bytes : List ℕ) (s x : ℕ) (way : List ℕ) (k : ℕ) : Type 0 where
-  pub size : length way ≡ 11
-  pub fits : k ≤ 11
+  pub size : length way ≡ mostMoves
+  pub fits : k ≤ mostMoves
   pub moves : movesTo j bytes s x ≡ drop k way
   pub low : (i : ℕ) → k ≤ i → getD way i 0 < 8

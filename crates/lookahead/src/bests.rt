@@ -1,10 +1,11 @@
 // The best of each ring, as a key: p × w + figure, and below that the cell. The least key of a ring has its best, and of equal ones the lowest cell.
 ghost use mathlib.Core.Path.{_≡_};
-ghost use Prim.Native.Nat.{_<_, _≤_, _+_, min, max};
+ghost use Prim.Native.Nat.{_<_, _≤_, _+_, min};
 ghost use lib.ListN.{length, getD, set};
+ghost use Rattle.model.specs.Checks.{deepest};
 ghost use Rattle.lookahead.specs.Marks.{In};
 ghost use Rattle.lookahead.specs.Costs.{Listing};
-ghost use Rattle.lookahead.specs.Bests.{ringAt, key, Scores, Bests, Topped};
+ghost use Rattle.lookahead.specs.Bests.{mostRings, ringAt, key, Scores, Bests, Topped};
 
 // The key v is entered at ring k, if it is lower.
 fn enter(best: &mut [usize], k: usize, v: usize)
@@ -26,7 +27,7 @@ fn weigh(
     c: usize,
     best: &mut [usize],
 )
-    requires { ⌜ Scores base (now mark) (now cost) (now table) p ⌝ ∗ ⌜ In base (now mark) c ⌝ ∗ ⌜ length (now best) ≡ 9 ⌝ }
+    requires { ⌜ Scores base (now mark) (now cost) (now table) p ⌝ ∗ ⌜ In base (now mark) c ⌝ ∗ ⌜ length (now best) ≡ mostRings ⌝ }
     ensures { λ _. ⌜ now (best .exit) ≡ set (now (best .entry)) (ringAt base (now (mark .entry)) c)
         (min (key (now (cost .entry)) (now (table .entry)) p c) (getD (now (best .entry)) (ringAt base (now (mark .entry)) c) 0)) ⌝ }
 {
@@ -58,21 +59,15 @@ pub(crate) fn weigh_all(
     }
 }
 
-fn larger(a: usize, b: usize) -> usize
-    ensures { λ r. ⌜ r ≡ max a b ⌝ }
-{
-    if a < b { b } else { a }
-}
-
 // The greatest of the keys of rings 1 to last.
 pub(crate) fn greatest(best: &[usize], last: usize) -> usize
-    requires { ⌜ length (now best) ≡ 9 ⌝ ∗ ⌜ (1 ≤ last) × (last ≤ 8) ⌝ }
+    requires { ⌜ length (now best) ≡ mostRings ⌝ ∗ ⌜ (1 ≤ last) × (last ≤ deepest) ⌝ }
     ensures { λ r. ⌜ Topped (now (best .entry)) (last + 1) r ⌝ }
 {
     let mut top = 0;
     let mut k = 1;
     while k <= last {
-        top = larger(top, best[k]);
+        top = super::larger(top, best[k]);
         k += 1;
     }
     top

@@ -2,14 +2,18 @@
 // Only the moves of a cell whose cost fell since they were followed need to be followed again; the list says at which cost that was.
 ghost use mathlib.Core.Path.{_≡_};
 ghost use mathlib.Core.Bool.{false};
-ghost use Prim.Native.Nat.{ℕ, _<_, max};
+ghost use Prim.Native.Nat.{ℕ, _<_};
 ghost use lib.ListN.{length, getD};
 ghost use Rattle.model.specs.Floor.{Sized};
 ghost use Rattle.floor.specs.Moves.{flat};
-ghost use Rattle.lookahead.specs.Marks.{In};
-ghost use Rattle.lookahead.specs.Costs.{at, noteAt, Costs, Lower, Lowered, Cell, Eased, Easing, Followed, Listing, Noted, Topmost, Again, Passed, Relaxed};
+ghost use Rattle.lookahead.specs.Marks.{noteAt, In};
+ghost use Rattle.lookahead.specs.Costs.{at, Costs, Lower, Lowered, Cell, Eased, Easing, Followed, Listing, Noted, Topmost, Again, Passed, Relaxed};
+use floor::LEAST_PRICE;
 use floor::Spot;
 use floor::Step;
+
+// The least price in more bits.
+const LEAST: usize = LEAST_PRICE as usize;
 
 // The cell d gets the cost v if that is lower; whether a cost was lowered, here or before.
 fn lower(cost: &mut [u16], d: usize, v: u16, changed: bool) -> bool
@@ -82,7 +86,7 @@ fn ease_cell(
 }
 
 // The moves of the list's i-th cell are followed, if its cost fell since they were. Where no cost is above `high`, a move from a cell that costs
-// 10 less than that, or more, lowers none.
+// the least price less than that, or more, lowers none.
 fn ease_again(
     width: usize,
     height: usize,
@@ -92,7 +96,7 @@ fn ease_again(
     cost: &mut [u16],
     list: &mut [u16],
     i: usize,
-    high: u16,
+    high: usize,
     changed: bool,
 ) -> bool
     requires { ⌜ Sized (flat width height (now floor)) ⌝ ∗ ⌜ Costs (flat width height (now floor)) base (now mark) (now cost) ⌝
@@ -107,7 +111,7 @@ fn ease_again(
         return changed;
     }
     list[i + 4096] = w;
-    if high <= w + 10 {
+    if high <= notation::wide16(w) + LEAST {
         return changed;
     }
     ease_cell(width, height, floor, base, mark, cost, c, w, changed)
@@ -123,7 +127,7 @@ fn pass(
     cost: &mut [u16],
     list: &mut [u16],
     n: usize,
-    high: u16,
+    high: usize,
 ) -> bool
     requires { ⌜ Sized (flat width height (now floor)) ⌝ ∗ ⌜ Costs (flat width height (now floor)) base (now mark) (now cost) ⌝
         ∗ ⌜ Listing base (now mark) (now list) n ⌝ ∗ ⌜ Noted (flat width height (now floor)) base (now mark) (now list) n (now cost) ⌝
@@ -140,14 +144,8 @@ fn pass(
     any
 }
 
-fn larger(a: u16, b: u16) -> u16
-    ensures { λ r. ⌜ r ≡ max a b ⌝ }
-{
-    if a < b { b } else { a }
-}
-
 // The greatest cost of the window's n cells.
-fn highest(base: u32, mark: &[u32], cost: &[u16], list: &[u16], n: usize) -> u16
+fn highest(base: u32, mark: &[u32], cost: &[u16], list: &[u16], n: usize) -> usize
     requires { ⌜ Listing base (now mark) (now list) n ⌝ ∗ ⌜ (length (now cost) ≡ 4096) × ((x : ℕ) → In base (now mark) x → x < 4096) ⌝ }
     ensures { λ r. ⌜ Topmost base (now (mark .entry)) (now (cost .entry)) r ⌝ }
 {
@@ -155,7 +153,7 @@ fn highest(base: u32, mark: &[u32], cost: &[u16], list: &[u16], n: usize) -> u16
     let mut i = 0;
     while i < n {
         let c = notation::wide16(list[i]);
-        high = larger(high, cost[c]);
+        high = super::larger(high, notation::wide16(cost[c]));
         i += 1;
     }
     high

@@ -6,14 +6,36 @@ mod rings;
 mod route;
 
 ghost use mathlib.Core.Path.{_≡_};
-ghost use Prim.Native.Nat.{ℕ, _<_, _≤_};
+ghost use Prim.Native.Nat.{ℕ, _<_, _≤_, max};
 ghost use lib.Dec.{eqb};
 ghost use lib.ListN.{length, getD};
 ghost use Rattle.model.specs.Floor.{free};
-ghost use Rattle.model.specs.Checks.{floorOf};
+ghost use Rattle.model.specs.Checks.{deepest, floorOf};
 ghost use Rattle.model.specs.Lookahead as model;
 ghost use Rattle.lookahead.specs.Contract.{Marks, Spent, Fresh, Asked, Near, Seen, Window, Looked, Figures, Aimed, Traced};
 use answers::Job;
+use floor::CEILING;
+use floor::DEAREST_PRICE;
+use floor::DEEPEST;
+use floor::FINEST;
+use floor::LEAST_PRICE;
+
+// What a leg costs at most, how many moves its route has at most, and what a new figure comes to at most.
+pub const DEAREST_LEG: usize = DEAREST_PRICE as usize * DEEPEST;
+
+pub const MOST_MOVES: usize = DEAREST_LEG / LEAST_PRICE as usize;
+
+const HIGHEST_NEW: usize = CEILING + FINEST * DEAREST_LEG;
+
+// How many rings there are; and a ring's best before a cell is entered, which is more than any key.
+const MOST_RINGS: usize = DEEPEST + 1;
+
+const UNSET: usize = (HIGHEST_NEW + 1) * 4096;
+
+// How far a lookahead's base is from the next one's: past its rings; and the last base that leaves the 32 bits of a mark room for one.
+const STRIDE: u32 = 2 * DEEPEST as u32;
+
+const LAST_BASE: u32 = 4294967295 - STRIDE;
 
 // The window around a cell: its last ring and how many cells it has; or a ring up to the last is empty.
 pub enum Around {
@@ -34,6 +56,12 @@ pub struct Link {
     pub m: usize,
 }
 
+fn larger(a: usize, b: usize) -> usize
+    ensures { λ r. ⌜ r ≡ max a b ⌝ }
+{
+    if a < b { b } else { a }
+}
+
 // Every mark is cleared.
 fn clear(mark: &mut [u32])
     ensures { λ _. ⌜ length (now (mark .exit)) ≡ length (now (mark .entry)) ⌝ }
@@ -46,14 +74,13 @@ fn clear(mark: &mut [u32])
     }
 }
 
-// The next lookahead's base, 16 further on, since a lookahead's marks go up to base + 8. Where the 32 bits of a mark would run out, the marks are
-// cleared, and it starts again.
+// The next lookahead's base. Where the 32 bits of a mark would run out, the marks are cleared, and it starts again.
 pub fn renew(base: u32, mark: &mut [u32]) -> u32
     requires { ⌜ Spent base (now mark) ⌝ }
     ensures { λ r. ⌜ Marks r (now (mark .exit)) ⌝ }
 {
-    if base < 4294967264 {
-        return base + 16;
+    if base <= LAST_BASE - STRIDE {
+        return base + STRIDE;
     }
     clear(mark);
     1
@@ -103,13 +130,13 @@ pub fn on_last(
     last: usize,
     x: usize,
 ) -> bool
-    requires { ⌜ Seen job (now floor) s base (now mark) (now cost) ⌝ ∗ ⌜ last ≡ model.seen job (now floor) s .last ⌝ ∗ ⌜ last ≤ 8 ⌝ ∗ ⌜ x < 4096 ⌝ }
+    requires { ⌜ Seen job (now floor) s base (now mark) (now cost) ⌝ ∗ ⌜ last ≡ model.seen job (now floor) s .last ⌝ ∗ ⌜ last ≤ deepest ⌝ ∗ ⌜ x < 4096 ⌝ }
     ensures { λ r. ⌜ r ≡ eqb (model.ring job (now (floor .entry)) (model.seen job (now (floor .entry)) s) x) (model.seen job (now (floor .entry)) s .last) ⌝ }
 {
     notation::wide32(mark[x]) == notation::wide32(base) + last
 }
 
-// What the way to the cell x of the window costs: at most 112, 14 for each of 8 moves.
+// What the way to the cell x of the window costs: at most the dearest leg.
 pub fn leg(
     job: Job,
     floor: &[u8],
@@ -120,7 +147,7 @@ pub fn leg(
     x: usize,
 ) -> usize
     requires { ⌜ Asked job (now floor) s ⌝ ∗ ⌜ Seen job (now floor) s base (now mark) (now cost) ⌝ ∗ ⌜ Near job (now floor) s x ⌝ }
-    ensures { λ r. ⌜ (r ≡ model.w job (now (floor .entry)) (model.seen job (now (floor .entry)) s) x) × (r ≤ 112) ⌝ }
+    ensures { λ r. ⌜ (r ≡ model.w job (now (floor .entry)) (model.seen job (now (floor .entry)) s) x) × (r ≤ model.dearestLeg) ⌝ }
 {
     notation::wide16(cost[x])
 }
@@ -141,7 +168,7 @@ pub fn aim(
     requires { ⌜ Asked job (now floor) s ⌝ ∗ ⌜ Window job (now floor) s base (now mark) (now cost) (now list) n last ⌝ ∗ ⌜ Figures job (now floor) (now table) ⌝ }
     ensures { λ r. ⌜ Aimed job (now (floor .entry)) s (now (table .entry)) r ⌝ }
 {
-    let mut best = [4294967296usize; 9];
+    let mut best = [UNSET; MOST_RINGS];
     bests::weigh_all(table, job.p, base, mark, cost, list, n, &mut best);
     let top = bests::greatest(&best, last);
     let target = best[last] % 4096;
@@ -152,8 +179,8 @@ pub fn aim(
     }
 }
 
-// The moves of the route to the cell x of the window are written at the front of out; their number. A route costs at most 112 and each of its moves
-// 10 or more, so there are at most 11.
+// The moves of the route to the cell x of the window are written at the front of out; their number. A route costs at most the
+// dearest leg and each of its moves the least price or more.
 pub fn trace(
     job: Job,
     floor: &[u8],
@@ -164,12 +191,12 @@ pub fn trace(
     x: usize,
     out: &mut [u8],
 ) -> usize
-    requires { ⌜ Asked job (now floor) s ⌝ ∗ ⌜ Seen job (now floor) s base (now mark) (now cost) ⌝ ∗ ⌜ Near job (now floor) s x ⌝ ∗ ⌜ 11 ≤ length (now out) ⌝ }
+    requires { ⌜ Asked job (now floor) s ⌝ ∗ ⌜ Seen job (now floor) s base (now mark) (now cost) ⌝ ∗ ⌜ Near job (now floor) s x ⌝ ∗ ⌜ model.mostMoves ≤ length (now out) ⌝ }
     ensures { λ r. ⌜ Traced job (now (floor .entry)) s x (now (out .entry)) (now (out .exit)) r ⌝ }
 {
-    let mut way = [0u8; 11];
+    let mut way = [0u8; MOST_MOVES];
     let k = route::collect(job, floor, s, base, mark, cost, x, &mut way);
-    let n = 11 - k;
+    let n = MOST_MOVES - k;
     route::copy(&way, k, n, out);
     n
 }

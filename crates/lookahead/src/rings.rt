@@ -3,8 +3,10 @@
 ghost use mathlib.Core.Path.{_≡_};
 ghost use mathlib.Core.Bool.{true};
 ghost use Prim.Native.Nat.{_<_, _≤_};
-ghost use lib.ListN.{length};
+ghost use lib.Dec.{leb};
+ghost use lib.ListN.{length, getD};
 ghost use Rattle.model.specs.Floor.{Sized, free};
+ghost use Rattle.model.specs.Checks.{deepest};
 ghost use Rattle.floor.specs.Moves.{flat};
 ghost use Rattle.lookahead.specs.Contract.{Fresh};
 ghost use Rattle.lookahead.specs.Marks.{state, begun, Sizes, Room, Reached, Leaving, Extended, Open, Left, Segment, Swept};
@@ -155,6 +157,14 @@ fn begin(base: u32, mark: &mut [u32], cost: &mut [u16], list: &mut [u16], s: usi
     list[4096] = 65535;
 }
 
+// Whether the goal is in a ring that is marked.
+fn goal_marked(base: u32, mark: &[u32], goal: usize) -> bool
+    requires { ⌜ goal < length (now mark) ⌝ }
+    ensures { λ r. ⌜ r ≡ leb base (getD (now (mark .entry)) goal 0) ⌝ }
+{
+    base <= mark[goal]
+}
+
 // The rings around s are marked, up to the depth's or the goal's.
 pub(crate) fn rings(
     width: usize,
@@ -169,7 +179,7 @@ pub(crate) fn rings(
     list: &mut [u16],
 ) -> Around
     requires { ⌜ Sized (flat width height (now floor)) ⌝ ∗ ⌜ free (flat width height (now floor)) s ≡ true ⌝ ∗ ⌜ (goal < 4096) × (s ≡ goal → ⊥) ⌝
-        ∗ ⌜ (1 ≤ depth) × (depth ≤ 8) ⌝ ∗ ⌜ Fresh base (now mark) (now cost) (now list) ⌝ }
+        ∗ ⌜ (1 ≤ depth) × (depth ≤ deepest) ⌝ ∗ ⌜ Fresh base (now mark) (now cost) (now list) ⌝ }
     ensures { λ r. ⌜ Rings (flat width height (now (floor .entry))) s goal depth base (now (mark .exit)) (now (cost .exit)) (now (list .exit)) r ⌝ }
 {
     begin(base, mark, cost, list, s);
@@ -186,7 +196,7 @@ pub(crate) fn rings(
         }
         from = to;
         to = end;
-        if base <= mark[goal] {
+        if goal_marked(base, mark, goal) {
             return Around::Window { last: r, n: to };
         }
     }

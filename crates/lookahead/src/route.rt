@@ -4,12 +4,14 @@ ghost use Prim.Native.Nat.{ℕ, _<_, _≤_, _+_};
 ghost use mathlib.Core.List.{_++_};
 ghost use lib.ListN.{length, take, drop};
 ghost use Rattle.model.specs.Floor.{Sized};
+ghost use Rattle.model.specs.Lookahead.{mostMoves};
 ghost use Rattle.floor.specs.Moves.{flat};
 ghost use Rattle.lookahead.specs.Contract.{Asked, Near, Seen};
 ghost use Rattle.lookahead.specs.Marks.{In};
 ghost use Rattle.lookahead.specs.Costs.{Costs, Cell};
 ghost use Rattle.lookahead.specs.Way.{Before, Linked, Prior, Collected};
 use super::Link;
+use super::MOST_MOVES;
 use answers::Job;
 use floor::Spot;
 use floor::Step;
@@ -87,11 +89,11 @@ pub(crate) fn collect(
     x: usize,
     way: &mut [u8],
 ) -> usize
-    requires { ⌜ Asked job (now floor) s ⌝ ∗ ⌜ Seen job (now floor) s base (now mark) (now cost) ⌝ ∗ ⌜ Near job (now floor) s x ⌝ ∗ ⌜ length (now way) ≡ 11 ⌝ }
+    requires { ⌜ Asked job (now floor) s ⌝ ∗ ⌜ Seen job (now floor) s base (now mark) (now cost) ⌝ ∗ ⌜ Near job (now floor) s x ⌝ ∗ ⌜ length (now way) ≡ mostMoves ⌝ }
     ensures { λ r. ⌜ Collected job (now (floor .entry)) s x (now (way .exit)) r ⌝ }
 {
     let mut cell = x;
-    let mut k = 11;
+    let mut k = MOST_MOVES;
     while cell != s {
         let l = back(job.width, job.height, floor, base, mark, cost, cell);
         k -= 1;
@@ -103,7 +105,7 @@ pub(crate) fn collect(
 
 // The n moves from place k of way on are copied to the front of out.
 pub(crate) fn copy(way: &[u8], k: usize, n: usize, out: &mut [u8])
-    requires { ⌜ (k + n ≤ length (now way)) × (length (now way) ≤ 11) × (n ≤ length (now out)) ⌝ }
+    requires { ⌜ (k + n ≤ length (now way)) × (length (now way) ≤ mostMoves) × (n ≤ length (now out)) ⌝ }
     ensures { λ _. ⌜ now (out .exit) ≡ take n (drop k (now (way .entry))) ++ drop n (now (out .entry)) ⌝ }
 {
     let mut i = 0;

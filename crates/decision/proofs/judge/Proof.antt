@@ -7,28 +7,10 @@ use Rattle.decision.proofs.Judging.{fits, judged-refused, judged-checke
 use Rattle.decision.proofs.judge.Statement.{statement}
 use Rattle.decision.proofs.judge.Tie as tie
 
-lists-fit-requires : tie.Need-lists-fit-requires
-lists-fit-requires c κs = search needs
-
-enum-told : tie.Need-enum-told
-enum-told c = search needs
-
-enum-told-2 : tie.Need-enum-told-2
-enum-told-2 c = search needs
-
 returns : tie.Need-returns
 returns c =
     let a = c .enum-told2 .given .1 in
     judged-refused _ _ _ _ _ _ _ _ _ (then-stops _ (c .before .before .lists-fit .ensures) a) a
-
-settings-requires : tie.Need-settings-requires
-settings-requires c κs = search needs
-
-enum-told-3 : tie.Need-enum-told-3
-enum-told-3 c = search needs
-
-enum-told-4 : tie.Need-enum-told-4
-enum-told-4 c = search needs
 
 returns-2 : tie.Need-returns-2
 returns-2 c =
@@ -45,12 +27,6 @@ places-requires c κs =
     let at-lists-fit = at-told1 .before .before in
     fits _ _ _ _ _ _ (sym (at-lists-fit .lists-fit .ensures) ∙ at-told1 .enum-told .given .1) .sized
 
-enum-told-5 : tie.Need-enum-told-5
-enum-told-5 c = search needs
-
-enum-told-6 : tie.Need-enum-told-6
-enum-told-6 c = search needs
-
 returns-3 : tie.Need-returns-3
 returns-3 c =
     let at-places = c .before .before in
@@ -62,15 +38,6 @@ returns-3 c =
     let b = at-told2 .enum-told3 .given .1 in
     let d = c .enum-told6 .given .1 in
     judged-refused _ _ _ _ _ _ _ _ _ (then-goes _ (at-lists-fit .lists-fit .ensures) a (then-goes _ (at-settings .settings .ensures) b (then-stops _ (at-places .places .ensures) d))) d
-
-figures-requires : tie.Need-figures-requires
-figures-requires c κs = search needs
-
-enum-told-7 : tie.Need-enum-told-7
-enum-told-7 c = search needs
-
-enum-told-8 : tie.Need-enum-told-8
-enum-told-8 c = search needs
 
 returns-4 : tie.Need-returns-4
 returns-4 c =
@@ -91,16 +58,15 @@ returns-4 c =
 
 state-holds-requires : tie.Need-state-holds-requires
 state-holds-requires c κs =
-    let at-told2 = c .before .before .before .before .before .before .before in
+    let after-places = c .before .before .before .before .before .before in
+    let after-enum-told3 = after-places .before in
+    let at-told2 = after-enum-told3 in
     let at-settings = at-told2 .before .before in
     let at-told1 = at-settings .before in
     let at-lists-fit = at-told1 .before .before in
     let start = at-lists-fit .before .before .before .before .before in
     let f = fits _ _ _ _ _ _ (sym (at-lists-fit .lists-fit .ensures) ∙ at-told1 .enum-told .given .1) in
     (f .sized, (settings-judges _ .gives (sym (at-settings .settings .ensures) ∙ at-told2 .enum-told3 .given .1), (f .path, start .pre)))
-
-same-length : tie.Need-same-length
-same-length c = search needs
 
 returns-5 : tie.Need-returns-5
 returns-5 c =
@@ -126,22 +92,22 @@ pub judge-spec : {M : Type 1} → statement M
 judge-spec =
     tie.close
     (tie.spec
-    lists-fit-requires
-    enum-told
-    enum-told-2
+    (λ c κs. search needs)
+    (λ c. search needs)
+    (λ c. search needs)
     returns
-    settings-requires
-    enum-told-3
-    enum-told-4
+    (λ c κs. search needs)
+    (λ c. search needs)
+    (λ c. search needs)
     returns-2
     places-requires
-    enum-told-5
-    enum-told-6
+    (λ c. search needs)
+    (λ c. search needs)
     returns-3
-    figures-requires
-    enum-told-7
-    enum-told-8
+    (λ c κs. search needs)
+    (λ c. search needs)
+    (λ c. search needs)
     returns-4
     state-holds-requires
-    same-length
+    (λ c. search needs)
     returns-5)

@@ -24,29 +24,11 @@ mul-wide32 c =
 
 slice-read-wide32 : tie.Need-slice-read-wide32
 slice-read-wide32 c =
-    let start = c .before .before .before .before .before .before .before .before .before .before .before .before .before .before in
+    let after-slice-known7 = c .before .before .before .before .before .before in
+    let after-slice-known = after-slice-known7 .before .before .before .before .before .before in
+    let start-here = after-slice-known .before .before in
+    let start = start-here in
     current-in (start .pre .0)
-
-wide32-requires : tie.Need-wide32-requires
-wide32-requires c κs = search needs
-
-too-high-requires : tie.Need-too-high-requires
-too-high-requires c κs = search needs
-
-refuse-requires : tie.Need-refuse-requires
-refuse-requires c κs = search needs
-
-same-length : tie.Need-same-length
-same-length c = search needs
-
-same-length-2 : tie.Need-same-length-2
-same-length-2 c = search needs
-
-same-length-3 : tie.Need-same-length-3
-same-length-3 c = search needs
-
-same-length-4 : tie.Need-same-length-4
-same-length-4 c = search needs
 
 returns : tie.Need-returns
 returns c =
@@ -60,9 +42,6 @@ returns c =
       leaves-refused q (window-used (start .pre .1 .1 .0)) (start .pre .1 .1 .1),
     )
 
-rise-of-requires : tie.Need-rise-of-requires
-rise-of-requires c κs = search needs
-
 add-if2 : tie.Need-add-if2
 add-if2 c =
     let at-rise-of = c .before in
@@ -70,43 +49,35 @@ add-if2 c =
     let start = at-aim .before .before .before .before .before .before .before .before .before .before .before .before .before in
     record { fits = omega (arith, start .pre .0 .within, quota-low (start .pre .0), at-aim .aim .ensures .high, at-rise-of .rise-of .ensures) }
 
+-- from a place to one before it
+abbrev to-start : tie.After-rise-of → tie.Start
+to-start c =
+    let after-aim = c .before .before .before .before .before in
+    let after-slice-known6 = after-aim .before .before .before .before .before .before in
+    let after-shared-slice-known = after-slice-known6 .before .before .before .before .before .before in
+    after-shared-slice-known .before
+
 mul-if2 : tie.Need-mul-if2
 mul-if2 c =
-    let start = c .before .before .before .before .before .before .before .before .before .before .before .before .before .before .before .before .before .before .before .before in
+    let start-here = to-start (c .before .before) in
+    let start = start-here in
     record { fits = lt-of-le-of-lt (quota-low (start .pre .0)) (lit< tt) }
 
 forward-requires : tie.Need-forward-requires
 forward-requires c κs =
-    let at-rise-of = c .before .before .before .before .before .before .before .before .before in
+    let then2 = c .before .before .before .before .before .before in
+    let after-rise-of = then2 .before .before .before in
+    let at-rise-of = after-rise-of in
     let at-wide32 = at-rise-of .before .before .before in
     let at-aim = at-wide32 .before .before in
     let start = at-aim .before .before .before .before .before .before .before .before .before .before .before .before .before in
     (start .pre .0, (start .pre .1 .0, (start .pre .1 .1 .0 .view, (at-aim .aim .ensures, ((at-rise-of .rise-of .ensures ∙ ap (λ x. at-aim .aim .result .figure - x) (at-wide32 .wide32 .ensures .0)), start .pre .1 .1 .1)))))
 
-same-length-5 : tie.Need-same-length-5
-same-length-5 c = search needs
-
-same-length-6 : tie.Need-same-length-6
-same-length-6 c = search needs
-
-same-length-7 : tie.Need-same-length-7
-same-length-7 c = search needs
-
-same-length-8 : tie.Need-same-length-8
-same-length-8 c = search needs
-
-same-length-9 : tie.Need-same-length-9
-same-length-9 c = search needs
-
-same-length-10 : tie.Need-same-length-10
-same-length-10 c = search needs
-
-same-length-11 : tie.Need-same-length-11
-same-length-11 c = search needs
-
 returns-2 : tie.Need-returns-2
 returns-2 c =
-    let at-forward = c .before .before .before .before .before .before .before .before in
+    let after-path = c .before .before .before .before .before in
+    let after-forward = after-path .before .before .before in
+    let at-forward = after-forward in
     let at-if2 = at-forward .before .before .before .before .before .before .before in
     let at-rise-of = at-if2 .before .before .before in
     let at-if1 = at-rise-of .before in
@@ -122,33 +93,19 @@ returns-2 c =
 
 go-back-requires : tie.Need-go-back-requires
 go-back-requires c κs =
-    let at-rise-of = c .before .before .before .before .before .before .before .before .before in
+    let else2 = c .before .before .before .before .before .before in
+    let after-rise-of = else2 .before .before .before in
+    let at-rise-of = after-rise-of in
     let at-wide32 = at-rise-of .before .before .before in
     let at-aim = at-wide32 .before .before in
     let start = at-aim .before .before .before .before .before .before .before .before .before .before .before .before .before in
     (start .pre .0, (window-used (start .pre .1 .1 .0), (at-aim .aim .ensures .high, (at-rise-of .rise-of .ensures ∙ ap (λ x. at-aim .aim .result .figure - x) (at-wide32 .wide32 .ensures .0)))))
 
-same-length-12 : tie.Need-same-length-12
-same-length-12 c = search needs
-
-same-length-13 : tie.Need-same-length-13
-same-length-13 c = search needs
-
-same-length-14 : tie.Need-same-length-14
-same-length-14 c = search needs
-
-same-length-15 : tie.Need-same-length-15
-same-length-15 c = search needs
-
-same-length-16 : tie.Need-same-length-16
-same-length-16 c = search needs
-
-same-length-17 : tie.Need-same-length-17
-same-length-17 c = search needs
-
 returns-3 : tie.Need-returns-3
 returns-3 c =
-    let at-go-back = c .before .before .before .before .before .before .before .before .before .before in
+    let after-mark = c .before .before .before .before .before in
+    let after-go-back = after-mark .before .before .before .before .before in
+    let at-go-back = after-go-back in
     let at-if2 = at-go-back .before .before .before .before .before .before .before in
     let at-rise-of = at-if2 .before .before .before in
     let at-if1 = at-rise-of .before in
@@ -169,31 +126,31 @@ learn-spec =
     aim-requires
     mul-wide32
     slice-read-wide32
-    wide32-requires
-    too-high-requires
-    refuse-requires
-    same-length
-    same-length-2
-    same-length-3
-    same-length-4
+    (λ c κs. search needs)
+    (λ c κs. search needs)
+    (λ c κs. search needs)
+    (λ c. search needs)
+    (λ c. search needs)
+    (λ c. search needs)
+    (λ c. search needs)
     returns
-    rise-of-requires
+    (λ c κs. search needs)
     add-if2
     mul-if2
     forward-requires
-    same-length-5
-    same-length-6
-    same-length-7
-    same-length-8
-    same-length-9
-    same-length-10
-    same-length-11
+    (λ c. search needs)
+    (λ c. search needs)
+    (λ c. search needs)
+    (λ c. search needs)
+    (λ c. search needs)
+    (λ c. search needs)
+    (λ c. search needs)
     returns-2
     go-back-requires
-    same-length-12
-    same-length-13
-    same-length-14
-    same-length-15
-    same-length-16
-    same-length-17
+    (λ c. search needs)
+    (λ c. search needs)
+    (λ c. search needs)
+    (λ c. search needs)
+    (λ c. search needs)
+    (λ c. search needs)
     returns-3)

@@ -7,27 +7,9 @@ use Rattle.decision.specs.Inner.{listsFit}
 use Rattle.decision.proofs.lists_fit.Statement.{statement}
 use Rattle.decision.proofs.lists_fit.Tie as tie
 
-sizes-requires : tie.Need-sizes-requires
-sizes-requires c κs = search needs
-
-enum-told : tie.Need-enum-told
-enum-told c = search needs
-
-enum-told-2 : tie.Need-enum-told-2
-enum-told-2 c = search needs
-
 returns : tie.Need-returns
 unfolding listsFit
 returns c = then-stops _ (c .before .before .sizes .ensures) (c .enum-told2 .given .1)
-
-path-room-requires : tie.Need-path-room-requires
-path-room-requires c κs = search needs
-
-enum-told-3 : tie.Need-enum-told-3
-enum-told-3 c = search needs
-
-enum-told-4 : tie.Need-enum-told-4
-enum-told-4 c = search needs
 
 returns-2 : tie.Need-returns-2
 unfolding listsFit
@@ -38,9 +20,6 @@ returns-2 c =
     let a = at-told1 .enum-told .given .1 in
     then-goes _ (at-sizes .sizes .ensures) a
     (then-stops _ (at-path-room .path-room .ensures _ (sym (sizes-judges _ _ .gives (sym (at-sizes .sizes .ensures) ∙ a) .1))) (c .enum-told4 .given .1))
-
-moves-room-requires : tie.Need-moves-room-requires
-moves-room-requires c κs = search needs
 
 returns-3 : tie.Need-returns-3
 unfolding listsFit
@@ -58,13 +37,13 @@ pub lists-fit-spec : {M : Type 1} → statement M
 lists-fit-spec =
     tie.close
     (tie.spec
-    sizes-requires
-    enum-told
-    enum-told-2
+    (λ c κs. search needs)
+    (λ c. search needs)
+    (λ c. search needs)
     returns
-    path-room-requires
-    enum-told-3
-    enum-told-4
+    (λ c κs. search needs)
+    (λ c. search needs)
+    (λ c. search needs)
     returns-2
-    moves-room-requires
+    (λ c κs. search needs)
     returns-3)

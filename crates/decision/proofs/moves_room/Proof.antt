@@ -7,14 +7,8 @@ use Rattle.model.proofs.Held.{moves-judges}
 use Rattle.decision.proofs.moves_room.Statement.{statement}
 use Rattle.decision.proofs.moves_room.Tie as tie
 
-refuse-requires : tie.Need-refuse-requires
-refuse-requires c κs = search needs
-
 returns : tie.Need-returns
 returns c = c .refuse .ensures ∙ sym (moves-judges _ _ .refused (λ h. omega arith))
-
-refuse-requires-2 : tie.Need-refuse-requires-2
-refuse-requires-2 c κs = search needs
 
 returns-2 : tie.Need-returns-2
 returns-2 c = c .refuse2 .ensures ∙ sym (moves-judges _ _ .refused (λ h. omega arith))
@@ -24,4 +18,4 @@ returns-3 c = sym (moves-judges _ _ .done (omega arith))
 
 pub moves-room-spec : {M : Type 1} → statement M
 moves-room-spec =
-    tie.close (tie.spec refuse-requires returns refuse-requires-2 returns-2 returns-3)
+    tie.close (tie.spec (λ c κs. search needs) returns (λ c κs. search needs) returns-2 returns-3)

@@ -4,7 +4,8 @@ use Prim.Native.Nat.{ℕ, _+_, _-_, _*_, _/_, _%_, _<_, min}
 use native.Mathlib.Omega.{arith}
 use native.Mathlib.Nat.{mod-lt, mul-le-mul}
 use borrow.Author.Needs.{needs}
-use Rattle.model.specs.Floor.{octile, opening}
+use Rattle.model.specs.Checks.{finest}
+use Rattle.model.specs.Floor.{straight, diagonal, octile, opening}
 use Rattle.model.proofs.Cells.{row-lt}
 use Rattle.model.proofs.OpeningSound.{gap-lt}
 use Rattle.floor.proofs.opening.Statement.{statement}
@@ -75,7 +76,8 @@ add-result c = omega (arith, smaller-lt (c .before), gap3-lt c)
 mul-result-3 : tie.Need-mul-result-3
 mul-result-3 c =
     let a = c .before .before .before .before .args in
-    omega (arith, mul-le-mul {n₁ = a .q} {m₁ = 14 * c .before .smaller .result + 10 * c .gap3 .result} {n₂ = 16} {m₂ = 2000} (search needs) (omega (arith, smaller-lt (c .before), gap3-lt c)))
+    let figure = diagonal * c .before .smaller .result + straight * c .gap3 .result in
+    omega (arith, mul-le-mul {n₁ = a .q} {m₁ = figure} {n₂ = finest} {m₂ = 64 * (diagonal + straight)} (search needs) (omega (arith, smaller-lt (c .before), gap3-lt c)))
 
 returns : tie.Need-returns
 unfolding opening octile

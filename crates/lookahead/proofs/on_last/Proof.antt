@@ -35,21 +35,6 @@ module _ (j : Job) (bytes : List ℕ) (s base : ℕ) (mark cost : List ℕ) (E :
   to-mark : ring j bytes (seen j bytes s) x ≡ seen j bytes s .last → getD mark x 0 ≡ base + last
   to-mark e = omega (arith, E .marks x (omega (arith, e)), e, l)
 
-mul-wide32 : tie.Need-mul-wide32
-mul-wide32 c = search needs
-
-shared-slice-read-wide32 : tie.Need-shared-slice-read-wide32
-shared-slice-read-wide32 c = search needs
-
-wide32-requires : tie.Need-wide32-requires
-wide32-requires c κs = search needs
-
-wide32-requires-2 : tie.Need-wide32-requires-2
-wide32-requires-2 c κs = search needs
-
-add-result : tie.Need-add-result
-add-result c = search needs
-
 returns : tie.Need-returns
 returns c =
     let a = c .before .before .before .before .before .before in
@@ -63,9 +48,9 @@ pub on-last-spec : {M : Type 1} → statement M
 on-last-spec =
     tie.close
     (tie.spec
-    mul-wide32
-    shared-slice-read-wide32
-    wide32-requires
-    wide32-requires-2
-    add-result
+    (λ c. search needs)
+    (λ c. search needs)
+    (λ c κs. search needs)
+    (λ c κs. search needs)
+    (λ c. search needs)
     returns)

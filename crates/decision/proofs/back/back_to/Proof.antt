@@ -9,12 +9,6 @@ use Rattle.decision.proofs.Acting.{last-near, acts-lost, acts-returns}
 use Rattle.decision.proofs.back.back_to.Statement.{statement}
 use Rattle.decision.proofs.back.back_to.Tie as tie
 
-on-last-requires : tie.Need-on-last-requires
-on-last-requires c κs = search needs
-
-refuse-requires : tie.Need-refuse-requires
-refuse-requires c κs = search needs
-
 returns : tie.Need-returns
 returns c =
     let at-if1 = c .before in
@@ -41,19 +35,19 @@ leg-requires c κs =
 
 store-requires : tie.Need-store-requires
 store-requires c κs =
-    let start = c .before .before .before .before .before .before .before .before .before .before .before .before .before in
+    let else1 = c .before .before .before .before .before .before in
+    let after-shared-slice-known = else1 .before .before .before .before .before .before in
+    let start-here = after-shared-slice-known .before in
+    let start = start-here in
     (start .pre .1 .1 .1 .2, start .pre .1 .1 .1 .5)
 
 sub-t25 : tie.Need-sub-t25
 sub-t25 c =
-    let start = c .before .before .before .before .before .before .before .before .before .before .before .before .before .before .before .before .before in
+    let after-leg = c .before .before .before .before .before in
+    let after-on-last = after-leg .before .before .before .before .before .before in
+    let start-here = after-on-last .before .before .before .before .before .before in
+    let start = start-here in
     omega (arith, start .pre .1 .1 .1 .1)
-
-same-length : tie.Need-same-length
-same-length c = search needs
-
-same-length-2 : tie.Need-same-length-2
-same-length-2 c = search needs
 
 returns-2 : tie.Need-returns-2
 returns-2 c =
@@ -72,13 +66,13 @@ pub back-to-spec : {M : Type 1} → statement M
 back-to-spec =
     tie.close
     (tie.spec
-    on-last-requires
-    refuse-requires
+    (λ c κs. search needs)
+    (λ c κs. search needs)
     returns
     lay-back-requires
     leg-requires
     store-requires
     sub-t25
-    same-length
-    same-length-2
+    (λ c. search needs)
+    (λ c. search needs)
     returns-2)

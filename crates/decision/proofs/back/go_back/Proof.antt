@@ -11,11 +11,10 @@ use Rattle.decision.proofs.back.go_back.Tie as tie
 
 store-requires : tie.Need-store-requires
 store-requires c κs =
-    let start = c .before .before .before .before .before .before .before .before .before in
+    let after-shared-slice-known2 = c .before .before .before .before .before .before in
+    let start-here = after-shared-slice-known2 .before .before .before in
+    let start = start-here in
     (current-in (start .pre .0), start .pre .1 .1 .0)
-
-same-length : tie.Need-same-length
-same-length c = search needs
 
 returns : tie.Need-returns
 returns c =
@@ -24,30 +23,12 @@ returns c =
     let start = at-if1 .before .before .before .before .before .before .before .before in
     (acts-stays _ _ _ _ _ _ _ _ _ (start .pre .1 .1 .1) _ (at-store .store .ensures) _ (at-if1 .if1 .taken), (start .pre .1 .0, omega arith))
 
-sub-wide16 : tie.Need-sub-wide16
-sub-wide16 c = search needs
-
-mul-wide16 : tie.Need-mul-wide16
-mul-wide16 c = search needs
-
-shared-slice-read-wide16 : tie.Need-shared-slice-read-wide16
-shared-slice-read-wide16 c = search needs
-
-wide16-requires : tie.Need-wide16-requires
-wide16-requires c κs = search needs
-
-renew-requires : tie.Need-renew-requires
-renew-requires c κs = search needs
-
 look-requires : tie.Need-look-requires
 look-requires c κs =
     let at-renew = c .before .before .before .before .before in
     let at-wide16 = at-renew .before .before in
     let start = at-wide16 .before .before .before .before .before .before .before .before .before .before in
     (asked-last (start .pre .0) (at-wide16 .wide16 .ensures .0) (omega arith), renewed (start .pre .1 .0) (at-renew .renew .ensures))
-
-enum-known-last : tie.Need-enum-known-last
-enum-known-last c = search needs
 
 back-to-requires : tie.Need-back-to-requires
 back-to-requires c κs =
@@ -59,29 +40,15 @@ back-to-requires c κs =
     let v = looked-window _ _ _ _ _ _ _ (at-look .look .ensures) (at-last .last .given .1) in
     (asked-last (start .pre .0) (at-wide16 .wide16 .ensures .0) (omega arith), (v .view, (v .last-is, (omega (arith, v .depth, r .settings .shallow), omega arith, current-in r, table-short r, r .room, start .pre .1 .1 .0, start .pre .1 .1 .1))))
 
-enum-told : tie.Need-enum-told
-enum-told c = search needs
-
-refuse-requires : tie.Need-refuse-requires
-refuse-requires c κs = search needs
-
-same-length-2 : tie.Need-same-length-2
-same-length-2 c = search needs
-
-same-length-3 : tie.Need-same-length-3
-same-length-3 c = search needs
-
 same-length-4 : tie.Need-same-length-4
 same-length-4 c =
-    let at-mark2 = c .before .before .before .before .before .before .before .before .before .before .before .before .before .before .before .before .before in
+    let after-back-to = c .before .before .before .before in
+    let after-last = after-back-to .before .before .before .before .before .before in
+    let after-cost = after-last .before .before .before .before .before in
+    let after-mark2 = after-cost .before .before in
+    let at-mark2 = after-mark2 in
     let at-mark = at-mark2 .before .before .before .before .before .before in
     at-mark2 .mark2 .given ∙ at-mark .mark .given
-
-same-length-5 : tie.Need-same-length-5
-same-length-5 c = search needs
-
-same-length-6 : tie.Need-same-length-6
-same-length-6 c = search needs
 
 returns-2 : tie.Need-returns-2
 returns-2 c =
@@ -91,15 +58,6 @@ returns-2 c =
     let at-wide16 = at-look .before .before .before .before .before .before .before .before in
     let v = looked-window _ _ _ _ _ _ _ (at-look .look .ensures) (at-last .last .given .1) in
     (at-back-to .back-to .ensures .0 _ (at-wide16 .wide16 .ensures .0), (used-at (at-back-to .back-to .ensures .1 .0) (window-used v), at-back-to .back-to .ensures .1 .1))
-
-same-length-7 : tie.Need-same-length-7
-same-length-7 c = search needs
-
-same-length-8 : tie.Need-same-length-8
-same-length-8 c = search needs
-
-same-length-9 : tie.Need-same-length-9
-same-length-9 c = search needs
 
 returns-3 : tie.Need-returns-3
 returns-3 c =
@@ -118,25 +76,25 @@ go-back-spec =
     tie.close
     (tie.spec
     store-requires
-    same-length
+    (λ c. search needs)
     returns
-    sub-wide16
-    mul-wide16
-    shared-slice-read-wide16
-    wide16-requires
-    renew-requires
+    (λ c. search needs)
+    (λ c. search needs)
+    (λ c. search needs)
+    (λ c κs. search needs)
+    (λ c κs. search needs)
     look-requires
-    enum-known-last
+    (λ c. search needs)
     back-to-requires
-    enum-told
-    refuse-requires
-    same-length-2
-    same-length-3
+    (λ c. search needs)
+    (λ c κs. search needs)
+    (λ c. search needs)
+    (λ c. search needs)
     same-length-4
-    same-length-5
-    same-length-6
+    (λ c. search needs)
+    (λ c. search needs)
     returns-2
-    same-length-7
-    same-length-8
-    same-length-9
+    (λ c. search needs)
+    (λ c. search needs)
+    (λ c. search needs)
     returns-3)

@@ -4,31 +4,14 @@ use Prim.Native.Nat.{_+_, _-_}
 use native.Mathlib.Omega.{arith}
 use borrow.Author.Needs.{needs}
 use Rattle.decision.proofs.Laying.{part-long, traced-moves, lays-back}
+use Rattle.decision.specs.Ready.{leastRoom}
 use Rattle.decision.proofs.back.lay_back.Statement.{statement}
 use Rattle.decision.proofs.back.lay_back.Tie as tie
-
-slice-aggregate-trace : tie.Need-slice-aggregate-trace
-slice-aggregate-trace c = search needs
 
 trace-requires : tie.Need-trace-requires
 trace-requires c κs =
     let start = c .before .before .before .before .before in
     (start .pre .0, (start .pre .1 .0, (start .pre .1 .1 .0, omega arith)))
-
-add-end : tie.Need-add-end
-add-end c = search needs
-
-slice-aggregate-turn : tie.Need-slice-aggregate-turn
-slice-aggregate-turn c = search needs
-
-sub-turn : tie.Need-sub-turn
-sub-turn c = search needs
-
-part-turn-start : tie.Need-part-turn-start
-part-turn-start c = search needs
-
-part-turn-end : tie.Need-part-turn-end
-part-turn-end c = search needs
 
 turn-requires : tie.Need-turn-requires
 turn-requires c κs =
@@ -36,27 +19,24 @@ turn-requires c κs =
     let start = at-trace .before .before .before .before .before .before in
     ((omega (arith, at-trace .trace .ensures .few), omega (arith, at-trace .trace .ensures .few, part-long (start .args .moves .now) (start .args .from) (start .pre .1 .1 .1))), traced-moves (at-trace .trace .ensures))
 
-same-length : tie.Need-same-length
-same-length c = search needs
-
 returns : tie.Need-returns
 returns c =
     let at-turn = c .before .before in
     let at-trace = at-turn .before .before .before .before in
     let start = at-trace .before .before .before .before .before .before in
-    lays-back (at-trace .trace .ensures) (start .args .moves .now) _ (start .args .from) (start .args .from + 288 - start .args .from) (at-turn .turn .ensures) (omega arith) (omega arith)
+    lays-back (at-trace .trace .ensures) (start .args .moves .now) _ (start .args .from) (start .args .from + leastRoom - start .args .from) (at-turn .turn .ensures) (omega arith) (omega arith)
 
 pub lay-back-spec : {M : Type 1} → statement M
 lay-back-spec =
     tie.close
     (tie.spec
-    slice-aggregate-trace
+    (λ c. search needs)
     trace-requires
-    add-end
-    slice-aggregate-turn
-    sub-turn
-    part-turn-start
-    part-turn-end
+    (λ c. search needs)
+    (λ c. search needs)
+    (λ c. search needs)
+    (λ c. search needs)
+    (λ c. search needs)
     turn-requires
-    same-length
+    (λ c. search needs)
     returns)

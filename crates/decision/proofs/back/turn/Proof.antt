@@ -19,15 +19,6 @@ abbrev μ-loop : tie.MeasureT-loop
 loop-holds : tie.Need-loop-holds Inv-loop μ-loop
 loop-holds c = (omega arith, turn-none (c .before .before .args .there .now) (c .before .before .args .part .now) (c .before .before .args .n) (omega arith) (omega arith))
 
-sub-opposed : tie.Need-sub-opposed Inv-loop μ-loop
-sub-opposed c = search needs
-
-sub-opposed-2 : tie.Need-sub-opposed-2 Inv-loop μ-loop
-sub-opposed-2 c = search needs
-
-shared-slice-read-opposed : tie.Need-shared-slice-read-opposed Inv-loop μ-loop
-shared-slice-read-opposed c = search needs
-
 opposed-requires : tie.Need-opposed-requires Inv-loop μ-loop
 opposed-requires c κs =
     let at-loop = c .before .before in
@@ -39,12 +30,6 @@ slice-write-part c =
     let at-loop = c .before .before .before in
     let start = at-loop .before .before .before in
     omega (arith, ap length (at-loop .loop .inv .1), turn-length (start .args .there .now) (start .args .part .now) (start .args .n) (omega arith) (omega arith) (at-loop .loop .k) (omega arith))
-
-add-k : tie.Need-add-k Inv-loop μ-loop
-add-k c = search needs
-
-loop-less : tie.Need-loop-less Inv-loop μ-loop
-loop-less c = omega arith
 
 loop-again : tie.Need-loop-again Inv-loop μ-loop
 loop-again c =
@@ -76,13 +61,13 @@ turn-spec =
     Inv-loop
     μ-loop
     loop-holds
-    sub-opposed
-    sub-opposed-2
-    shared-slice-read-opposed
+    (λ c. search needs)
+    (λ c. search needs)
+    (λ c. search needs)
     opposed-requires
     slice-write-part
-    add-k
-    loop-less
+    (λ c. search needs)
+    (λ c. omega arith)
     loop-again
     same-length
     returns)

@@ -6,24 +6,6 @@ use Rattle.decision.proofs.Noting.{noted-is, noted-past}
 use Rattle.decision.proofs.held.noted.Statement.{statement}
 use Rattle.decision.proofs.held.noted.Tie as tie
 
-mul-wide16 : tie.Need-mul-wide16
-mul-wide16 c = search needs
-
-shared-slice-read-wide16 : tie.Need-shared-slice-read-wide16
-shared-slice-read-wide16 c = search needs
-
-wide16-requires : tie.Need-wide16-requires
-wide16-requires c κs = search needs
-
-mul-wide16-2 : tie.Need-mul-wide16-2
-mul-wide16-2 c = search needs
-
-shared-slice-read-wide16-2 : tie.Need-shared-slice-read-wide16-2
-shared-slice-read-wide16-2 c = search needs
-
-wide16-requires-2 : tie.Need-wide16-requires-2
-wide16-requires-2 c κs = search needs
-
 returns : tie.Need-returns
 returns c = noted-is _ _ _ _ _ (c .before .before .before .wide16 .ensures .0) _ (c .wide162 .ensures .0) (omega arith)
 
@@ -34,11 +16,11 @@ pub noted-spec : {M : Type 1} → statement M
 noted-spec =
     tie.close
     (tie.spec
-    mul-wide16
-    shared-slice-read-wide16
-    wide16-requires
-    mul-wide16-2
-    shared-slice-read-wide16-2
-    wide16-requires-2
+    (λ c. search needs)
+    (λ c. search needs)
+    (λ c κs. search needs)
+    (λ c. search needs)
+    (λ c. search needs)
+    (λ c κs. search needs)
     returns
     returns-2)

@@ -26,20 +26,11 @@ loop-holds c = (omega arith, λ k h. absurd (omega arith), places-none _ _ (c .b
 stands-requires : tie.Need-stands-requires Inv-loop μ-loop
 stands-requires c κs = (c .before .before .before .before .before .before .pre .0, ((omega arith, omega arith), c .before .before .loop .inv .2))
 
-same-length : tie.Need-same-length Inv-loop μ-loop
-same-length c = search needs
-
 returns : tie.Need-returns Inv-loop μ-loop
 returns c =
     let at-stands = c .before .before .before in
     let at-loop = at-stands .before .before .before in
     walked-fault _ (at-loop .loop .i) (omega arith) (at-stands .stands .ensures) (not-true _ (c .if1 .taken))
-
-add-i : tie.Need-add-i Inv-loop μ-loop
-add-i c = search needs
-
-loop-less : tie.Need-loop-less Inv-loop μ-loop
-loop-less c = omega arith
 
 loop-again : tie.Need-loop-again Inv-loop μ-loop
 loop-again c =
@@ -47,9 +38,6 @@ loop-again c =
     let at-loop = at-stands .before .before .before in
     let r : at-stands .stands .result ≡ true = not-false _ (c .if1 .left) in
     (omega arith, below-more _ _ (at-loop .loop .inv .1) (at-stands .stands .ensures .fair r), at-stands .stands .ensures .places r)
-
-same-length-2 : tie.Need-same-length-2 Inv-loop μ-loop
-same-length-2 c = search needs
 
 returns-2 : tie.Need-returns-2 Inv-loop μ-loop
 returns-2 c = walked-all _ (λ k h. c .before .loop .inv .1 k (omega arith)) (places-down _ (omega arith) (c .before .loop .inv .2))
@@ -62,10 +50,10 @@ path-holds-spec =
     μ-loop
     loop-holds
     stands-requires
-    same-length
+    (λ c. search needs)
     returns
-    add-i
-    loop-less
+    (λ c. search needs)
+    (λ c. omega arith)
     loop-again
-    same-length-2
+    (λ c. search needs)
     returns-2)

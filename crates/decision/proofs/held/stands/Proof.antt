@@ -6,27 +6,16 @@ use borrow.Author.Needs.{needs}
 use borrow.Author.Tests.{not-true, not-false}
 use Rattle.model.proofs.Accepted.{never}
 use Rattle.model.proofs.Moves.{free-few}
+use Rattle.decision.proofs.Acting.{goal-here, goal-away}
 use Rattle.decision.proofs.Noting.{stands-unfair, stands-again, stands-new}
 use Rattle.decision.proofs.held.stands.Statement.{statement}
 use Rattle.decision.proofs.held.stands.Tie as tie
-
-mul-wide16 : tie.Need-mul-wide16
-mul-wide16 c = search needs
-
-shared-slice-read-wide16 : tie.Need-shared-slice-read-wide16
-shared-slice-read-wide16 c = search needs
-
-wide16-requires : tie.Need-wide16-requires
-wide16-requires c κs = search needs
-
-is-free-requires : tie.Need-is-free-requires
-is-free-requires c κs = search needs
 
 returns : tie.Need-returns
 returns c = stands-unfair _ _ (c .before .before .wide16 .ensures .0) (λ f. never (f .free) (sym (c .before .is-free .ensures) ∙ not-true _ (c .if1 .taken)))
 
 returns-2 : tie.Need-returns-2
-returns-2 c = stands-unfair _ _ (c .before .before .before .before .wide16 .ensures .0) (λ f. f .away (c .if2 .taken))
+returns-2 c = stands-unfair _ _ (c .before .before .before .before .wide16 .ensures .0) (λ f. f .away (goal-here _ _ (sym (c .before .is-goal .ensures) ∙ c .if2 .taken)))
 
 returns-3 : tie.Need-returns-3
 returns-3 c = stands-unfair _ _ (c .before .before .before .before .before .wide16 .ensures .0) (λ f. f .other (c .if3 .taken))
@@ -38,20 +27,11 @@ noted-requires c κs =
     let start = at-is-free .before .before .before .before .before .before in
     (omega arith, omega (arith, start .pre .1 .1 .size, free-few _ _ (start .pre .0) (sym (at-is-free .is-free .ensures) ∙ not-false _ (at-if1 .if1 .left))))
 
-same-length : tie.Need-same-length
-same-length c = search needs
-
 returns-4 : tie.Need-returns-4
 returns-4 c =
     let at-noted = c .before in
     let at-wide16 = at-noted .before .before .before .before .before .before .before in
     stands-again _ _ (at-wide16 .wide16 .ensures .0) (sym (at-noted .noted .ensures) ∙ c .if4 .taken)
-
-cast-place : tie.Need-cast-place
-cast-place c = search needs
-
-mul-place : tie.Need-mul-place
-mul-place c = search needs
 
 slice-write-place : tie.Need-slice-write-place
 slice-write-place c =
@@ -59,9 +39,6 @@ slice-write-place c =
     let at-is-free = at-if1 .before in
     let start = at-is-free .before .before .before .before .before .before in
     omega (arith, start .pre .1 .1 .size, free-few _ _ (start .pre .0) (sym (at-is-free .is-free .ensures) ∙ not-false _ (at-if1 .if1 .left)))
-
-same-length-2 : tie.Need-same-length-2
-same-length-2 c = search needs
 
 returns-5 : tie.Need-returns-5
 returns-5 c =
@@ -74,24 +51,25 @@ returns-5 c =
     let start = at-wide16 .before .before .before .before .before in
     let free = sym (at-is-free .is-free .ensures) ∙ not-false _ (at-if1 .if1 .left) in
     stands-new _ _ (at-wide16 .wide16 .ensures .0) (start .pre .1 .1) (sym (at-noted .noted .ensures) ∙ c .if4 .left) (free-few _ _ (start .pre .0) free)
-    (record { free = free; away = at-if2 .if2 .left; other = at-if3 .if3 .left })
+    (record { free = free; away = goal-away _ _ (sym (at-if2 .before .is-goal .ensures) ∙ at-if2 .if2 .left); other = at-if3 .if3 .left })
 
 pub stands-spec : {M : Type 1} → statement M
 stands-spec =
     tie.close
     (tie.spec
-    mul-wide16
-    shared-slice-read-wide16
-    wide16-requires
-    is-free-requires
+    (λ c. search needs)
+    (λ c. search needs)
+    (λ c κs. search needs)
+    (λ c κs. search needs)
     returns
+    (λ c κs. search needs)
     returns-2
     returns-3
     noted-requires
-    same-length
+    (λ c. search needs)
     returns-4
-    cast-place
-    mul-place
+    (λ c. search needs)
+    (λ c. search needs)
     slice-write-place
-    same-length-2
+    (λ c. search needs)
     returns-5)

@@ -13,30 +13,25 @@ use Rattle.decision.proofs.held.state_holds.Tie as tie
 mul-if1 : tie.Need-mul-if1
 mul-if1 c = record { fits = lt-of-le-of-lt (mul-le-mul (c .before .before .before .before .pre .1 .0 .fine) (c .before .before .before .before .pre .1 .0 .within)) (lit< tt) }
 
-refuse-requires : tie.Need-refuse-requires
-refuse-requires c κs = search needs
-
 returns : tie.Need-returns
-returns c = checked-refused _ _ (c .before .before .before .before .before .before .before .pre .1 .1 .0) (c .refuse .ensures) (λ h. omega (arith, h .within))
-
-refuse-requires-2 : tie.Need-refuse-requires-2
-refuse-requires-2 c κs = search needs
+returns c =
+    let after-shared-slice-known = c .before .before .before .before .before .before in
+    let start = after-shared-slice-known .before in
+    checked-refused _ _ (start .pre .1 .1 .0) (c .refuse .ensures) (λ h. omega (arith, h .within))
 
 returns-2 : tie.Need-returns-2
 returns-2 c =
-    let start = c .before .before .before .before .before .before .before .before in
+    let after-shared-slice-known2 = c .before .before .before .before .before .before in
+    let start-here = after-shared-slice-known2 .before .before in
+    let start = start-here in
     checked-refused _ _ (start .pre .1 .1 .0) (c .refuse2 .ensures) (λ h. omega (arith, h .short, start .pre .0 .cells))
 
 path-holds-requires : tie.Need-path-holds-requires
 path-holds-requires c κs =
-    let start = c .before .before .before .before .before .before .before .before in
+    let after-shared-slice-known2 = c .before .before .before .before .before .before in
+    let start-here = after-shared-slice-known2 .before .before in
+    let start = start-here in
     (start .pre .0, ((omega (arith, start .pre .0 .cells), omega (arith, start .pre .0 .cells, sized-cells (start .pre .0))), start .pre .1 .1 .1))
-
-refuse-requires-3 : tie.Need-refuse-requires-3
-refuse-requires-3 c κs = search needs
-
-same-length : tie.Need-same-length
-same-length c = search needs
 
 returns-3 : tie.Need-returns-3
 returns-3 c =
@@ -44,9 +39,6 @@ returns-3 c =
     let at-path-holds = at-if3 .before .before .before in
     let start = at-path-holds .before .before .before .before .before .before .before .before .before in
     checked-refused _ _ (start .pre .1 .1 .0) (c .refuse3 .ensures) (λ h. at-path-holds .path-holds .ensures .fault (not-true _ (at-if3 .if3 .taken)) (h .sound))
-
-same-length-2 : tie.Need-same-length-2
-same-length-2 c = search needs
 
 returns-4 : tie.Need-returns-4
 returns-4 c =
@@ -61,13 +53,13 @@ state-holds-spec =
     tie.close
     (tie.spec
     mul-if1
-    refuse-requires
+    (λ c κs. search needs)
     returns
-    refuse-requires-2
+    (λ c κs. search needs)
     returns-2
     path-holds-requires
-    refuse-requires-3
-    same-length
+    (λ c κs. search needs)
+    (λ c. search needs)
     returns-3
-    same-length-2
+    (λ c. search needs)
     returns-4)

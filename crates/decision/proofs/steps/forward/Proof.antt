@@ -14,30 +14,30 @@ lay-requires c κs =
 
 extend-requires : tie.Need-extend-requires
 extend-requires c κs =
-    let start = c .before .before .before .before .before .before .before .before .before .before .before .before .before in
+    let after-lay = c .before .before .before .before in
+    let after-slice-known2 = after-lay .before .before .before .before .before .before in
+    let start-here = after-slice-known2 .before .before .before in
+    let start = start-here in
     (opened (start .pre .0) _ (start .pre .1 .1 .1 .1 .1), near-place (start .pre .1 .0) (aimed-near (start .pre .1 .1 .1 .0)))
 
 store-requires : tie.Need-store-requires
 store-requires c κs =
-    let start = c .before .before .before .before .before .before .before .before .before .before .before .before .before .before .before .before .before .before .before in
+    let after-extend = c .before .before .before .before .before in
+    let after-lay = after-extend .before .before .before .before .before in
+    let after-slice-known2 = after-lay .before .before .before .before .before .before in
+    let start-here = after-slice-known2 .before .before .before in
+    let start = start-here in
     (current-in (start .pre .0), omega (arith, start .pre .1 .1 .1 .0 .high))
 
 add-t29 : tie.Need-add-t29
 add-t29 c =
-    let start = c .before .before .before .before .before .before .before .before .before .before .before .before .before .before .before .before .before .before .before .before .before .before .before in
+    let after-place = c .before .before .before .before .before .before in
+    let after-extend = after-place .before .before .before in
+    let after-lay = after-extend .before .before .before .before .before in
+    let after-slice-known2 = after-lay .before .before .before .before .before .before in
+    let start-here = after-slice-known2 .before .before .before in
+    let start = start-here in
     record { fits = omega (arith, start .pre .0 .within, quota-low (start .pre .0), start .pre .1 .1 .1 .0 .high, start .pre .1 .1 .1 .1 .0) }
-
-same-length : tie.Need-same-length
-same-length c = search needs
-
-same-length-2 : tie.Need-same-length-2
-same-length-2 c = search needs
-
-same-length-3 : tie.Need-same-length-3
-same-length-3 c = search needs
-
-same-length-4 : tie.Need-same-length-4
-same-length-4 c = search needs
 
 returns : tie.Need-returns
 returns c =
@@ -57,8 +57,8 @@ forward-spec =
     extend-requires
     store-requires
     add-t29
-    same-length
-    same-length-2
-    same-length-3
-    same-length-4
+    (λ c. search needs)
+    (λ c. search needs)
+    (λ c. search needs)
+    (λ c. search needs)
     returns)

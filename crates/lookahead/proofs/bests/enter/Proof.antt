@@ -15,21 +15,6 @@ lower a b h = omega arith
 higher : (a b : ℕ) → b ≤ a → b ≡ min a b
 higher a b h = omega arith
 
-mul-if1 : tie.Need-mul-if1
-mul-if1 c = search needs
-
-slice-read-if1 : tie.Need-slice-read-if1
-slice-read-if1 c = search needs
-
-mul-best : tie.Need-mul-best
-mul-best c = search needs
-
-slice-write-best : tie.Need-slice-write-best
-slice-write-best c = search needs
-
-same-length : tie.Need-same-length
-same-length c = search needs
-
 returns : tie.Need-returns
 returns c = let a = c .before .before .args in ap (set (a .best .now) (a .k)) (lower (a .v) (getD (a .best .now) (a .k) 0) (omega arith))
 
@@ -41,4 +26,4 @@ returns-2 c =
 pub enter-spec : {M : Type 1} → statement M
 enter-spec =
     tie.close
-    (tie.spec mul-if1 slice-read-if1 mul-best slice-write-best same-length returns returns-2)
+    (tie.spec (λ c. search needs) (λ c. search needs) (λ c. search needs) (λ c. search needs) (λ c. search needs) returns returns-2)

@@ -18,25 +18,13 @@ abbrev μ-loop : tie.MeasureT-loop
 loop-holds : tie.Need-loop-holds Inv-loop μ-loop
 loop-holds c = (omega arith, omega arith, topped-none (c .before .args .best .now))
 
-mul-larger : tie.Need-mul-larger Inv-loop μ-loop
-mul-larger c = search needs
-
 shared-slice-read-larger : tie.Need-shared-slice-read-larger Inv-loop μ-loop
 shared-slice-read-larger c = omega (arith, c .before .before .before .before .pre .0)
-
-larger-requires : tie.Need-larger-requires Inv-loop μ-loop
-larger-requires c κs = tt
-
-add-k : tie.Need-add-k Inv-loop μ-loop
-add-k c = omega arith
-
-loop-less : tie.Need-loop-less Inv-loop μ-loop
-loop-less c = omega arith
 
 loop-again : tie.Need-loop-again Inv-loop μ-loop
 loop-again c =
     let l = c .before .before .before .loop in
-    (omega arith, omega arith, rw (c .larger .ensures) (topped-more (c .before .before .before .before .before .args .best .now) (l .k) (l .top) (l .inv .0) (l .inv .2)))
+    (omega arith, omega arith, rw (c .larger .ensures) (topped-more (c .before .before .before .before .before .args .best .now) _ _ (l .inv .0) (l .inv .2)))
 
 returns : tie.Need-returns Inv-loop μ-loop
 returns c =
@@ -51,10 +39,10 @@ greatest-spec =
     Inv-loop
     μ-loop
     loop-holds
-    mul-larger
+    (λ c. search needs)
     shared-slice-read-larger
-    larger-requires
-    add-k
-    loop-less
+    (λ c κs. tt)
+    (λ c. omega arith)
+    (λ c. omega arith)
     loop-again
     returns)

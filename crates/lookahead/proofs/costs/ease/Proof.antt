@@ -16,24 +16,25 @@ to-cell c = sym (c .before .before .step-from .ensures) ∙ c .cell .given .1
 
 -- what that says of it
 at-cell : (c : tie.After-cell) → let a = c .before .before .before .before .before .before .args in Stepped (flat (a .width) (a .height) (a .floor .now)) (a .c) (a .m) (c .cell .given .0 .0) (c .cell .given .0 .1 .0)
-at-cell c = let a = c .before .before .before .before .before .before in stepped (flat (a .args .width) (a .args .height) (a .args .floor .now)) (a .pre .0) (a .args .c) (a .args .m) _ _ (to-cell c)
-
-step-from-requires : tie.Need-step-from-requires
-step-from-requires c κs = search needs
-
-enum-known-cell : tie.Need-enum-known-cell
-enum-known-cell c = search needs
+at-cell c = let a = c .before .before .before .before .before .before in stepped _ (a .pre .0) _ _ _ _ (to-cell c)
 
 mul-if1 : tie.Need-mul-if1
 mul-if1 c = omega (arith, at-cell (c .before) .few)
 
+-- from a place to one before it
+abbrev to-start : tie.After-cell → tie.Start
+to-start c = c .before .before .before .before .before .before
+
 shared-slice-read-if1 : tie.Need-shared-slice-read-if1
-shared-slice-read-if1 c = omega (arith, at-cell (c .before .before) .few, c .before .before .before .before .before .before .before .before .pre .1 .0 .marks)
+shared-slice-read-if1 c =
+    let start = to-start (c .before .before) in
+    omega (arith, at-cell (c .before .before) .few, start .pre .1 .0 .marks)
 
 returns : tie.Need-returns
 returns c =
-    let a = c .before .before .before .before .before .before .before .before .before in
-    eased-out (flat (a .args .width) (a .args .height) (a .args .floor .now)) (a .args .base) (a .args .mark .now) (a .args .cost .now) (a .args .c) (a .args .m) (a .args .w) (a .pre .1 .0) (a .pre .1 .1 .1 .1) _ _ (a .args .changed) (to-cell (c .before .before .before)) (c .if1 .taken)
+    let start = to-start (c .before .before .before) in
+    let a = start in
+    eased-out _ _ _ _ _ _ _ (a .pre .1 .0) (a .pre .1 .1 .1 .1) _ _ _ (to-cell (c .before .before .before)) (c .if1 .taken)
 
 add-sum : tie.Need-add-sum
 add-sum c =
@@ -41,37 +42,36 @@ add-sum c =
     omega (arith, a .pre .1 .0 .small (a .args .c) (a .pre .1 .1 .0 .marked), a .pre .1 .1 .1 .1, at-cell (c .before .before .before) .most)
 
 lower-requires : tie.Need-lower-requires
-lower-requires c κs = omega (arith, at-cell (c .before .before .before .before) .few, c .before .before .before .before .before .before .before .before .before .before .pre .1 .0 .costs)
-
-enum-told : tie.Need-enum-told
-enum-told c = search needs
-
-same-length : tie.Need-same-length
-same-length c = search needs
+lower-requires c κs =
+    let start = to-start (c .before .before .before .before) in
+    omega (arith, at-cell (c .before .before .before .before) .few, start .pre .1 .0 .costs)
 
 returns-2 : tie.Need-returns-2
 returns-2 c =
-    let a = c .before .before .before .before .before .before .before .before .before .before .before .before .before in
-    eased (flat (a .args .width) (a .args .height) (a .args .floor .now)) (a .args .base) (a .args .mark .now) (a .args .cost .now) (a .args .c) (a .args .m) (a .args .w) (a .pre .1 .0) (a .pre .1 .1 .1 .1) (a .pre .0) _ _ (to-cell (c .before .before .before .before .before .before .before))
-    (a .pre .1 .1 .0 .marked) (omega (arith, c .before .before .before .before .if1 .left)) (a .args .changed) _ _ (c .before .before .lower .ensures)
+    let after-known-told = c .before .before .before .before .before .before in
+    let after-cell = after-known-told .before in
+    let start = after-cell .before .before .before .before .before .before in
+    let a = start in
+    eased _ _ _ _ _ _ _ (a .pre .1 .0) (a .pre .1 .1 .1 .1) (a .pre .0) _ _ (to-cell (after-cell))
+    (a .pre .1 .1 .0 .marked) (omega (arith, c .before .before .before .before .if1 .left)) _ _ _ (c .before .before .lower .ensures)
 
 returns-3 : tie.Need-returns-3
 returns-3 c =
     let a = c .before .before .before .before .before .before in
-    eased-wall (flat (a .args .width) (a .args .height) (a .args .floor .now)) (a .args .base) (a .args .mark .now) (a .args .cost .now) (a .args .c) (a .args .m) (a .args .w) (a .pre .1 .0) (a .pre .1 .1 .1 .1) (a .args .changed) (sym (c .before .before .step-from .ensures) ∙ c .enum-told .given .1)
+    eased-wall _ _ _ _ _ _ _ (a .pre .1 .0) (a .pre .1 .1 .1 .1) _ (sym (c .before .before .step-from .ensures) ∙ c .enum-told .given .1)
 
 pub ease-spec : {M : Type 1} → statement M
 ease-spec =
     tie.close
     (tie.spec
-    step-from-requires
-    enum-known-cell
+    (λ c κs. search needs)
+    (λ c. search needs)
     mul-if1
     shared-slice-read-if1
     returns
     add-sum
     lower-requires
-    enum-told
-    same-length
+    (λ c. search needs)
+    (λ c. search needs)
     returns-2
     returns-3)

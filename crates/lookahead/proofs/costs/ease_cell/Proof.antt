@@ -18,12 +18,12 @@ abbrev μ-loop : tie.MeasureT-loop
 μ-loop width height floor base mark cost₀ c w changed spot any₀ m₀ cost any m = 8 - m
 
 spot-of-requires : tie.Need-spot-of-requires Inv-loop μ-loop
-spot-of-requires c κs = let a = c .before .before .before in (a .pre .0 .wide, free-few (flat (a .args .width) (a .args .height) (a .args .floor .now)) (a .args .c) (a .pre .0) (a .pre .1 .0 .free (a .args .c) (a .pre .1 .1 .0)))
+spot-of-requires c κs = let a = c .before .before .before in (a .pre .0 .wide, free-few _ _ (a .pre .0) (a .pre .1 .0 .free (a .args .c) (a .pre .1 .1 .0)))
 
 loop-holds : tie.Need-loop-holds Inv-loop μ-loop
 loop-holds c =
     let a = c .before .before .before .before in
-    (omega arith, lowered-none (flat (a .args .width) (a .args .height) (a .args .floor .now)) (a .args .base) (a .args .mark .now) (Easing (flat (a .args .width) (a .args .height) (a .args .floor .now)) (a .args .base) (a .args .mark .now) (a .args .c) 0 (a .args .w)) (a .args .cost .now) (a .args .changed) (a .pre .1 .0) (a .pre .1 .1 .1, λ i l. absurd (omega arith)))
+    (omega arith, lowered-none _ _ _ (Easing (flat (a .args .width) (a .args .height) (a .args .floor .now)) (a .args .base) (a .args .mark .now) (a .args .c) 0 (a .args .w)) _ _ (a .pre .1 .0) (a .pre .1 .1 .1, λ i l. absurd (omega arith)))
 
 ease-requires : tie.Need-ease-requires Inv-loop μ-loop
 ease-requires c κs =
@@ -31,17 +31,13 @@ ease-requires c κs =
     let l = c .before .before .loop .inv .1 in
     (a .pre .0, (l .costs, (record { marked = a .pre .1 .1 .0; placed = record { free = a .pre .1 .0 .free (a .args .c) (a .pre .1 .1 .0); spot = c .before .before .before .spot-of .ensures _ } }, (omega arith, l .so .0))))
 
-add-m : tie.Need-add-m Inv-loop μ-loop
-add-m c = omega arith
-
-loop-less : tie.Need-loop-less Inv-loop μ-loop
-loop-less c = omega arith
-
 loop-again : tie.Need-loop-again Inv-loop μ-loop
 loop-again c =
-    let a = c .before .before .before .before .before .before .before .before .before .before in
+    let after-spot-of = c .before .before .before .before .before .before in
+    let start = after-spot-of .before .before .before .before in
+    let a = start in
     let l = c .before .before .before .before .before .loop in
-    (omega arith, eased-more (flat (a .args .width) (a .args .height) (a .args .floor .now)) (a .args .base) (a .args .mark .now) (a .args .c) (l .m) (a .args .w) (a .args .cost .now) (a .args .changed) (l .cost) (l .any) _ _ (l .inv .1) (c .before .before .ease .ensures))
+    (omega arith, eased-more _ _ _ _ _ _ _ _ _ _ _ _ (l .inv .1) (c .before .before .ease .ensures))
 
 same-length : tie.Need-same-length Inv-loop μ-loop
 same-length c = c .before .loop .inv .1 .costs .costs ∙ sym (c .before .before .before .before .before .before .pre .1 .0 .costs)
@@ -62,8 +58,8 @@ ease-cell-spec =
     spot-of-requires
     loop-holds
     ease-requires
-    add-m
-    loop-less
+    (λ c. omega arith)
+    (λ c. omega arith)
     loop-again
     same-length
     returns)

@@ -10,56 +10,45 @@ use Rattle.lookahead.proofs.costs.highest.Statement.{statement}
 use Rattle.lookahead.proofs.costs.highest.Tie as tie
 
 abbrev Inv-loop : tie.InvT-loop
-Inv-loop base mark cost list n high₀ i₀ high i =
-    (i ≤ n) × Highest cost list i high
+Inv-loop base mark cost list n high₀ i₀ high i = (i ≤ n) × Highest cost list i high
 
 abbrev μ-loop : tie.MeasureT-loop
 μ-loop base mark cost list n high₀ i₀ high i = n - i
 
-loop-holds : tie.Need-loop-holds Inv-loop μ-loop
-loop-holds c = (omega arith, λ j l. absurd (omega arith))
+abbrev start : tie.At-loop Inv-loop μ-loop → tie.Start Inv-loop μ-loop
+start c = c .before .before .before .before
 
 mul-wide16 : tie.Need-mul-wide16 Inv-loop μ-loop
-mul-wide16 c = omega (arith, c .before .before .before .before .before .pre .0 .fits)
+mul-wide16 c = omega (arith, start (c .before) .pre .0 .fits)
 
 shared-slice-read-wide16 : tie.Need-shared-slice-read-wide16 Inv-loop μ-loop
-shared-slice-read-wide16 c = omega (arith, c .before .before .before .before .before .before .pre .0 .fits, c .before .before .before .before .before .before .pre .0 .room)
+shared-slice-read-wide16 c = let L = start (c .before .before) .pre .0 in omega (arith, L .fits, L .room)
 
-wide16-requires : tie.Need-wide16-requires Inv-loop μ-loop
-wide16-requires c κs = tt
-
-mul-larger : tie.Need-mul-larger Inv-loop μ-loop
-mul-larger c = omega (arith, c .wide16 .ensures .1)
-
-shared-slice-read-larger : tie.Need-shared-slice-read-larger Inv-loop μ-loop
-shared-slice-read-larger c =
-    let a = c .before .before .before .before .before .before .before .before in
-    let x = c .before .wide16 .ensures .0 in
-    omega (arith, x, a .pre .1 .1 _ (a .pre .0 .early (c .before .before .before .before .loop .i) (omega arith)), a .pre .1 .0)
-
-larger-requires : tie.Need-larger-requires Inv-loop μ-loop
-larger-requires c κs = tt
-
-add-i : tie.Need-add-i Inv-loop μ-loop
-add-i c = omega arith
-
-loop-less : tie.Need-loop-less Inv-loop μ-loop
-loop-less c = omega arith
+shared-slice-read-wide16-2 : tie.Need-shared-slice-read-wide16-2 Inv-loop μ-loop
+shared-slice-read-wide16-2 c =
+    let at-loop = c .before .before .before .before in
+    let a = start at-loop in
+    omega (arith, c .before .wide16 .ensures .0, a .pre .1 .1 _ (a .pre .0 .early (at-loop .loop .i) (omega arith)), a .pre .1 .0)
 
 loop-again : tie.Need-loop-again Inv-loop μ-loop
 loop-again c =
-    let l = c .before .before .before .before .before .loop in
-    let a = c .before .before .before .before .before .before .before .before .before .args in
+    let at-loop = c .before .before .before .before .before .before in
+    let l = at-loop .loop in
+    let a = start at-loop .args in
     let e = c .larger .ensures in
-    let x = c .before .before .wide16 .ensures .0 in
-    (omega arith, below-more (λ j. at (a .cost .now) (getD (a .list .now) j 0) ≤ c .larger .result) (l .i) (λ j h. omega (arith, l .inv .1 j h, e)) (omega (arith, e, ap (at (a .cost .now)) x)))
+    let cell = c .before .before .before .wide16 .ensures .0 in
+    let cost = c .before .wide162 .ensures .0 in (
+      omega arith,
+      below-more (λ j. at (a .cost .now) (getD (a .list .now) j 0) ≤ c .larger .result) (l .i) (λ j h. omega (arith, l .inv .1 j h, e))
+          (omega (arith, e, cost, ap (at (a .cost .now)) cell)),
+    )
 
 returns : tie.Need-returns Inv-loop μ-loop
-returns c =
-    λ x h.
+returns c x h =
     let l = c .before .loop in
-    let k = c .before .before .before .before .before .pre .0 .listed x h in
-    omega (arith, l .inv .1 (k .0) (omega (arith, k .1)), ap (at (c .before .before .before .before .before .args .cost .now)) (k .2))
+    let a = start (c .before) in
+    let k = a .pre .0 .listed x h in
+    omega (arith, l .inv .1 (k .0) (omega (arith, k .1)), ap (at (a .args .cost .now)) (k .2))
 
 pub highest-spec : {M : Type 1} → statement M
 highest-spec =
@@ -67,14 +56,15 @@ highest-spec =
     (tie.spec
     Inv-loop
     μ-loop
-    loop-holds
+    (λ c. (omega arith, λ j l. absurd (omega arith)))
     mul-wide16
     shared-slice-read-wide16
-    wide16-requires
-    mul-larger
-    shared-slice-read-larger
-    larger-requires
-    add-i
-    loop-less
+    (λ c κs. tt)
+    (λ c. omega (arith, c .wide16 .ensures .1))
+    shared-slice-read-wide16-2
+    (λ c κs. tt)
+    (λ c κs. tt)
+    (λ c. omega arith)
+    (λ c. omega arith)
     loop-again
     returns)

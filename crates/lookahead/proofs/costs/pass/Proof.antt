@@ -19,26 +19,28 @@ abbrev μ-loop : tie.MeasureT-loop
 loop-holds : tie.Need-loop-holds Inv-loop μ-loop
 loop-holds c =
     let a = c .before .before .before .before in
-    (omega arith, passed-none (flat (a .args .width) (a .args .height) (a .args .floor .now)) (a .args .base) (a .args .mark .now) (a .args .list .now) (a .args .n) (a .args .cost .now) (a .pre .1 .1 .0) (a .pre .1 .0) (a .pre .1 .1 .1 .0))
+    (omega arith, passed-none _ _ _ _ _ _ (a .pre .1 .1 .0) (a .pre .1 .0) (a .pre .1 .1 .1 .0))
+
+-- from a place to one before it
+abbrev to-start : tie.At-loop Inv-loop μ-loop → tie.Start Inv-loop μ-loop
+to-start c = c .before .before .before .before .before
 
 ease-again-requires : tie.Need-ease-again-requires Inv-loop μ-loop
 ease-again-requires c κs =
-    let a = c .before .before .before .before .before .before .before .before in
+    let start = to-start (c .before .before .before) in
+    let a = start in
     let l = c .before .before .before .loop in
     let p = l .inv .1 in
     (a .pre .0, (p .lowered .costs, ((p .listing .room, omega (arith, p .listing .fits), p .listing .early (l .i) (omega arith)), ((λ x h. omega (arith, a .pre .1 .1 .1 .1 x h, p .lowered .drop x)), p .lowered .so (l .i) (omega arith)))))
 
-add-i : tie.Need-add-i Inv-loop μ-loop
-add-i c = omega arith
-
-loop-less : tie.Need-loop-less Inv-loop μ-loop
-loop-less c = omega arith
-
 loop-again : tie.Need-loop-again Inv-loop μ-loop
 loop-again c =
-    let a = c .before .before .before .before .before .before .before .before .before .before .before .before .before in
-    let l = c .before .before .before .before .before .before .before .before .loop in
-    (omega arith, passed-more (flat (a .args .width) (a .args .height) (a .args .floor .now)) (a .args .base) (a .args .mark .now) (a .args .n) (l .i) (a .args .cost .now) (l .cost) (l .list) (l .any) _ _ _ (omega arith) (l .inv .1) (c .before .before .before .before .ease-again .ensures))
+    let after-ease-again = c .before .before .before .before in
+    let at-loop = after-ease-again .before .before .before .before in
+    let start = at-loop .before .before .before .before .before in
+    let a = start in
+    let l = at-loop .loop in
+    (omega arith, passed-more _ _ _ _ _ _ _ _ _ _ _ _ (omega arith) (l .inv .1) (c .before .before .before .before .ease-again .ensures))
 
 same-length : tie.Need-same-length Inv-loop μ-loop
 same-length c = c .before .loop .inv .1 .lowered .costs .costs ∙ sym (c .before .before .before .before .before .before .pre .1 .0 .costs)
@@ -61,8 +63,8 @@ pass-spec =
     μ-loop
     loop-holds
     ease-again-requires
-    add-i
-    loop-less
+    (λ c. omega arith)
+    (λ c. omega arith)
     loop-again
     same-length
     same-length-2

@@ -26,36 +26,56 @@ abbrev μ-loop : tie.MeasureT-loop
 highest-requires : tie.Need-highest-requires Inv-loop μ-loop
 highest-requires c κs =
     let a = c .before .before .before .before .before .before in
-    (a .pre .1 .1 .0, (a .pre .1 .0 .costs, λ x h. free-few (flat (a .args .width) (a .args .height) (a .args .floor .now)) x (a .pre .0) (a .pre .1 .0 .free x h)))
+    (a .pre .1 .1 .0, (a .pre .1 .0 .costs, λ x h. free-few _ x (a .pre .0) (a .pre .1 .0 .free x h)))
 
 loop-holds : tie.Need-loop-holds Inv-loop μ-loop
-loop-holds c = let p = c .before .before .before .before .before .before .before .pre in (p .1 .0, (λ s W. W), (λ x. omega arith), p .1 .1 .0, p .1 .1 .1, c .highest .ensures)
+loop-holds c =
+    let lent = c .before .before .before .before .before .before in
+    let p = lent .before .pre in
+    (p .1 .0, (λ s W. W), (λ x. omega arith), p .1 .1 .0, p .1 .1 .1, c .highest .ensures)
+
+-- from a place to one before it
+abbrev to-start : tie.At-loop Inv-loop μ-loop → tie.Start Inv-loop μ-loop
+to-start c =
+    let after-shared-slice-known2 = c .before .before .before .before .before .before in
+    after-shared-slice-known2 .before .before
 
 pass-requires : tie.Need-pass-requires Inv-loop μ-loop
-pass-requires c κs = let i = c .before .before .loop .inv in (c .before .before .before .before .before .before .before .before .before .before .pre .0, (i .0, (i .3, (i .4, i .5))))
+pass-requires c κs = let i = c .before .before .loop .inv in (to-start (c .before .before) .pre .0, (i .0, (i .3, (i .4, i .5))))
 
 loop-less : tie.Need-loop-less Inv-loop μ-loop
 loop-less c =
-    let a = c .before .before .before .before .before .before .before .before .before .before .before .before .before .before .before .before in
-    turned (flat (a .args .width) (a .args .height) (a .args .floor .now)) (a .args .base) (a .args .mark .now) _ _ _ _ (c .before .before .before .before .before .pass .ensures .lowered) (c .if1 .taken)
+    let passed = c .before .before .before .before .before in
+    turned _ _ _ _ _ _ _ (passed .pass .ensures .lowered) (c .if1 .taken)
 
 loop-again : tie.Need-loop-again Inv-loop μ-loop
 loop-again c =
-    let i = c .before .before .before .before .before .before .before .before .loop .inv in
-    let e = c .before .before .before .before .before .pass .ensures .lowered in
-    (e .costs, (λ s W. e .walked s (i .1 s W)), (λ x. omega (arith, e .drop x, i .2 x)), c .before .before .before .before .before .pass .ensures .listing, e .so, λ x h. omega (arith, e .drop x, i .5 x h))
+    let after-pass = c .before .before .before .before .before in
+    let at-loop = after-pass .before .before .before in
+    let i = at-loop .loop .inv in
+    let e = after-pass .pass .ensures .lowered in
+    (e .costs, (λ s W. e .walked s (i .1 s W)), (λ x. omega (arith, e .drop x, i .2 x)), after-pass .pass .ensures .listing, e .so, λ x h. omega (arith, e .drop x, i .5 x h))
 
 same-length : tie.Need-same-length Inv-loop μ-loop
-same-length c = c .before .before .before .before .before .pass .ensures .lowered .costs .costs ∙ sym (c .before .before .before .before .before .before .before .before .before .before .before .before .before .before .before .before .pre .1 .0 .costs)
+same-length c =
+    let after-pass = c .before .before .before .before .before in
+    let start = to-start (after-pass .before .before .before) in
+    c .before .before .before .before .before .pass .ensures .lowered .costs .costs ∙ sym (start .pre .1 .0 .costs)
 
 same-length-2 : tie.Need-same-length-2 Inv-loop μ-loop
-same-length-2 c = c .before .before .before .before .before .pass .ensures .listing .room ∙ sym (c .before .before .before .before .before .before .before .before .before .before .before .before .before .before .before .before .pre .1 .1 .0 .room)
+same-length-2 c =
+    let after-pass = c .before .before .before .before .before in
+    let start = to-start (after-pass .before .before .before) in
+    c .before .before .before .before .before .pass .ensures .listing .room ∙ sym (start .pre .1 .1 .0 .room)
 
 returns : tie.Need-returns Inv-loop μ-loop
 returns c =
-    let a = c .before .before .before .before .before .before .before .before .before .before .before .before .before .before .before .before in
-    let i = c .before .before .before .before .before .before .before .before .loop .inv in
-    relaxed (flat (a .args .width) (a .args .height) (a .args .floor .now)) (a .args .base) (a .args .mark .now) (a .pre .0) (a .args .n) (a .args .cost .now) _ _ _ _ (i .1) (i .2) (c .before .before .before .before .before .pass .ensures) (c .if1 .left)
+    let after-pass = c .before .before .before .before .before in
+    let at-loop = after-pass .before .before .before in
+    let start = to-start at-loop in
+    let a = start in
+    let i = at-loop .loop .inv in
+    relaxed _ _ _ (a .pre .0) _ _ _ _ _ _ (i .1) (i .2) (c .before .before .before .before .before .pass .ensures) (c .if1 .left)
 
 pub relax-spec : {M : Type 1} → statement M
 relax-spec =

@@ -3,7 +3,8 @@
 use Prim.Native.Nat.{_+_, _-_, _≤_, _<_}
 use mathlib.Core.Path.{_≡_, sym, _∙_, subst}
 use native.Mathlib.Omega.{arith}
-use lib.ListN.{getD}
+use borrow.Author.Tests.{leb-true, leb-false}
+use lib.ListN.{length, getD}
 use Rattle.model.proofs.Moves.{free-few}
 use Rattle.floor.specs.Moves.{flat}
 use Rattle.lookahead.proofs.Levels.{level-begin, full-begin, begin-other, level-segment, level-next, full-next, level-framed, next-blocked, next-framed}
@@ -20,117 +21,131 @@ Inv-loop width height floor s goal depth base mark₀ cost₀ list₀ from₀ to
 abbrev μ-loop : tie.MeasureT-loop
 μ-loop width height floor s goal depth base mark₀ cost₀ list₀ from₀ to₀ r₀ k₀ mark cost list from to r k = depth - r
 
+-- the call's start, from where s is marked and from the loop
+abbrev to-start : tie.After-begin Inv-loop μ-loop → tie.Start Inv-loop μ-loop
+to-start c =
+    let begin-arg = c .before .before .before .before in
+    begin-arg .before .before .before .before
+
+abbrev start : tie.At-loop Inv-loop μ-loop → tie.Start Inv-loop μ-loop
+start c =
+    let after-mark = c .before .before .before .before .before .before in
+    to-start (after-mark .before)
+
+-- the ring's marking, from where its lists are known; and the loop before it
+abbrev marking : tie.After-list2 Inv-loop μ-loop → tie.After-spread Inv-loop μ-loop
+marking c = c .before .before .before .before .before
+
+abbrev turn : tie.After-spread Inv-loop μ-loop → tie.At-loop Inv-loop μ-loop
+turn c = c .before .before .before .before .before
+
 few : (c : tie.Start Inv-loop μ-loop) → c .args .s < 4096
-few c = free-few (flat (c .args .width) (c .args .height) (c .args .floor .now)) (c .args .s) (c .pre .0) (c .pre .1 .0)
+few c = free-few _ _ (c .pre .0) (c .pre .1 .0)
 
 -- the next ring is marked
 next : (c : tie.After-spread Inv-loop μ-loop) →
-    let a = c .before .before .before .before .before .before .before .before .before .before .before .before .before .before .before .before .before .before .before .before .args in
-    let l = c .before .before .before .before .before .loop in
+    let a = start (turn c) .args in
+    let l = turn c .loop in
     let z = c .spread .last .1 .1 .1 .1 in
     Level (flat (a .width) (a .height) (a .floor .now)) (a .s) (a .base) (l .k + 1) (l .to) (state (z .0) (z .1 .0) (z .1 .1 .0) (c .spread .result))
-next c =
-    let a = c .before .before .before .before .before .before .before .before .before .before .before .before .before .before .before .before .before .before .before .before in
-    let l = c .before .before .before .before .before .loop in
-    level-next (flat (a .args .width) (a .args .height) (a .args .floor .now)) (a .pre .0) (a .args .s) (a .args .base) (l .k) (l .from) _ (l .inv .5) _ (c .spread .ensures)
+next c = level-next _ (start (turn c) .pre .0) _ _ _ _ _ (turn c .loop .inv .5) _ (c .spread .ensures)
+
+-- and the lists keep their lengths
+kept : (c : tie.After-spread Inv-loop μ-loop) →
+    let a = start (turn c) .args in
+    let z = c .spread .last .1 .1 .1 .1 in
+    (length (z .0) ≡ length (a .mark .now)) × (length (z .1 .0) ≡ length (a .cost .now)) × (length (z .1 .1 .0) ≡ length (a .list .now))
+kept c =
+    let n = next c .room .sizes in
+    let p = start (turn c) .pre .1 .1 .1 .1 in
+    (n .marks ∙ sym (p .marks .size), n .costs ∙ sym (p .costs), n .cells ∙ sym (p .cells))
 
 begin-requires : tie.Need-begin-requires Inv-loop μ-loop
-begin-requires c κs = let a = c .before .before .before .before .before .before .before in let p = a .pre .1 .1 .1 .1 in (few a, (p .marks .size, (p .costs, p .cells)))
+begin-requires c κs =
+    let after-arg = c .before in
+    let a = after-arg .before .before .before .before .before .before in
+    let p = a .pre .1 .1 .1 .1 in
+    (few a, (p .marks .size, (p .costs, p .cells)))
 
 loop-holds : tie.Need-loop-holds Inv-loop μ-loop
 loop-holds c =
-    let a = c .before .before .before .before .before .before .before .before .before .before .before .before .before .before in
+    let begun = c .before .before .before .before .before .before in
+    let a = to-start begun in
     let p = a .pre .1 .1 .1 .1 in
-    let e = c .before .before .before .before .before .before .begin .ensures in
-    let g = (flat (a .args .width) (a .args .height) (a .args .floor .now)) in (
+    let e = begun .begin .ensures in
+    let g = flat (a .args .width) (a .args .height) (a .args .floor .now) in (
       omega arith,
       omega arith,
-      subst (λ (S : State). markOf S (a .args .goal) < a .args .base) (sym e) (begin-other g (a .args .s) (a .args .base) (a .args .mark .now) (a .args .cost .now) (a .args .list .now) (a .pre .1 .0) (few a) p (a .args .goal) (a .pre .1 .1 .0 .1)),
+      subst (λ (S : State). markOf S (a .args .goal) < a .args .base) (sym e) (begin-other g _ _ _ _ _ (a .pre .1 .0) (few a) p _ (a .pre .1 .1 .0 .1)),
       omega arith,
-      subst (λ (S : State). Full (a .args .base) (a .args .base) S) (sym e) (full-begin g (a .args .s) (a .args .base) (a .args .mark .now) (a .args .cost .now) (a .args .list .now) (a .pre .1 .0) (few a) p),
-      subst (λ (S : State). Level g (a .args .s) (a .args .base) (a .args .base) 0 S) (sym e) (level-begin g (a .args .s) (a .args .base) (a .args .mark .now) (a .args .cost .now) (a .args .list .now) (a .pre .1 .0) (few a) p),
+      subst (λ (S : State). Full (a .args .base) (a .args .base) S) (sym e) (full-begin g _ _ _ _ _ (a .pre .1 .0) (few a) p),
+      subst (λ (S : State). Level g (a .args .s) (a .args .base) (a .args .base) 0 S) (sym e) (level-begin g _ _ _ _ _ (a .pre .1 .0) (few a) p),
     )
 
 spread-requires : tie.Need-spread-requires Inv-loop μ-loop
 spread-requires c κs =
-    let a = c .before .before .before .before .before .before .before .before .before .before .before .before .before .before .before .before .before .before .before in
-    let l = c .before .before .before .before .loop in
-    (a .pre .0, (l .inv .5 .room, level-segment (flat (a .args .width) (a .args .height) (a .args .floor .now)) (a .pre .0) (a .args .s) (a .args .base) (l .k) (l .from) _ (l .inv .5) (omega (arith, l .inv .3)) (omega (arith, l .inv .3, l .inv .0)) (a .pre .1 .1 .1 .1 .marks .room)))
-
-add-r : tie.Need-add-r Inv-loop μ-loop
-add-r c = omega arith
+    let at-loop = c .before .before .before .before in
+    let a = start at-loop in
+    let l = at-loop .loop in
+    let p = a .pre .1 .1 .1 in
+    (a .pre .0, (l .inv .5 .room, level-segment _ (a .pre .0) _ _ _ _ _ (l .inv .5) (omega (arith, l .inv .3)) (omega (arith, l .inv .3, l .inv .0, p .0 .1)) (p .1 .marks .room)))
 
 add-k : tie.Need-add-k Inv-loop μ-loop
-add-k c = omega (arith, c .before .before .before .before .before .before .before .before .before .before .before .loop .inv .0, c .before .before .before .before .before .before .before .before .before .before .before .loop .inv .3, c .before .before .before .before .before .before .before .before .before .before .before .before .before .before .before .before .before .before .before .before .before .before .before .before .before .before .pre .1 .1 .1 .0 .1, c .before .before .before .before .before .before .before .before .before .before .before .before .before .before .before .before .before .before .before .before .before .before .before .before .before .before .pre .1 .1 .1 .1 .marks .room)
-
-same-length : tie.Need-same-length Inv-loop μ-loop
-same-length c = next (c .before .before .before .before .before .before .before) .room .sizes .marks ∙ sym (c .before .before .before .before .before .before .before .before .before .before .before .before .before .before .before .before .before .before .before .before .before .before .before .before .before .before .before .pre .1 .1 .1 .1 .marks .size)
-
-same-length-2 : tie.Need-same-length-2 Inv-loop μ-loop
-same-length-2 c = next (c .before .before .before .before .before .before .before) .room .sizes .costs ∙ sym (c .before .before .before .before .before .before .before .before .before .before .before .before .before .before .before .before .before .before .before .before .before .before .before .before .before .before .before .pre .1 .1 .1 .1 .costs)
-
-same-length-3 : tie.Need-same-length-3 Inv-loop μ-loop
-same-length-3 c = next (c .before .before .before .before .before .before .before) .room .sizes .cells ∙ sym (c .before .before .before .before .before .before .before .before .before .before .before .before .before .before .before .before .before .before .before .before .before .before .before .before .before .before .before .pre .1 .1 .1 .1 .cells)
+add-k c =
+    let at-loop = turn (marking (c .before)) in
+    let l = at-loop .loop in
+    let p = start at-loop .pre .1 .1 .1 in
+    omega (arith, l .inv .0, l .inv .3, p .0 .1, p .1 .marks .room)
 
 returns : tie.Need-returns Inv-loop μ-loop
 returns c =
-    let a = c .before .before .before .before .before .before .before .before .before .before .before .before .before .before .before .before .before .before .before .before .before .before .before .before .before .before .before in
-    let l = c .before .before .before .before .before .before .before .before .before .before .before .before .loop in
-    (l .r, _, next-blocked (flat (a .args .width) (a .args .height) (a .args .floor .now)) (a .pre .0) (a .args .s) (a .args .goal) (a .args .depth) (a .args .base) (l .k) (l .from) (l .r) _ (l .inv .5) (l .inv .3) (l .inv .2) (l .inv .4) _ (c .before .before .before .before .before .before .before .spread .ensures) (omega arith) (c .if1 .taken))
+    let marked = marking (c .before .before) in
+    let l = turn marked .loop in
+    (l .r, _, next-blocked _ (start (turn marked) .pre .0) _ _ _ _ _ _ _ _ (l .inv .5) (l .inv .3) (l .inv .2) (l .inv .4) _ (marked .spread .ensures) (omega arith) (c .if1 .taken))
 
-mul-if2 : tie.Need-mul-if2 Inv-loop μ-loop
-mul-if2 c = omega (arith, c .before .before .before .before .before .before .before .before .before .before .before .before .before .before .before .before .before .before .before .before .before .before .before .before .before .before .before .pre .1 .1 .0 .0)
-
-slice-read-if2 : tie.Need-slice-read-if2 Inv-loop μ-loop
-slice-read-if2 c = omega (arith, next (c .before .before .before .before .before .before .before .before) .room .sizes .marks, c .before .before .before .before .before .before .before .before .before .before .before .before .before .before .before .before .before .before .before .before .before .before .before .before .before .before .before .before .pre .1 .1 .0 .0)
-
-same-length-4 : tie.Need-same-length-4 Inv-loop μ-loop
-same-length-4 c = next (c .before .before .before .before .before .before .before .before .before) .room .sizes .marks ∙ sym (c .before .before .before .before .before .before .before .before .before .before .before .before .before .before .before .before .before .before .before .before .before .before .before .before .before .before .before .before .before .pre .1 .1 .1 .1 .marks .size)
-
-same-length-5 : tie.Need-same-length-5 Inv-loop μ-loop
-same-length-5 c = next (c .before .before .before .before .before .before .before .before .before) .room .sizes .costs ∙ sym (c .before .before .before .before .before .before .before .before .before .before .before .before .before .before .before .before .before .before .before .before .before .before .before .before .before .before .before .before .before .pre .1 .1 .1 .1 .costs)
-
-same-length-6 : tie.Need-same-length-6 Inv-loop μ-loop
-same-length-6 c = next (c .before .before .before .before .before .before .before .before .before) .room .sizes .cells ∙ sym (c .before .before .before .before .before .before .before .before .before .before .before .before .before .before .before .before .before .before .before .before .before .before .before .before .before .before .before .before .before .pre .1 .1 .1 .1 .cells)
+goal-marked-requires : tie.Need-goal-marked-requires Inv-loop μ-loop
+goal-marked-requires c κs =
+    let marked = marking (c .before .before .before) in
+    omega (arith, next marked .room .sizes .marks, start (turn marked) .pre .1 .1 .0 .0)
 
 returns-2 : tie.Need-returns-2 Inv-loop μ-loop
 returns-2 c =
-    let a = c .before .before .before .before .before .before .before .before .before .before .before .before .before .before .before .before .before .before .before .before .before .before .before .before .before .before .before .before .before in
-    let l = c .before .before .before .before .before .before .before .before .before .before .before .before .before .before .loop in
-    next-framed (flat (a .args .width) (a .args .height) (a .args .floor .now)) (a .pre .0) (a .args .s) (a .args .goal) (a .args .depth) (a .args .base) (l .k) (l .from) (l .r) _ (l .inv .5) (l .inv .3) (l .inv .2) (l .inv .4) _ (c .before .before .before .before .before .before .before .before .before .spread .ensures) (omega arith)
-    (omega (arith, next (c .before .before .before .before .before .before .before .before .before) .spread .upto, c .before .before .if1 .left)) (c .if2 .taken)
-
-loop-less : tie.Need-loop-less Inv-loop μ-loop
-loop-less c = omega arith
+    let tested = c .before in
+    let marked = marking (tested .before .before .before .before) in
+    let l = turn marked .loop in
+    next-framed _ (start (turn marked) .pre .0) _ _ _ _ _ _ _ _ (l .inv .5) (l .inv .3) (l .inv .2) (l .inv .4) _ (marked .spread .ensures) (omega arith)
+    (omega (arith, next marked .spread .upto, tested .before .before .if1 .left)) (leb-true _ _ (sym (tested .goal-marked .ensures) ∙ c .if2 .taken))
 
 loop-again : tie.Need-loop-again Inv-loop μ-loop
 loop-again c =
-    let a = c .before .before .before .before .before .before .before .before .before .before .before .before .before .before .before .before .before .before .before .before .before .before .before .before .before .before .before .before .before in
-    let l = c .before .before .before .before .before .before .before .before .before .before .before .before .before .before .loop in
-    let n = next (c .before .before .before .before .before .before .before .before .before) in
-    let h : l .to < c .before .before .before .before .before .before .before .before .before .spread .result = omega (arith, n .spread .upto, c .before .before .if1 .left) in (
+    let tested = c .before in
+    let marked = marking (tested .before .before .before .before) in
+    let l = turn marked .loop in
+    let n = next marked in
+    let h : l .to < marked .spread .result = omega (arith, n .spread .upto, tested .before .before .if1 .left) in (
       omega arith,
       h,
-      omega (arith, c .if2 .left),
+      leb-false _ _ (sym (tested .goal-marked .ensures) ∙ c .if2 .left),
       omega (arith, l .inv .3),
-      full-next (flat (a .args .width) (a .args .height) (a .args .floor .now)) (a .pre .0) (a .args .s) (a .args .base) (l .k) (l .from) _ (l .inv .5) _ (c .before .before .before .before .before .before .before .before .before .spread .ensures) h (l .inv .4),
+      full-next _ (start (turn marked) .pre .0) _ _ _ _ _ (l .inv .5) _ (marked .spread .ensures) h (l .inv .4),
       n,
     )
 
-same-length-7 : tie.Need-same-length-7 Inv-loop μ-loop
-same-length-7 c = c .before .loop .inv .5 .room .sizes .marks ∙ sym (c .before .before .before .before .before .before .before .before .before .before .before .before .before .before .before .before .pre .1 .1 .1 .1 .marks .size)
-
-same-length-8 : tie.Need-same-length-8 Inv-loop μ-loop
-same-length-8 c = c .before .loop .inv .5 .room .sizes .costs ∙ sym (c .before .before .before .before .before .before .before .before .before .before .before .before .before .before .before .before .pre .1 .1 .1 .1 .costs)
-
-same-length-9 : tie.Need-same-length-9 Inv-loop μ-loop
-same-length-9 c = c .before .loop .inv .5 .room .sizes .cells ∙ sym (c .before .before .before .before .before .before .before .before .before .before .before .before .before .before .before .before .pre .1 .1 .1 .1 .cells)
+-- after the last turn the lists have their lengths still
+lengths : (c : tie.After-loop Inv-loop μ-loop) →
+    let a = start (c .before) .args in
+    let l = c .before .loop in
+    (length (l .mark) ≡ length (a .mark .now)) × (length (l .cost) ≡ length (a .cost .now)) × (length (l .list) ≡ length (a .list .now))
+lengths c =
+    let n = c .before .loop .inv .5 .room .sizes in
+    let p = start (c .before) .pre .1 .1 .1 .1 in
+    (n .marks ∙ sym (p .marks .size), n .costs ∙ sym (p .costs), n .cells ∙ sym (p .cells))
 
 returns-3 : tie.Need-returns-3 Inv-loop μ-loop
 returns-3 c =
-    let a = c .before .before .before .before .before .before .before .before .before .before .before .before .before .before .before .before in
+    let a = start (c .before) in
     let l = c .before .loop in
-    level-framed (flat (a .args .width) (a .args .height) (a .args .floor .now)) (a .pre .0) (a .args .s) (a .args .goal) (a .args .depth) (a .args .base) (l .k) (l .from) (l .r) _ (l .inv .5) (l .inv .3) (l .inv .2) (l .inv .4) (omega arith) (a .pre .1 .1 .1 .0 .0)
+    level-framed _ (a .pre .0) _ _ _ _ _ _ _ _ (l .inv .5) (l .inv .3) (l .inv .2) (l .inv .4) (omega arith) (a .pre .1 .1 .1 .0 .0)
 
 pub rings-spec : {M : Type 1} → statement M
 rings-spec =
@@ -141,21 +156,20 @@ rings-spec =
     begin-requires
     loop-holds
     spread-requires
-    add-r
+    (λ c. omega arith)
     add-k
-    same-length
-    same-length-2
-    same-length-3
+    (λ c. kept (marking (c .before .before)) .0)
+    (λ c. kept (marking (c .before .before)) .1)
+    (λ c. kept (marking (c .before .before)) .2)
     returns
-    mul-if2
-    slice-read-if2
-    same-length-4
-    same-length-5
-    same-length-6
+    goal-marked-requires
+    (λ c. kept (marking (c .before .before .before .before .before)) .0)
+    (λ c. kept (marking (c .before .before .before .before .before)) .1)
+    (λ c. kept (marking (c .before .before .before .before .before)) .2)
     returns-2
-    loop-less
+    (λ c. omega arith)
     loop-again
-    same-length-7
-    same-length-8
-    same-length-9
+    (λ c. lengths c .0)
+    (λ c. lengths c .1)
+    (λ c. lengths c .2)
     returns-3)

@@ -19,66 +19,77 @@ Inv-loop width height floor base mark₀ cost₀ list₀ from to k end₀ i₀ m
 abbrev μ-loop : tie.MeasureT-loop
 μ-loop width height floor base mark₀ cost₀ list₀ from to k end₀ i₀ mark cost list end i = to - i
 
+-- the call's start, from the loop; and the loop, from where the cell is known
+abbrev to-start : tie.At-loop Inv-loop μ-loop → tie.Start Inv-loop μ-loop
+to-start c = c .before .before .before .before .before
+
+abbrev to-loop : tie.After-wide16 Inv-loop μ-loop → tie.At-loop Inv-loop μ-loop
+to-loop c = c .before .before .before
+
 -- the cell at i is the one that stood there at the start, and has the mark k
-cell-eq : (c : tie.After-wide16 Inv-loop μ-loop) → getD (c .before .before .before .before .before .before .before .before .args .list .now) (c .before .before .before .loop .i) 0 ≡ c .wide16 .result
-cell-eq c = let l = c .before .before .before .loop in sym (l .inv .2 .grew .kept .cells (l .i) (omega arith)) ∙ sym (c .wide16 .ensures .0)
+cell-eq : (c : tie.After-wide16 Inv-loop μ-loop) → getD (to-start (to-loop c) .args .list .now) (to-loop c .loop .i) 0 ≡ c .wide16 .result
+cell-eq c = let l = to-loop c .loop in sym (l .inv .2 .grew .kept .cells (l .i) (omega arith)) ∙ sym (c .wide16 .ensures .0)
 
-marked : (c : tie.After-wide16 Inv-loop μ-loop) → getD (c .before .before .before .before .before .before .before .before .args .mark .now) (c .wide16 .result) 0 ≡ c .before .before .before .before .before .before .before .before .args .k
-marked c = let l = c .before .before .before .loop in rw (cell-eq c) at (c .before .before .before .before .before .before .before .before .pre .1 .1 .marked (l .i) (l .inv .1) (omega arith))
+marked : (c : tie.After-wide16 Inv-loop μ-loop) → let a = to-start (to-loop c) .args in getD (a .mark .now) (c .wide16 .result) 0 ≡ a .k
+marked c = let l = to-loop c .loop in rw (cell-eq c) at (to-start (to-loop c) .pre .1 .1 .marked (l .i) (l .inv .1) (omega arith))
 
-inside : (c : tie.After-wide16 Inv-loop μ-loop) → In (c .before .before .before .before .before .before .before .before .args .base) (c .before .before .before .before .before .before .before .before .args .mark .now) (c .wide16 .result)
-inside c = omega (arith, marked c, c .before .before .before .before .before .before .before .before .pre .1 .1 .ring .first)
+inside : (c : tie.After-wide16 Inv-loop μ-loop) → let a = to-start (to-loop c) .args in In (a .base) (a .mark .now) (c .wide16 .result)
+inside c = omega (arith, marked c, to-start (to-loop c) .pre .1 .1 .ring .first)
 
 loop-holds : tie.Need-loop-holds Inv-loop μ-loop
 loop-holds c =
     let a = c .before .before .before .before in
-    (a .pre .1 .1 .order, omega arith, swept-none (flat (a .args .width) (a .args .height) (a .args .floor .now)) (a .args .base) (a .args .k) (a .args .from) _ (a .pre .1 .0))
-
-mul-wide16 : tie.Need-mul-wide16 Inv-loop μ-loop
-mul-wide16 c = search needs
+    (a .pre .1 .1 .order, omega arith, swept-none _ _ _ _ _ (a .pre .1 .0))
 
 slice-read-wide16 : tie.Need-slice-read-wide16 Inv-loop μ-loop
-slice-read-wide16 c = omega (arith, c .before .before .loop .inv .2 .grew .room .sizes .cells, c .before .before .before .before .before .before .before .pre .1 .0 .sizes .count)
-
-wide16-requires : tie.Need-wide16-requires Inv-loop μ-loop
-wide16-requires c κs = tt
-
-mul-w : tie.Need-mul-w Inv-loop μ-loop
-mul-w c = search needs
+slice-read-wide16 c =
+    let start = to-start (c .before .before) in
+    omega (arith, c .before .before .loop .inv .2 .grew .room .sizes .cells, start .pre .1 .0 .sizes .count)
 
 slice-read-w : tie.Need-slice-read-w Inv-loop μ-loop
 slice-read-w c =
-    let a = c .before .before .before .before .before .before .before .before .before in
-    omega (arith, free-few (flat (a .args .width) (a .args .height) (a .args .floor .now)) (c .before .wide16 .result) (a .pre .0) (a .pre .1 .0 .free _ (inside (c .before))), c .before .before .before .before .loop .inv .2 .grew .room .sizes .costs)
+    let start = to-start (to-loop (c .before)) in
+    let a = start in
+    omega (arith, free-few _ (c .before .wide16 .result) (a .pre .0) (a .pre .1 .0 .free _ (inside (c .before))), c .before .before .before .before .loop .inv .2 .grew .room .sizes .costs)
 
 visit-requires : tie.Need-visit-requires Inv-loop μ-loop
 visit-requires c κs =
-    let a = c .before .before .before .before .before .before .before .before .before .before .before .before in
-    let g = c .before .before .before .before .before .before .before .loop .inv .2 .grew in
-    let x = c .before .before .before .before .wide16 .result in
-    let p = inside (c .before .before .before .before) in
-    (a .pre .0, (g .room, record { free = a .pre .1 .0 .free x p; ring = a .pre .1 .1 .ring; marked = g .kept .marks x p ∙ marked (c .before .before .before .before); costs = refl }))
+    let after-wide16 = c .before .before .before .before in
+    let at-loop = after-wide16 .before .before .before in
+    let start = at-loop .before .before .before .before .before in
+    let a = start in
+    let g = at-loop .loop .inv .2 .grew in
+    let x = after-wide16 .wide16 .result in
+    let p = inside (after-wide16) in
+    (a .pre .0, (g .room, record { free = a .pre .1 .0 .free x p; ring = a .pre .1 .1 .ring; marked = g .kept .marks x p ∙ marked (after-wide16); costs = refl }))
 
 add-list : tie.Need-add-list Inv-loop μ-loop
-add-list c = omega (arith, c .before .before .before .before .before .before .before .before .before .before .before .before .before .before .before .before .before .before .before .pre .1 .0 .sizes .count)
+add-list c =
+    let after-visit = c .before .before .before .before .before .before in
+    let start = to-start (to-loop (after-visit .before .before .before .before .before)) in
+    omega (arith, start .pre .1 .0 .sizes .count)
 
 mul-list : tie.Need-mul-list Inv-loop μ-loop
-mul-list c = omega (arith, c .before .before .before .before .before .before .before .before .before .before .before .before .before .before .before .before .before .before .before .pre .1 .0 .sizes .count)
+mul-list c =
+    let after-visit = c .before .before .before .before .before .before in
+    let start = to-start (to-loop (after-visit .before .before .before .before .before)) in
+    omega (arith, start .pre .1 .0 .sizes .count)
 
 slice-write-list : tie.Need-slice-write-list Inv-loop μ-loop
-slice-write-list c = omega (arith, c .before .before .before .before .before .before .before .before .before .before .before .before .before .before .before .before .before .before .before .pre .1 .0 .sizes .count, c .before .before .before .before .before .before .visit .ensures .grew .room .sizes .cells)
-
-add-i : tie.Need-add-i Inv-loop μ-loop
-add-i c = omega arith
-
-loop-less : tie.Need-loop-less Inv-loop μ-loop
-loop-less c = omega arith
+slice-write-list c =
+    let after-visit = c .before .before .before .before .before .before in
+    let start = to-start (to-loop (after-visit .before .before .before .before .before)) in
+    omega (arith, start .pre .1 .0 .sizes .count, c .before .before .before .before .before .before .visit .ensures .grew .room .sizes .cells)
 
 loop-again : tie.Need-loop-again Inv-loop μ-loop
 loop-again c =
-    let a = c .before .before .before .before .before .before .before .before .before .before .before .before .before .before .before .before .before .before .before in
-    let l = c .before .before .before .before .before .before .before .before .before .before .before .before .before .before .loop in
-    (omega arith, omega arith, swept-more (flat (a .args .width) (a .args .height) (a .args .floor .now)) (a .args .base) (a .args .k) (a .args .from) (l .i) _ _ _ _ _ (omega arith) (cell-eq (c .before .before .before .before .before .before .before .before .before .before .before)) (l .inv .2) (c .before .before .before .before .before .before .visit .ensures))
+    let after-visit = c .before .before .before .before .before .before in
+    let after-wide16 = after-visit .before .before .before .before .before in
+    let at-loop = after-wide16 .before .before .before in
+    let start = at-loop .before .before .before .before .before in
+    let a = start in
+    let l = at-loop .loop in
+    (omega arith, omega arith, swept-more _ _ _ _ _ _ _ _ _ _ (omega arith) (cell-eq (after-wide16)) (l .inv .2) (c .before .before .before .before .before .before .visit .ensures))
 
 same-length : tie.Need-same-length Inv-loop μ-loop
 same-length c = c .before .loop .inv .2 .grew .room .sizes .marks ∙ sym (c .before .before .before .before .before .before .pre .1 .0 .sizes .marks)
@@ -103,17 +114,17 @@ spread-spec =
     Inv-loop
     μ-loop
     loop-holds
-    mul-wide16
+    (λ c. search needs)
     slice-read-wide16
-    wide16-requires
-    mul-w
+    (λ c κs. tt)
+    (λ c. search needs)
     slice-read-w
     visit-requires
     add-list
     mul-list
     slice-write-list
-    add-i
-    loop-less
+    (λ c. omega arith)
+    (λ c. omega arith)
     loop-again
     same-length
     same-length-2

@@ -3,8 +3,9 @@
 use Prim.Native.Nat.{_-_, _≤_}
 use mathlib.Core.Path.{_≡_, sym, _∙_, subst}
 use native.Mathlib.Omega.{arith}
+use lib.ListN.{length}
 use Rattle.model.proofs.Moves.{free-few}
-use Rattle.floor.specs.Moves.{flat}
+use Rattle.floor.specs.Moves.{flat, Placed}
 use Rattle.lookahead.proofs.Grow.{left-none, left-more}
 use Rattle.lookahead.specs.Marks.{state, Left}
 use Rattle.lookahead.proofs.rings.visit.Statement.{statement}
@@ -18,48 +19,48 @@ abbrev μ-loop : tie.MeasureT-loop
 μ-loop width height floor base mark₀ cost₀ list₀ n c k w spot end₀ m₀ mark cost list end m = 8 - m
 
 spot-of-requires : tie.Need-spot-of-requires Inv-loop μ-loop
-spot-of-requires c κs = let a = c .before .before .before .before in (a .pre .0 .wide, free-few (flat (a .args .width) (a .args .height) (a .args .floor .now)) (a .args .c) (a .pre .0) (a .pre .1 .1 .free))
+spot-of-requires c κs = let a = c .before .before .before .before in (a .pre .0 .wide, free-few _ _ (a .pre .0) (a .pre .1 .1 .free))
 
 loop-holds : tie.Need-loop-holds Inv-loop μ-loop
-loop-holds c =
-    let a = c .before .before .before .before .before in
-    (omega arith, left-none (flat (a .args .width) (a .args .height) (a .args .floor .now)) (a .args .base) (a .args .k) (a .args .c) (a .args .w) _ (a .pre .1 .0) (a .pre .1 .1 .costs))
+loop-holds c = let a = c .before .before .before .before .before in (omega arith, left-none _ _ _ _ _ _ (a .pre .1 .0) (a .pre .1 .1 .costs))
+
+abbrev start : tie.At-loop Inv-loop μ-loop → tie.Start Inv-loop μ-loop
+start c = c .before .before .before .before .before .before
 
 extend-requires : tie.Need-extend-requires Inv-loop μ-loop
 extend-requires c κs =
-    let a = c .before .before .before .before .before .before .before .before .before .before in
+    let at-loop = c .before .before .before .before in
+    let a = start at-loop in
     let o = a .pre .1 .1 in
-    let L = c .before .before .before .before .loop .inv .1 in
+    let L = at-loop .loop .inv .1 in
     let k = L .grew .kept .marks (a .args .c) (omega (arith, o .marked, o .ring .first)) in
-    (a .pre .0, (L .grew .room, (record { placed = record { free = o .free; spot = c .before .before .before .before .before .spot-of .ensures _ }; ring = o .ring; marked = k ∙ o .marked; costs = L .stays }, omega arith)))
-
-add-m : tie.Need-add-m Inv-loop μ-loop
-add-m c = omega arith
-
-loop-less : tie.Need-loop-less Inv-loop μ-loop
-loop-less c = omega arith
+    let P : Placed (flat (a .args .width) (a .args .height) (a .args .floor .now)) (a .args .c) _ = record { free = o .free; spot = at-loop .before .spot-of .ensures _ } in
+    (a .pre .0, (L .grew .room, (record { placed = P; ring = o .ring; marked = k ∙ o .marked; costs = L .stays }, omega arith)))
 
 loop-again : tie.Need-loop-again Inv-loop μ-loop
 loop-again c =
-    let a = c .before .before .before .before .before .before .before .before .before .before .before .before .before .before .before .before .before in
-    let l = c .before .before .before .before .before .before .before .before .before .before .before .loop in
-    (omega arith, left-more (flat (a .args .width) (a .args .height) (a .args .floor .now)) (a .args .base) (a .args .k) (a .args .c) (l .m) (a .args .w) _ _ _ (l .inv .1) (c .before .before .before .before .before .before .extend .ensures))
+    let extended = c .before .before .before .before .before .before in
+    let l = extended .before .before .before .before .before .loop in
+    (omega (arith, l .inv .0), left-more _ _ _ _ _ _ _ _ _ (l .inv .1) (extended .extend .ensures))
 
-same-length : tie.Need-same-length Inv-loop μ-loop
-same-length c = c .before .loop .inv .1 .grew .room .sizes .marks ∙ sym (c .before .before .before .before .before .before .before .pre .1 .0 .sizes .marks)
-
-same-length-2 : tie.Need-same-length-2 Inv-loop μ-loop
-same-length-2 c = c .before .loop .inv .1 .grew .room .sizes .costs ∙ sym (c .before .before .before .before .before .before .before .pre .1 .0 .sizes .costs)
-
-same-length-3 : tie.Need-same-length-3 Inv-loop μ-loop
-same-length-3 c = c .before .loop .inv .1 .grew .room .sizes .cells ∙ sym (c .before .before .before .before .before .before .before .pre .1 .0 .sizes .cells)
+-- the lists keep their lengths
+kept : (c : tie.After-loop Inv-loop μ-loop) →
+    let a = start (c .before) .args in
+    let l = c .before .loop in
+    (length (l .mark) ≡ length (a .mark .now)) × (length (l .cost) ≡ length (a .cost .now)) × (length (l .list) ≡ length (a .list .now))
+kept c =
+    let n = c .before .loop .inv .1 .grew .room .sizes in
+    let o = start (c .before) .pre .1 .0 .sizes in
+    (n .marks ∙ sym (o .marks), n .costs ∙ sym (o .costs), n .cells ∙ sym (o .cells))
 
 returns : tie.Need-returns Inv-loop μ-loop
 returns c =
-    let a = c .before .before .before .before .before .before .before .args in
+    let a = start (c .before) .args in
     let l = c .before .loop in
     let e : l .m ≡ 8 = omega arith in
-    subst (λ z. Left (flat (a .width) (a .height) (a .floor .now)) (a .base) (a .k) (a .c) z (a .w) (state (a .mark .now) (a .cost .now) (a .list .now) (a .n)) (state (l .mark) (l .cost) (l .list) (l .end))) e (l .inv .1)
+    let from = state (a .mark .now) (a .cost .now) (a .list .now) (a .n) in
+    let to = state (l .mark) (l .cost) (l .list) (l .end) in
+    subst (λ z. Left (flat (a .width) (a .height) (a .floor .now)) (a .base) (a .k) (a .c) z (a .w) from to) e (l .inv .1)
 
 pub visit-spec : {M : Type 1} → statement M
 visit-spec =
@@ -70,10 +71,10 @@ visit-spec =
     spot-of-requires
     loop-holds
     extend-requires
-    add-m
-    loop-less
+    (λ c. omega arith)
+    (λ c. omega arith)
     loop-again
-    same-length
-    same-length-2
-    same-length-3
+    (λ c. kept c .0)
+    (λ c. kept c .1)
+    (λ c. kept c .2)
     returns)

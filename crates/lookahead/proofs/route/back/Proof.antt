@@ -17,24 +17,18 @@ abbrev μ-loop : tie.MeasureT-loop
 μ-loop width height floor base mark cost x spot b₀ j₀ b j = 8 - j
 
 spot-of-requires : tie.Need-spot-of-requires Inv-loop μ-loop
-spot-of-requires c κs = let a = c .before .before .before in (a .pre .0 .wide, free-few (flat (a .args .width) (a .args .height) (a .args .floor .now)) (a .args .x) (a .pre .0) (a .pre .1 .0 .free (a .args .x) (a .pre .1 .1 .0)))
+spot-of-requires c κs = let a = c .before .before .before in (a .pre .0 .wide, free-few _ _ (a .pre .0) (a .pre .1 .0 .free (a .args .x) (a .pre .1 .1 .0)))
 
 loop-holds : tie.Need-loop-holds Inv-loop μ-loop
 loop-holds c =
     let a = c .before .before .before .before in
-    (omega arith, linked-none (flat (a .args .width) (a .args .height) (a .args .floor .now)) (a .pre .0) (a .args .base) (a .args .mark .now) (a .args .cost .now) (a .args .x) _ refl)
+    (omega arith, linked-none _ (a .pre .0) _ _ _ _ _ refl)
 
 consider-requires : tie.Need-consider-requires Inv-loop μ-loop
 consider-requires c κs =
     let p = c .before .before .before .before .before .before .pre in
     let x = c .before .before .before .before .before .before .args .x in
     (p .0, (p .1 .0, (record { marked = p .1 .1 .0; placed = record { free = p .1 .0 .free x (p .1 .1 .0); spot = c .before .before .spot-of .ensures _ } }, (omega arith, c .before .loop .inv .1))))
-
-add-j : tie.Need-add-j Inv-loop μ-loop
-add-j c = omega arith
-
-loop-less : tie.Need-loop-less Inv-loop μ-loop
-loop-less c = omega arith
 
 loop-again : tie.Need-loop-again Inv-loop μ-loop
 loop-again c = (omega arith, c .consider .ensures)
@@ -45,7 +39,7 @@ returns c =
     let l = c .before .loop in
     let e : l .j ≡ 8 = omega arith in
     let B = a .pre .1 .1 .1 in
-    linked-prior (flat (a .args .width) (a .args .height) (a .args .floor .now)) (a .pre .0) (a .args .base) (a .args .mark .now) (a .args .cost .now) (a .args .x) (l .b) (a .pre .1 .0) (subst (λ k. Linked (flat (a .args .width) (a .args .height) (a .args .floor .now)) (a .args .base) (a .args .mark .now) (a .args .cost .now) (a .args .x) k (l .b)) e (l .inv .1)) (B .0) (B .1)
+    linked-prior _ (a .pre .0) _ _ _ _ _ (a .pre .1 .0) (subst (λ k. Linked (flat (a .args .width) (a .args .height) (a .args .floor .now)) (a .args .base) (a .args .mark .now) (a .args .cost .now) (a .args .x) k (l .b)) e (l .inv .1)) (B .0) (B .1)
 
 pub back-spec : {M : Type 1} → statement M
 back-spec =
@@ -56,7 +50,7 @@ back-spec =
     spot-of-requires
     loop-holds
     consider-requires
-    add-j
-    loop-less
+    (λ c. omega arith)
+    (λ c. omega arith)
     loop-again
     returns)

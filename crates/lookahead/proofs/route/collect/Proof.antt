@@ -16,16 +16,16 @@ abbrev μ-loop : tie.MeasureT-loop
 μ-loop job floor s base mark cost x way₀ cell₀ k₀ way cell k = at cost cell
 
 loop-holds : tie.Need-loop-holds Inv-loop μ-loop
-loop-holds c = let a = c .before .before .before .before in collects-none (a .args .job) (a .args .floor .now) (a .args .s) (a .pre .0) (a .args .base) (a .args .mark .now) (a .args .cost .now) (a .pre .1 .0) (a .args .x) (a .args .way .now) (a .pre .1 .1 .0) (a .pre .1 .1 .1)
+loop-holds c = let a = c .before .before .before .before in collects-none _ _ _ (a .pre .0) _ _ _ (a .pre .1 .0) _ _ (a .pre .1 .1 .0) (a .pre .1 .1 .1)
 
 back-requires : tie.Need-back-requires Inv-loop μ-loop
 back-requires c κs =
     let a = c .before .before .before .before .before .before in
     let l = c .before .loop in
-    (a .pre .0 .sized, (costs-of (a .args .job) (a .args .floor .now) (a .args .s) (a .pre .0) (a .args .base) (a .args .mark .now) (a .args .cost .now) (a .pre .1 .0), (in-of (a .args .job) (a .args .floor .now) (a .args .s) (a .pre .0) (a .args .base) (a .args .mark .now) (a .args .cost .now) (a .pre .1 .0) (l .cell) (l .inv .near), some-prior (a .args .job) (a .args .floor .now) (a .args .s) (a .pre .0) (a .args .base) (a .args .mark .now) (a .args .cost .now) (a .pre .1 .0) (l .cell) (l .inv .near) (c .loop-test .taken))))
+    (a .pre .0 .sized, (costs-of _ _ _ (a .pre .0) _ _ _ (a .pre .1 .0), (in-of _ _ _ (a .pre .0) _ _ _ (a .pre .1 .0) _ (l .inv .near), some-prior _ _ _ (a .pre .0) _ _ _ (a .pre .1 .0) _ (l .inv .near) (c .loop-test .taken))))
 
 sub-k : tie.Need-sub-k Inv-loop μ-loop
-sub-k c = let a = c .before .before .before .before .before .before .before in collects-more (a .args .job) (a .args .floor .now) (a .args .s) (a .pre .0) (a .args .base) (a .args .mark .now) (a .args .cost .now) (a .pre .1 .0) (c .before .before .loop .cell) (c .before .before .loop .inv .near) (c .before .loop-test .taken) _ (c .back .ensures) (a .args .x) (c .before .before .loop .k) (c .before .before .loop .way) (c .before .before .loop .inv) .0
+sub-k c = let a = c .before .before .before .before .before .before .before in collects-more _ _ _ (a .pre .0) _ _ _ (a .pre .1 .0) (c .before .before .loop .cell) (c .before .before .loop .inv .near) (c .before .loop-test .taken) _ (c .back .ensures) _ (c .before .before .loop .k) (c .before .before .loop .way) (c .before .before .loop .inv) .0
 
 cast-way : tie.Need-cast-way Inv-loop μ-loop
 cast-way c = omega (arith, c .before .back .ensures .from .one)
@@ -35,21 +35,25 @@ slice-write-way c = let l = c .before .before .before .loop .inv in omega (arith
 
 loop-less : tie.Need-loop-less Inv-loop μ-loop
 loop-less c =
-    let a = c .before .before .before .before .before .before .before .before in
+    let at-loop = c .before .before .before in
+    let start = at-loop .before .before .before .before .before in
+    let a = start in
     let l = c .before .before .before .loop in
-    omega (arith, prior-cheap (a .args .job) (a .args .floor .now) (a .args .s) (a .pre .0) (a .args .base) (a .args .mark .now) (a .args .cost .now) (a .pre .1 .0) (l .cell) (l .inv .near) (c .before .before .loop-test .taken) _ (c .before .back .ensures))
+    omega (arith, prior-cheap _ _ _ (a .pre .0) _ _ _ (a .pre .1 .0) _ (l .inv .near) (c .before .before .loop-test .taken) _ (c .before .back .ensures))
 
 loop-again : tie.Need-loop-again Inv-loop μ-loop
 loop-again c =
-    let a = c .before .before .before .before .before .before .before .before in
+    let at-loop = c .before .before .before in
+    let start = at-loop .before .before .before .before .before in
+    let a = start in
     let l = c .before .before .before .loop in
-    collects-more (a .args .job) (a .args .floor .now) (a .args .s) (a .pre .0) (a .args .base) (a .args .mark .now) (a .args .cost .now) (a .pre .1 .0) (l .cell) (l .inv .near) (c .before .before .loop-test .taken) _ (c .before .back .ensures) (a .args .x) (l .k) (l .way) (l .inv) .1
+    collects-more _ _ _ (a .pre .0) _ _ _ (a .pre .1 .0) _ (l .inv .near) (c .before .before .loop-test .taken) _ (c .before .back .ensures) _ _ _ (l .inv) .1
 
 same-length : tie.Need-same-length Inv-loop μ-loop
 same-length c = c .before .loop .inv .size ∙ sym (c .before .before .before .before .before .before .pre .1 .1 .1)
 
 returns : tie.Need-returns Inv-loop μ-loop
-returns c = let a = c .before .before .before .before .before .before in let l = c .before .loop in collected (a .args .job) (a .args .floor .now) (a .args .s) (a .pre .0) (a .args .base) (a .args .mark .now) (a .args .cost .now) (a .pre .1 .0) (a .args .x) (l .k) (l .cell) (l .way) (c .loop-test .left) (l .inv)
+returns c = let a = c .before .before .before .before .before .before in let l = c .before .loop in collected _ _ _ (a .pre .0) _ _ _ (a .pre .1 .0) _ _ _ _ (c .loop-test .left) (l .inv)
 
 pub collect-spec : {M : Type 1} → statement M
 collect-spec =

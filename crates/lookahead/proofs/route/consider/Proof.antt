@@ -13,7 +13,7 @@ use Rattle.lookahead.proofs.route.consider.Statement.{statement}
 use Rattle.lookahead.proofs.route.consider.Tie as tie
 
 few : (c : tie.Start) → c .args .x < 4096
-few c = free-few (flat (c .args .width) (c .args .height) (c .args .floor .now)) (c .args .x) (c .pre .0) (c .pre .1 .1 .0 .placed .free)
+few c = free-few _ _ (c .pre .0) (c .pre .1 .1 .0 .placed .free)
 
 -- the step leads to the cell
 to-cell : (c : tie.After-cell) → let a = c .before .before .before .before .before .before .args in stepOf (flat (a .width) (a .height) (a .floor .now)) (a .x) (a .j) ≡ To (c .cell .given .0 .0) (c .cell .given .0 .1 .0)
@@ -21,75 +21,85 @@ to-cell c = sym (c .before .before .step-from .ensures) ∙ c .cell .given .1
 
 -- what that says of it
 at-cell : (c : tie.After-cell) → let a = c .before .before .before .before .before .before .args in Stepped (flat (a .width) (a .height) (a .floor .now)) (a .x) (a .j) (c .cell .given .0 .0) (c .cell .given .0 .1 .0)
-at-cell c = let a = c .before .before .before .before .before .before in stepped (flat (a .args .width) (a .args .height) (a .args .floor .now)) (a .pre .0) (a .args .x) (a .args .j) _ _ (to-cell c)
-
-step-from-requires : tie.Need-step-from-requires
-step-from-requires c κs = search needs
-
-enum-known-cell : tie.Need-enum-known-cell
-enum-known-cell c = search needs
+at-cell c = let a = c .before .before .before .before .before .before in stepped _ (a .pre .0) _ _ _ _ (to-cell c)
 
 mul-if1 : tie.Need-mul-if1
 mul-if1 c = omega (arith, at-cell (c .before) .few)
 
+-- from a place to one before it
+abbrev to-start : tie.After-cell → tie.Start
+to-start c = c .before .before .before .before .before .before
+
 shared-slice-read-if1 : tie.Need-shared-slice-read-if1
-shared-slice-read-if1 c = omega (arith, at-cell (c .before .before) .few, c .before .before .before .before .before .before .before .before .pre .1 .0 .marks)
+shared-slice-read-if1 c =
+    let start = to-start (c .before .before) in
+    omega (arith, at-cell (c .before .before) .few, start .pre .1 .0 .marks)
 
 returns : tie.Need-returns
 returns c =
-    let a = c .before .before .before .before .before .before .before .before .before in
-    linked-out (flat (a .args .width) (a .args .height) (a .args .floor .now)) (a .pre .0) (a .args .base) (a .args .mark .now) (a .args .cost .now) (a .args .x) (a .args .j) _ _ (a .args .b) (a .pre .1 .1 .1 .1) (to-cell (c .before .before .before)) (c .if1 .taken)
+    let start = to-start (c .before .before .before) in
+    let a = start in
+    linked-out _ (a .pre .0) _ _ _ _ _ _ _ _ (a .pre .1 .1 .1 .1) (to-cell (c .before .before .before)) (c .if1 .taken)
 
 mul-sum : tie.Need-mul-sum
 mul-sum c = omega (arith, at-cell (c .before .before .before) .few)
 
 shared-slice-read-sum : tie.Need-shared-slice-read-sum
-shared-slice-read-sum c = omega (arith, at-cell (c .before .before .before .before) .few, c .before .before .before .before .before .before .before .before .before .before .pre .1 .0 .costs)
+shared-slice-read-sum c =
+    let start = to-start (c .before .before .before .before) in
+    omega (arith, at-cell (c .before .before .before .before) .few, start .pre .1 .0 .costs)
 
 add-sum : tie.Need-add-sum
 add-sum c =
-    let a = c .before .before .before .before .before .before .before .before .before .before in
-    omega (arith, a .pre .1 .0 .small (c .before .before .before .before .cell .given .0 .0) (omega (arith, c .before .if1 .left)), at-cell (c .before .before .before .before) .most)
+    let after-cell = c .before .before .before .before in
+    let start = after-cell .before .before .before .before .before .before in
+    let a = start in
+    omega (arith, a .pre .1 .0 .small (after-cell .cell .given .0 .0) (omega (arith, c .before .if1 .left)), at-cell (after-cell) .most)
 
 mul-if2 : tie.Need-mul-if2
-mul-if2 c = omega (arith, few (c .before .before .before .before .before .before .before .before .before .before))
+mul-if2 c =
+    let start = to-start (c .before .before .before .before) in
+    omega (arith, few (start))
 
 shared-slice-read-if2 : tie.Need-shared-slice-read-if2
-shared-slice-read-if2 c = omega (arith, few (c .before .before .before .before .before .before .before .before .before .before .before), c .before .before .before .before .before .before .before .before .before .before .before .pre .1 .0 .costs)
+shared-slice-read-if2 c =
+    let start = to-start (c .before .before .before .before .before) in
+    omega (arith, few (start), start .pre .1 .0 .costs)
 
 returns-2 : tie.Need-returns-2
 returns-2 c =
-    let a = c .before .before .before .before .before .before .before .before .before .before .before .before in
-    linked-slack (flat (a .args .width) (a .args .height) (a .args .floor .now)) (a .pre .0) (a .args .base) (a .args .mark .now) (a .args .cost .now) (a .args .x) (a .args .j) _ _ (a .args .b) (a .pre .1 .1 .1 .1) (to-cell (c .before .before .before .before .before .before)) (c .if2 .taken)
+    let start = to-start (c .before .before .before .before .before .before) in
+    let a = start in
+    linked-slack _ (a .pre .0) _ _ _ _ _ _ _ _ (a .pre .1 .1 .1 .1) (to-cell (c .before .before .before .before .before .before)) (c .if2 .taken)
 
 returns-3 : tie.Need-returns-3
 returns-3 c =
-    let a = c .before .before .before .before .before .before .before .before .before .before .before .before .before .before in
-    linked-high (flat (a .args .width) (a .args .height) (a .args .floor .now)) (a .pre .0) (a .args .base) (a .args .mark .now) (a .args .cost .now) (a .args .x) (a .args .j) _ _ (a .args .b) (a .pre .1 .1 .1 .1) (to-cell (c .before .before .before .before .before .before .before .before)) (c .if3 .taken)
-
-add-t16 : tie.Need-add-t16
-add-t16 c = search needs
-
-enum-told : tie.Need-enum-told
-enum-told c = search needs
+    let else1 = c .before .before .before .before .before in
+    let after-cell = else1 .before .before .before in
+    let start = after-cell .before .before .before .before .before .before in
+    let a = start in
+    linked-high _ (a .pre .0) _ _ _ _ _ _ _ _ (a .pre .1 .1 .1 .1) (to-cell (after-cell)) (c .if3 .taken)
 
 returns-4 : tie.Need-returns-4
 returns-4 c =
-    let a = c .before .before .before .before .before .before .before .before .before .before .before .before .before .before in
-    linked-new (flat (a .args .width) (a .args .height) (a .args .floor .now)) (a .pre .0) (a .args .base) (a .args .mark .now) (a .args .cost .now) (a .args .x) (a .args .j) _ _ (a .args .b) (a .pre .1 .1 .1 .1) (to-cell (c .before .before .before .before .before .before .before .before)) (a .pre .1 .1 .1 .0)
+    let else1 = c .before .before .before .before .before in
+    let after-cell = else1 .before .before .before in
+    let start = after-cell .before .before .before .before .before .before in
+    let a = start in
+    linked-new _ (a .pre .0) _ _ _ _ _ _ _ _ (a .pre .1 .1 .1 .1) (to-cell (after-cell)) (a .pre .1 .1 .1 .0)
     (omega (arith, c .before .before .before .before .before .if1 .left)) (c .before .before .if2 .left) (omega (arith, c .if3 .left))
 
 returns-5 : tie.Need-returns-5
 returns-5 c =
     let a = c .before .before .before .before .before .before in
-    linked-wall (flat (a .args .width) (a .args .height) (a .args .floor .now)) (a .pre .0) (a .args .base) (a .args .mark .now) (a .args .cost .now) (a .args .x) (a .args .j) (a .args .b) (a .pre .1 .1 .1 .1) (sym (c .before .before .step-from .ensures) ∙ c .enum-told .given .1)
+    linked-wall _ (a .pre .0) _ _ _ _ _ _ (a .pre .1 .1 .1 .1) (sym (c .before .before .step-from .ensures) ∙ c .enum-told .given .1)
 
 pub consider-spec : {M : Type 1} → statement M
 consider-spec =
     tie.close
     (tie.spec
-    step-from-requires
-    enum-known-cell
+    (λ c κs. search needs)
+    (λ c. search needs)
     mul-if1
     shared-slice-read-if1
     returns
@@ -100,7 +110,7 @@ consider-spec =
     shared-slice-read-if2
     returns-2
     returns-3
-    add-t16
-    enum-told
+    (λ c. search needs)
+    (λ c. search needs)
     returns-4
     returns-5)
