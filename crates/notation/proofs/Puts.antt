@@ -6,7 +6,7 @@ use native.Mathlib.Omega.{arith}
 use native.Mathlib.Numerals.{add-one}
 use lib.ListN.{length, take, drop, set, length-append, length-drop}
 use lib.Seq.{take-at, drop-at, length-take-le, drop-drop, sets-eq}
-use Rattle.table_file.specs.Promises.{put}
+use Rattle.notation.specs.Puts.{put}
 
 pub length-put : (at : ℕ) (xs l : List ℕ) → at + length xs ≤ length l → length (put at xs l) ≡ length l
 length-put at xs l h =
