@@ -1,2 +1,3 @@
--- Laws of notation: Runs of digits.
+-- Laws of notation: Runs of digits, and Puts of bytes.
+pub mod Puts
 pub mod Runs

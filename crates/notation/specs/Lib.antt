@@ -1,2 +1,3 @@
--- What the functions of notation promise: Runs of digits.
+-- What the functions of notation promise: Runs of digits, and Puts of bytes.
+pub mod Puts
 pub mod Runs

@@ -1,4 +1,5 @@
-// How numbers are held and written, whatever they count: the same number in more bits; `digits` reads them.
+// How numbers are held and written, whatever they count: the same number in more bits; `digits` reads them from a text, `bytes` reads and writes them big-endian.
+pub mod bytes;
 pub mod digits;
 
 ghost use mathlib.Core.Path.{_≡_};

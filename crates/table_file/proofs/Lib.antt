@@ -1,4 +1,3 @@
--- Laws of the table file: Puts of bytes written, Reading and Writing of the file as a whole, and what they need.
-pub mod Puts
+-- Laws of the table file: Reading and Writing of the file as a whole.
 pub mod Reading
 pub mod Writing

@@ -22,8 +22,9 @@ use Rattle.model.specs.Checks.{finest}
 use Rattle.model.specs.TableFile.{half, word, changed, recordsOf, trailerOf, fileOf, unlike, fileRoom, writeVerdict, writeTable}
 use Rattle.model.proofs.Files.{changed-same, changed-more, changed-few, length-records, length-file, write-gives}
 use Rattle.model.proofs.Cells.{cells-le}
-use Rattle.table_file.specs.Promises.{Opened, put, Writes}
-use Rattle.table_file.proofs.Puts.{put-next, put-then, length-put}
+use Rattle.table_file.specs.Promises.{Opened, Writes}
+use Rattle.notation.specs.Puts.{put}
+use Rattle.notation.proofs.Puts.{put-next, put-then, length-put}
 use Rattle.table_file.proofs.Reading.{opened}
 
 -- 16, of one cell

@@ -1,8 +1,8 @@
 -- What the table calls promise, and what an opened table's job is known to meet.
-use Prim.Native.Nat.{ℕ, _+_, _-_, _≤_, _<_}
+use Prim.Native.Nat.{ℕ, _-_, _≤_, _<_}
 use mathlib.Core.Path.{_≡_}
-use mathlib.Core.List.{List, _++_}
-use lib.ListN.{length, take, drop}
+use mathlib.Core.List.{List}
+use lib.ListN.{length}
 use Rattle.answers.specs.Says.{saysVerdict, saysWritten}
 use Rattle.answers.specs.declared.Verdict.{Verdict}
 use Rattle.answers.specs.declared.Written.{Written}
@@ -16,10 +16,6 @@ pub record Opened (f : Floor) (q goal : ℕ) : Type 0 where
   pub sized : Sized f
   pub scale : q ≤ finest
   pub bench : goal < size f
-
--- bytes written over those from a place on
-abbrev pub put : ℕ → (bytes list : List ℕ) → List ℕ
-put at bytes list = take at list ++ (bytes ++ drop (at + length bytes) list)
 
 -- where in the file the records begin, and at its start where the trailer is faulty
 unfoldable pub startOf : List ℕ → ℕ

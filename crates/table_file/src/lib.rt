@@ -1,5 +1,4 @@
 // The table file: records of the figures that differ from the opening figure, and a trailer that points back to them.
-mod bytes;
 mod reader;
 mod trailer;
 mod writer;

@@ -9,8 +9,6 @@ ghost use Rattle.floor.specs.Moves.{flat};
 ghost use Rattle.table_file.specs.Site.{floorAt, goalsAt};
 ghost use Rattle.table_file.specs.Promises.{Opened, Reads};
 use super::Site;
-use super::bytes::half_at;
-use super::bytes::word_at;
 use super::trailer::count_in;
 use super::trailer::find_records;
 use super::trailer::trailer_holds;
@@ -18,6 +16,8 @@ use super::trailer::trailer_of;
 use answers::Place;
 use answers::Verdict;
 use floor::CEILING;
+use notation::bytes::half_at;
+use notation::bytes::word_at;
 
 // 14: width, height, goal or q not this job's.
 fn same_job(site: Site, file: &[u8]) -> Verdict

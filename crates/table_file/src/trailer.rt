@@ -5,9 +5,9 @@ ghost use lib.ListN.{length};
 ghost use Rattle.answers.specs.Says.{saysVerdict};
 ghost use Rattle.model.specs.TableFile.{trailer, countIn, backIn, isLetters, trailerHolds, checkTrailer, findRecords};
 ghost use Rattle.table_file.specs.Promises.{startOf};
-use super::bytes::half_at;
-use super::bytes::word_at;
 use answers::Verdict;
+use notation::bytes::half_at;
+use notation::bytes::word_at;
 
 // The last 16 bytes.
 pub fn trailer_of(file: &[u8]) -> &[u8]

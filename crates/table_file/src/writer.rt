@@ -7,15 +7,16 @@ ghost use Rattle.model.specs.Basics.{naming};
 ghost use Rattle.model.specs.Floor.{opening, goalsOf};
 ghost use Rattle.model.specs.TableFile.{half, word, recordsOf, unlike, writeVerdict, writeTable};
 ghost use Rattle.floor.specs.Moves.{flat};
+ghost use Rattle.notation.specs.Puts.{put};
 ghost use Rattle.table_file.specs.Site.{floorAt, goalsAt, changedAt};
-ghost use Rattle.table_file.specs.Promises.{Opened, put, Writes};
+ghost use Rattle.table_file.specs.Promises.{Opened, Writes};
 use super::Site;
-use super::bytes::put_half;
-use super::bytes::put_pair;
-use super::bytes::put_word;
 use answers::Place;
 use answers::Verdict;
 use answers::Written;
+use notation::bytes::put_half;
+use notation::bytes::put_pair;
+use notation::bytes::put_word;
 
 // The opening figure of a cell.
 fn opening_of(site: Site, floor: &[u8], cell: usize) -> usize

@@ -19,48 +19,40 @@ Inv-loop width height floor dist cell spot best₀ m₀ best m = BestTo (flat wi
 abbrev μ-loop : tie.MeasureT-loop
 μ-loop width height floor dist cell spot best₀ m₀ best m = 8 - m
 
+inside : (s : tie.Start Inv-loop μ-loop) → s .args .cell < length (now (s .args .dist))
+inside s =
+    let a = s .args in
+    omega (arith, free-below (flat (a .width) (a .height) (now (a .floor))) (a .cell) (s .pre .2), s .pre .1 .long)
+
+abbrev at-start : tie.At-loop Inv-loop μ-loop → tie.Start Inv-loop μ-loop
+at-start e = e .before .before .before .before .before
+
 spot-of-requires : tie.Need-spot-of-requires Inv-loop μ-loop
-spot-of-requires c κs = let a = c .before .before in (a .pre .0 .wide, free-few (flat (a .args .width) (a .args .height) (now (a .args .floor))) (a .args .cell) (a .pre .0) (a .pre .2))
+spot-of-requires c κs =
+    let s = c .before .before in
+    (s .pre .0 .wide, free-few (flat (s .args .width) (s .args .height) (now (s .args .floor))) (s .args .cell) (s .pre .0) (s .pre .2))
 
 mul-best : tie.Need-mul-best Inv-loop μ-loop
-mul-best c =
-    let a = c .before .before .before .args in
-    let f = flat (a .width) (a .height) (now (a .floor)) in
-    let p = c .before .before .before .pre in
-    let h : a .cell < length (now (a .dist)) = omega (arith, free-below f (a .cell) (p .2), p .1 .long) in search needs
-
-shared-slice-read-best : tie.Need-shared-slice-read-best Inv-loop μ-loop
-shared-slice-read-best c =
-    let start = c .before .before .before .before in
-    let a = start .args in
-    let f = flat (a .width) (a .height) (now (a .floor)) in
-    let p = start .pre in
-    omega (arith, free-below f (a .cell) (p .2), p .1 .long)
-
-loop-holds : tie.Need-loop-holds Inv-loop μ-loop
-loop-holds c = best-none _ _ _
+mul-best c = let h = inside (c .before .before .before) in search needs
 
 step-from-requires : tie.Need-step-from-requires Inv-loop μ-loop
 step-from-requires c κs =
-    let p = c .before .before .before .before .before .before .pre in
+    let p = at-start (c .before) .pre in
     (p .0, (record { free = p .2; spot = c .before .before .before .spot-of .ensures _ }, omega arith))
 
 through-requires : tie.Need-through-requires Inv-loop μ-loop
-through-requires c κs =
-    let after-spot-of = c .before .before .before .before in
-    let start = after-spot-of .before .before .before in
-    let p = start .pre in
-    step-leading _ _ _ _ (p .0) (p .1) _ (c .step-from .ensures)
+through-requires c κs = let p = at-start (c .before .before) .pre in step-leading _ _ _ _ (p .0) (p .1) _ (c .step-from .ensures)
 
 loop-again : tie.Need-loop-again Inv-loop μ-loop
 loop-again c =
-    let after-spot-of = c .before .before .before .before .before in
-    let start = after-spot-of .before .before .before in
-    let l = c .before .before .before .loop in
-    best-more _ _ _ _ _ _ (start .pre .0) (omega arith) (l .inv) (c .through .ensures ∙ ap (λ s. throughStep s (now (start .args .dist)) (l .best)) (c .before .step-from .ensures))
+    let at-loop = c .before .before .before in
+    let s = at-start at-loop in
+    let l = at-loop .loop in
+    let given = c .through .ensures ∙ ap (λ t. throughStep t (now (s .args .dist)) (l .best)) (c .before .step-from .ensures) in
+    best-more _ _ _ _ _ _ (s .pre .0) (omega arith) (l .inv) given
 
 returns : tie.Need-returns Inv-loop μ-loop
-returns c = best-all _ _ _ _ _ (c .before .before .before .before .before .before .pre .0) (omega arith) (c .before .loop .inv)
+returns c = best-all _ _ _ _ _ (at-start (c .before) .pre .0) (omega arith) (c .before .loop .inv)
 
 pub best-from-spec : {M : Type 1} → statement M
 best-from-spec =
@@ -70,8 +62,8 @@ best-from-spec =
     μ-loop
     spot-of-requires
     mul-best
-    shared-slice-read-best
-    loop-holds
+    (λ c. inside (c .before .before .before .before))
+    (λ c. best-none _ _ _)
     step-from-requires
     through-requires
     (λ c. search needs)

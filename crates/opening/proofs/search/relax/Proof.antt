@@ -8,6 +8,9 @@ use mathlib.Core.Path.{refl, sym, _∙_}
 use Rattle.opening.proofs.search.relax.Statement.{statement}
 use Rattle.opening.proofs.search.relax.Tie as tie
 
+abbrev at-start : tie.After-is-free → tie.Start
+at-start e = e .before .before .before
+
 returns : tie.Need-returns
 returns c = (refl, quiet-blocked _ (now (c .before .before .before .before .args .dist)) _ (sym (c .before .is-free .ensures) ∙ not-true _ (c .if1 .taken)))
 
@@ -18,15 +21,13 @@ best-from-requires c κs =
 
 returns-2 : tie.Need-returns-2
 returns-2 c =
-    let after-is-free = c .before .before .before .before .before in
-    let start = after-is-free .before .before .before in
+    let start = at-start (c .before .before .before .before .before) in
     let p = start .pre in
     lowered-one _ _ (p .1) (p .2) (c .if2 .taken) (c .before .before .best-from .ensures .met (c .if2 .taken))
 
 returns-3 : tie.Need-returns-3
 returns-3 c =
-    let after-is-free = c .before .before .before .before .before in
-    let start = after-is-free .before .before .before in
+    let start = at-start (c .before .before .before .before .before) in
     (refl, quiet-best _ (now (start .args .dist)) _ _ (c .before .before .best-from .ensures) (c .if2 .left))
 
 pub relax-spec : {M : Type 1} → statement M

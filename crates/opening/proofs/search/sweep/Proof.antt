@@ -4,7 +4,7 @@ use Prim.Native.Nat.{_-_, _*_, _≤_}
 use Rattle.floor.specs.Moves.{flat}
 use Rattle.model.proofs.Cells.{cells-le}
 use Rattle.opening.proofs.Sweeping.{lowered-spread, swept-lowered, swept-none, swept-more}
-use Rattle.opening.specs.Search.{Swept}
+use Rattle.opening.specs.Search.{Spread, Swept}
 use borrow.Author.Needs.{needs}
 use denote.Ref.{now}
 use lib.Dec.{lit<}
@@ -29,14 +29,15 @@ loop-holds c =
     let f = flat (a .width) (a .height) (now (a .floor)) in
     (omega arith, swept-none f (a .down) _)
 
+-- what the visits so far have left is still spread over the floor
+spread : (e : tie.At-loop Inv-loop μ-loop) → let a = e .before .before .before .args in Spread (flat (a .width) (a .height) (now (a .floor))) (e .loop .dist)
+spread e =
+    let s = e .before .before .before in
+    let l = e .loop in
+    lowered-spread (swept-lowered _ (s .args .down) (l .changed) (l .k) (now (s .args .dist)) (l .dist) (l .inv .1)) (s .pre .1)
+
 relax-requires : tie.Need-relax-requires Inv-loop μ-loop
-relax-requires c κs =
-    let start = c .before .before .before .before .before .before in
-    let a = start .args in
-    let f = flat (a .width) (a .height) (now (a .floor)) in
-    let l = c .before .before .before .loop in
-    let p = start .pre in
-    (p .0, lowered-spread (swept-lowered f (a .down) (l .changed) (l .k) (now (a .dist)) (l .dist) (l .inv .1)) (p .1), c .before .in-order .ensures .1)
+relax-requires c κs = let e = c .before .before .before in (e .before .before .before .pre .0, spread e, c .before .in-order .ensures .1)
 
 loop-again : tie.Need-loop-again Inv-loop μ-loop
 loop-again c =
@@ -52,13 +53,7 @@ loop-again c =
     )
 
 same-length : tie.Need-same-length Inv-loop μ-loop
-same-length c =
-    let start = c .before .before .before .before in
-    let a = start .args in
-    let f = flat (a .width) (a .height) (now (a .floor)) in
-    let l = c .before .loop in
-    let p = start .pre in
-    lowered-spread (swept-lowered f (a .down) (l .changed) (l .k) (now (a .dist)) (l .dist) (l .inv .1)) (p .1) .long ∙ sym (p .1 .long)
+same-length c = spread (c .before) .long ∙ sym (c .before .before .before .before .pre .1 .long)
 
 returns : tie.Need-returns Inv-loop μ-loop
 returns c =

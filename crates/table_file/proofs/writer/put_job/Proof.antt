@@ -4,7 +4,7 @@ use Prim.Native.Nat.{_%_}
 use mathlib.Core.Path.{refl}
 use mathlib.Core.List.{[], _∷_}
 use Rattle.model.specs.TableFile.{half}
-use Rattle.table_file.proofs.Puts.{put-then}
+use Rattle.notation.proofs.Puts.{put-then}
 use borrow.Author.Needs.{needs}
 use native.Mathlib.Omega.{arith}
 use Rattle.table_file.proofs.writer.put_job.Statement.{statement}

@@ -2,7 +2,7 @@
 -- Assumes nothing.
 use mathlib.Core.Path.{refl}
 use Rattle.model.specs.TableFile.{half, word}
-use Rattle.table_file.proofs.Puts.{put-then}
+use Rattle.notation.proofs.Puts.{put-then}
 use borrow.Author.Needs.{needs}
 use native.Mathlib.Omega.{arith}
 use Rattle.table_file.proofs.writer.put_record.Statement.{statement}

@@ -1,11 +1,11 @@
--- `table_file::bytes::put_pair` meets its contract: two stores in a row.
+-- `notation::bytes::put_pair` meets its contract: two stores in a row.
 -- Assumes nothing.
 use lib.ListN.{length-set}
-use Rattle.table_file.proofs.Puts.{put-two}
+use Rattle.notation.proofs.Puts.{put-two}
 use borrow.Author.Needs.{needs}
 use native.Mathlib.Omega.{arith}
-use Rattle.table_file.proofs.bytes.put_pair.Statement.{statement}
-use Rattle.table_file.proofs.bytes.put_pair.Tie as tie
+use Rattle.notation.proofs.bytes.put_pair.Statement.{statement}
+use Rattle.notation.proofs.bytes.put_pair.Tie as tie
 
 slice-write-out-2 : tie.Need-slice-write-out-2
 slice-write-out-2 c = simp length-set (omega arith)

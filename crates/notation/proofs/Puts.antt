@@ -6,7 +6,7 @@ use native.Mathlib.Omega.{arith}
 use native.Mathlib.Numerals.{add-one}
 use lib.ListN.{length, take, drop, set, length-append, length-drop}
 use lib.Seq.{take-at, drop-at, length-take-le, drop-drop, sets-eq}
-use Rattle.table_file.specs.Promises.{put}
+use Rattle.notation.specs.Puts.{put}
 
 pub length-put : (at : ℕ) (xs l : List ℕ) → at + length xs ≤ length l → length (put at xs l) ≡ length l
 length-put at xs l h =
@@ -15,13 +15,13 @@ length-put at xs l h =
     rw (length-append, length-append) (omega arith)
 
 -- what stands after the bytes put, and with them before it
-pub drop-put : (at : ℕ) (xs l : List ℕ) → at + length xs ≤ length l → drop (at + length xs) (put at xs l) ≡ drop (at + length xs) l
+drop-put : (at : ℕ) (xs l : List ℕ) → at + length xs ≤ length l → drop (at + length xs) (put at xs l) ≡ drop (at + length xs) l
 drop-put at xs l h =
     let a : length (take at l) ≡ at = length-take-le at l (omega arith) in
     let n : length (take at l ++ xs) ≡ at + length xs = length-append (take at l) xs ∙ ap (λ (k : ℕ). k + length xs) a in
     ap (drop (at + length xs)) (sym (append-assoc (take at l) xs (drop (at + length xs) l))) ∙ drop-at (take at l ++ xs) (drop (at + length xs) l) (at + length xs) n
 
-pub take-put : (at : ℕ) (xs l : List ℕ) → at + length xs ≤ length l → take (at + length xs) (put at xs l) ≡ take at l ++ xs
+take-put : (at : ℕ) (xs l : List ℕ) → at + length xs ≤ length l → take (at + length xs) (put at xs l) ≡ take at l ++ xs
 take-put at xs l h =
     let a : length (take at l) ≡ at = length-take-le at l (omega arith) in
     let n : length (take at l ++ xs) ≡ at + length xs = length-append (take at l) xs ∙ ap (λ (k : ℕ). k + length xs) a in

@@ -1,13 +1,13 @@
--- `table_file::bytes::put_word` meets its contract: a half after a half.
+-- `notation::bytes::put_word` meets its contract: a half after a half.
 -- Assumes nothing.
 use Prim.Native.Nat.{_/_}
 use mathlib.Core.Path.{refl}
 use Rattle.model.specs.TableFile.{half}
-use Rattle.table_file.proofs.Puts.{put-then}
+use Rattle.notation.proofs.Puts.{put-then}
 use borrow.Author.Needs.{needs}
 use native.Mathlib.Omega.{arith}
-use Rattle.table_file.proofs.bytes.put_word.Statement.{statement}
-use Rattle.table_file.proofs.bytes.put_word.Tie as tie
+use Rattle.notation.proofs.bytes.put_word.Statement.{statement}
+use Rattle.notation.proofs.bytes.put_word.Tie as tie
 
 returns : tie.Need-returns
 returns c =

@@ -4,15 +4,15 @@ ghost use mathlib.Core.List.{[], _∷_};
 ghost use Prim.Native.Nat.{_+_, _%_, _≤_, _<_};
 ghost use lib.ListN.{length};
 ghost use Rattle.model.specs.TableFile.{halfAt, wordAt, half, word};
-ghost use Rattle.table_file.specs.Promises.{put};
+ghost use Rattle.notation.specs.Puts.{put};
 
 // A number of 2 bytes, and one of 4, read at a place.
 pub fn half_at(bytes: &[u8], at: usize) -> usize
     requires { ⌜ at + 2 ≤ length (now bytes) ⌝ }
     ensures { λ r. ⌜ (r ≡ halfAt (now (bytes .entry)) at) × (r < 65536) ⌝ }
 {
-    let a = notation::wide8(bytes[at]);
-    let b = notation::wide8(bytes[at + 1]);
+    let a = super::wide8(bytes[at]);
+    let b = super::wide8(bytes[at + 1]);
     a * 256 + b
 }
 
