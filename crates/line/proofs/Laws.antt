@@ -280,7 +280,8 @@ module _ {input : List ℕ} {r : Reading} {i : ℕ} (g : Scanning input r i) (ru
           off (yes l) (yes m) (inr (inr z)) = sym (then-byte l) ∙ no-eighth (run .value) _ (drop (run .after + 1) input) no-digit-here (numbersOf r) (full (g .goes) z) (run .after - i) m
           off (yes l) (no m) k =
               let z : run .after - i ≡ 0 = omega arith in
-              sym (then-byte l) ∙ ap asks (ap (λ d. numbersIn d (run .value) (getD input (run .after) 0 ∷ drop (run .after + 1) input)) z ∙ no-number (run .value) _ (drop (run .after + 1) input) no-digit-here)
+              let none-here = no-number (run .value) _ (drop (run .after + 1) input) no-digit-here in
+              sym (then-byte l) ∙ ap asks (ap (λ d. numbersIn d (run .value) (getD input (run .after) 0 ∷ drop (run .after + 1) input)) z ∙ none-here)
 
       module _ (t : n .ok ≡ true) where
         pub pushed-end : getD input (run .after) 0 ≡ 10 → Scanned input n
