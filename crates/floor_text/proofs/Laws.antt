@@ -17,7 +17,8 @@ use Rattle.answers.specs.declared.Refusal.{Refusal}
 use Rattle.answers.specs.declared.Verdict.the-variants as Vd
 use Rattle.answers.specs.declared.FloorRead.the-variants as Fr
 use Rattle.model.specs.Basics.{choose, every, refuseAt}
-use Rattle.model.specs.FloorText.{begins, sizeBytes, header, heightIn, widthIn, rowsIn, afterHeight, afterWidth, typeAndHeight, andWidth, andMap, freeLetter, blockedLetter, byteOf, rowHolds, rows, cellsOf, readFloor, floorVerdict}
+use Rattle.model.specs.FloorText.{begins, sizeBytes, header, heightIn, widthIn, rowsIn, afterHeight, afterWidth, typeAndHeight, andWidth, andMap}
+use Rattle.model.specs.FloorText.{freeLetter, blockedLetter, byteOf, rowHolds, rows, cellsOf, readFloor, floorVerdict}
 use Rattle.model.proofs.Parts.{rest}
 use Rattle.floor_text.specs.Reads.{Sound, Reads}
 
@@ -179,7 +180,8 @@ module _ (ls part₀ part : List ℕ) (i : ℕ) (g : Stored ls part₀ part i) w
         let a = h .0 in
         let b : i < length part₀ = omega arith in
         let n : length (map byteOf (take i ls)) ≡ i = length-map (take i ls) byteOf ∙ length-take-le i ls (omega arith) in
-        rw (g .so-far, add-one, take-suc ls i 0, map-append (take i ls) (getD ls i 0 ∷ []), append-assoc, drop-cons part₀ i 0, set-at (map byteOf (take i ls)) (getD part₀ i 0) (drop (suc i) part₀) v i n, e);
+        let put = set-at (map byteOf (take i ls)) (getD part₀ i 0) (drop (suc i) part₀) v i n in
+        rw (g .so-far, add-one, take-suc ls i 0, map-append (take i ls) (getD ls i 0 ∷ []), append-assoc, drop-cons part₀ i 0, put, e);
   }
 
   pub stored-all : (length ls ≤ i) × (length part₀ ≡ length ls) → part ≡ map byteOf ls

@@ -45,11 +45,11 @@ enough (suc a) (suc b) n h k = go (decLe n 9) (enough a b (n / 10) (tens-down (s
     go (yes l) e = one-digit (suc a) n l ∙ sym (one-digit (suc b) n l)
     go (no l) e = last-digit (suc a) n (omega arith) ∙ ap (λ ds. ds ++ (48 + n % 10) ∷ []) e ∙ sym (last-digit (suc b) n (omega arith))
 
-pub digit-one : (n : ℕ) → n ≤ 9 → decimal n ≡ (48 + n) ∷ []
+digit-one : (n : ℕ) → n ≤ 9 → decimal n ≡ (48 + n) ∷ []
 digit-one n h = one-digit 19 n h
 
 -- a machine word
-pub digit-last : (n : ℕ) → 9 < n → n < 18446744073709551616 → decimal n ≡ decimal (n / 10) ++ (48 + n % 10) ∷ []
+digit-last : (n : ℕ) → 9 < n → n < 18446744073709551616 → decimal n ≡ decimal (n / 10) ++ (48 + n % 10) ∷ []
 unfolding tens
 digit-last n h k = last-digit 19 n h ∙ ap (λ ds. ds ++ (48 + n % 10) ∷ []) (enough 18 19 (n / 10) (omega arith) (omega arith))
 
@@ -66,7 +66,7 @@ pub digits-few : (n : ℕ) → length (decimal n) ≤ 20
 digits-few n = few 20 n
 
 -- one byte more
-pub sets-snoc : (l : List ℕ) (i : ℕ) (vs : List ℕ) (v : ℕ) → sets l i (vs ++ v ∷ []) ≡ set (sets l i vs) (i + length vs) v
+sets-snoc : (l : List ℕ) (i : ℕ) (vs : List ℕ) (v : ℕ) → sets l i (vs ++ v ∷ []) ≡ set (sets l i vs) (i + length vs) v
 sets-snoc l i [] v = ap (λ k. set l k v) (sym (add-zero i))
 sets-snoc l i (a ∷ vs) v = sets-snoc (set l i a) (suc i) vs v ∙ ap (λ k. set (sets (set l i a) (suc i) vs) k v) (suc-add i (length vs) ∙ sym (add-suc i (length vs)))
 

@@ -34,8 +34,10 @@ after-one ns v none = refl
 after-one ns v (some ms) = ap some (sym (append-assoc ns (v ∷ []) ms))
 
 -- seven numbers, one by one
-pub seven : (ns : List ℕ) → length ns ≡ 7
-    → ns ≡ getD ns 0 0 ∷ getD ns 1 0 ∷ getD ns 2 0 ∷ getD ns 3 0 ∷ getD ns 4 0 ∷ getD ns 5 0 ∷ getD ns 6 0 ∷ []
+abbrev sevenOf : List ℕ → List ℕ
+sevenOf ns = getD ns 0 0 ∷ getD ns 1 0 ∷ getD ns 2 0 ∷ getD ns 3 0 ∷ getD ns 4 0 ∷ getD ns 5 0 ∷ getD ns 6 0 ∷ []
+
+seven : (ns : List ℕ) → length ns ≡ 7 → ns ≡ sevenOf ns
 seven (a ∷ b ∷ c ∷ d ∷ e ∷ f ∷ g ∷ []) h = refl
 seven [] h = absurd (omega arith)
 seven (a ∷ []) h = absurd (omega arith)
@@ -280,7 +282,8 @@ module _ {input : List ℕ} {r : Reading} {i : ℕ} (g : Scanning input r i) (ru
           off (yes l) (yes m) (inr (inr z)) = sym (then-byte l) ∙ no-eighth (run .value) _ (drop (run .after + 1) input) no-digit-here (numbersOf r) (full (g .goes) z) (run .after - i) m
           off (yes l) (no m) k =
               let z : run .after - i ≡ 0 = omega arith in
-              sym (then-byte l) ∙ ap asks (ap (λ d. numbersIn d (run .value) (getD input (run .after) 0 ∷ drop (run .after + 1) input)) z ∙ no-number (run .value) _ (drop (run .after + 1) input) no-digit-here)
+              let none-here = no-number (run .value) _ (drop (run .after + 1) input) no-digit-here in
+              sym (then-byte l) ∙ ap asks (ap (λ d. numbersIn d (run .value) (getD input (run .after) 0 ∷ drop (run .after + 1) input)) z ∙ none-here)
 
       module _ (t : n .ok ≡ true) where
         pub pushed-end : getD input (run .after) 0 ≡ 10 → Scanned input n
@@ -326,14 +329,18 @@ none-some s e = subst holds e tt
     holds none = Unit {0}
     holds (some x) = ⊥
 
-pub said-some : (ns : List ℕ) (count k start : ℕ) (l : Line) (s : Settings) → count ≡ k → l ≡ Asked s start → settingsOf (take k ns) ≡ some s → Said ns count start l
-said-some ns count k start l s e f g = record { settings = ap asked f ∙ sym g ∙ ap (λ n. settingsOf (take n ns)) (sym e); text = λ u v. ap textOf f }
+pub said-some : (ns : List ℕ) (count k start : ℕ) (l : Line) (s : Settings) → length ns ≡ 7 → count ≡ k → l ≡ Asked s start → settingsOf (take k (sevenOf ns)) ≡ some s
+    → Said ns count start l
+said-some ns count k start l s h e f g = record {
+  settings = ap asked f ∙ sym g ∙ ap (λ m. settingsOf (take k m)) (sym (seven ns h)) ∙ ap (λ n. settingsOf (take n ns)) (sym e);
+  text = λ u v. ap textOf f;
+}
 
 pub said-none : (ns : List ℕ) (count start : ℕ) → length ns ≡ 7 → (count ≤ 7) × (count ≡ 2 → ⊥) × (count ≡ 3 → ⊥) × (count ≡ 5 → ⊥) × (count ≡ 6 → ⊥) × (count ≡ 7 → ⊥) → Said ns count start Malformed
 said-none ns count start h n = record { settings = sym (ap (λ l. settingsOf (take count l)) (seven ns h) ∙ few count n); text = λ s e. absurd (none-some s e) }
   where
     few : (k : ℕ) → (k ≤ 7) × (k ≡ 2 → ⊥) × (k ≡ 3 → ⊥) × (k ≡ 5 → ⊥) × (k ≡ 6 → ⊥) × (k ≡ 7 → ⊥)
-        → settingsOf (take k (getD ns 0 0 ∷ getD ns 1 0 ∷ getD ns 2 0 ∷ getD ns 3 0 ∷ getD ns 4 0 ∷ getD ns 5 0 ∷ getD ns 6 0 ∷ [])) ≡ none
+        → settingsOf (take k (sevenOf ns)) ≡ none
     few zero n = refl
     few (suc zero) n = refl
     few (suc (suc zero)) n = absurd (n .1 refl)

@@ -15,7 +15,7 @@ pub enum Line {
 }
 
 // A line being read: the numbers so far, and the place after the byte that ended the last. `ok` is false where it is malformed.
-pub struct Reading {
+struct Reading {
     pub ok: bool,
     pub numbers: [usize; 7],
     pub count: usize,

@@ -62,7 +62,7 @@ module _ (most value : ℕ) (text : List ℕ) (i : ℕ) where
       go (no h) = let e = drop-of-length-le text {i = i} (omega arith) in (ap digitsIn e, ap (valueIn most value) e)
 
 -- the byte after the last digit is none
-pub after-digits : (bs : List ℕ) → isDigit (getD bs (digitsIn bs) 0) ≡ false
+after-digits : (bs : List ℕ) → isDigit (getD bs (digitsIn bs) 0) ≡ false
 unfolding digitsIn
 after-digits [] = refl
 after-digits (b ∷ bs) = go (isDigit b) refl (after-digits bs)

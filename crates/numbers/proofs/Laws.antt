@@ -27,7 +27,7 @@ use Rattle.numbers.specs.Reading.{isBlank, greatest, digitsFrom, numberF
 use Rattle.numbers.specs.Printing.{fieldsOf}
 
 -- a digit that makes the number too great
-pub too-great : (b n : ℕ) → greatest < n → (isDigit b && leb n greatest) ≡ false
+too-great : (b n : ℕ) → greatest < n → (isDigit b && leb n greatest) ≡ false
 too-great b n h = not-both (isDigit b) (leb n greatest) (λ e. lt-leb n greatest h)
 
 -- the first byte of a number that goes on

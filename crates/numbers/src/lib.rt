@@ -8,7 +8,7 @@ ghost use lib.ListN.{length, take, drop};
 ghost use Rattle.numbers.specs.Reading.{isBlank, greatest, digitsFrom, numberAt, failed, numberIn, endedAt, Read, readList, listAt, severalAt};
 
 // What stands at a place of the input: a number and the place after it, nothing but blanks, or what is no number.
-pub enum Item {
+enum Item {
     Number { value: usize, after: usize },
     End,
     Malformed,
@@ -89,7 +89,7 @@ fn digits(input: &[u8], at: usize) -> Item
 }
 
 // What stands at a place, after any blanks.
-pub fn next(input: &[u8], at: usize) -> Item
+fn next(input: &[u8], at: usize) -> Item
     ensures { λ r. ⌜ r ≡ numberAt (now (input .entry)) at ⌝ }
 {
     let mut i = at;

@@ -15,33 +15,18 @@ Inv-loop word text i₀ i = Begun word text i
 abbrev μ-loop : tie.MeasureT-loop
 μ-loop word text i₀ i = length word - i
 
-returns : tie.Need-returns Inv-loop μ-loop
-returns c = sym (begins-short _ _ (omega arith))
-
-loop-holds : tie.Need-loop-holds Inv-loop μ-loop
-loop-holds c = begun _ _
-
-returns-2 : tie.Need-returns-2 Inv-loop μ-loop
-returns-2 c = begun-not _ _ _ (c .before .before .before .before .loop .inv) (c .if2 .taken) (omega arith)
-
-loop-again : tie.Need-loop-again Inv-loop μ-loop
-loop-again c = begun-more _ _ _ (c .before .before .before .before .loop .inv) (c .if2 .left) (omega arith)
-
-returns-3 : tie.Need-returns-3 Inv-loop μ-loop
-returns-3 c = begun-all _ _ _ (c .before .loop .inv) (omega arith)
-
 pub begins-with-spec : {M : Type 1} → statement M
 begins-with-spec =
     tie.close
     (tie.spec
     Inv-loop
     μ-loop
-    returns
-    loop-holds
+    (λ c. sym (begins-short _ _ (omega arith)))
+    (λ c. begun _ _)
     (λ c. search needs)
     (λ c. search needs)
-    returns-2
+    (λ c. begun-not _ _ _ (c .before .before .before .before .loop .inv) (c .if2 .taken) (omega arith))
     (λ c. search needs)
     (λ c. search needs)
-    loop-again
-    returns-3)
+    (λ c. begun-more _ _ _ (c .before .before .before .before .loop .inv) (c .if2 .left) (omega arith))
+    (λ c. begun-all _ _ _ (c .before .loop .inv) (omega arith)))

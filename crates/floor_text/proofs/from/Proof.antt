@@ -3,19 +3,8 @@
 use Rattle.model.proofs.Parts.{rest, rest-end}
 use borrow.Author.Needs.{needs}
 use native.Mathlib.Omega.{arith}
-use native.Mathlib.Omega.{arith}
-use Rattle.model.proofs.Parts.{rest, rest-end}
 use Rattle.floor_text.proofs.from.Statement.{statement}
 use Rattle.floor_text.proofs.from.Tie as tie
-
--- `floor_text::from` meets its contract: a part that runs to the end is all that is left.
--- Assumes nothing.
-
-returns : tie.Need-returns
-returns c = rest (c .before .before .args .at) (c .before .before .args .text .now)
-
-returns-2 : tie.Need-returns-2
-returns-2 c = rest-end (c .before .before .args .at) (c .before .before .args .text .now) (omega arith)
 
 pub from-spec : {M : Type 1} → statement M
 from-spec =
@@ -24,8 +13,8 @@ from-spec =
     (λ c. search needs)
     (λ c. search needs)
     (λ c. search needs)
-    returns
+    (λ c. rest (c .before .before .args .at) (c .before .before .args .text .now))
     (λ c. search needs)
     (λ c. search needs)
     (λ c. search needs)
-    returns-2)
+    (λ c. rest-end (c .before .before .args .at) (c .before .before .args .text .now) (omega arith)))

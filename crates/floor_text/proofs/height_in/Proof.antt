@@ -6,8 +6,5 @@ use borrow.Author.Needs.{needs}
 use Rattle.floor_text.proofs.height_in.Statement.{statement}
 use Rattle.floor_text.proofs.height_in.Tie as tie
 
-returns : tie.Need-returns
-returns c = (c .size-in .ensures .0 ∙ ap sizeIn (c .before .from .ensures), c .size-in .ensures .1)
-
 pub height-in-spec : {M : Type 1} → statement M
-height-in-spec = tie.close (tie.spec (λ c κs. search needs) (λ c κs. search needs) returns)
+height-in-spec = tie.close (tie.spec (λ c κs. search needs) (λ c κs. search needs) (λ c. (c .size-in .ensures .0 ∙ ap sizeIn (c .before .from .ensures), c .size-in .ensures .1)))

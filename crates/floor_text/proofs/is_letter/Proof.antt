@@ -5,12 +5,6 @@ use native.Mathlib.Omega.{arith}
 use Rattle.floor_text.proofs.is_letter.Statement.{statement}
 use Rattle.floor_text.proofs.is_letter.Tie as tie
 
-returns : tie.Need-returns
-returns c = simp (eq-eqb (c .before .args .b) 46 (omega arith))
-
-returns-2 : tie.Need-returns-2
-returns-2 c = simp (ne-eqb (c .before .before .args .b) 46 (omega arith), eq-eqb (c .before .before .args .b) 71 (omega arith))
-
 returns-3 : tie.Need-returns-3
 returns-3 c =
     let start = c .before .before .before in
@@ -27,4 +21,4 @@ returns-5 c =
     simp (ne-eqb (start .args .b) 46 (omega arith), ne-eqb (start .args .b) 71 (omega arith), ne-eqb (start .args .b) 64 (omega arith), ne-eqb (start .args .b) 79 (omega arith))
 
 pub is-letter-spec : {M : Type 1} → statement M
-is-letter-spec = tie.close (tie.spec returns returns-2 returns-3 returns-4 returns-5)
+is-letter-spec = tie.close (tie.spec (λ c. simp (eq-eqb (c .before .args .b) 46 (omega arith))) (λ c. simp (ne-eqb (c .before .before .args .b) 46 (omega arith), eq-eqb (c .before .before .args .b) 71 (omega arith))) returns-3 returns-4 returns-5)

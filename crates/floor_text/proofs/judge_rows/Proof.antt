@@ -16,17 +16,8 @@ Inv-loop width height text t₀ row₀ t row = Rowed width height text t row
 abbrev μ-loop : tie.MeasureT-loop
 μ-loop width height text t₀ row₀ t row = height - row
 
-loop-holds : tie.Need-loop-holds Inv-loop μ-loop
-loop-holds c = rowed _ _ _
-
 returns : tie.Need-returns Inv-loop μ-loop
 returns c = rowed-fault _ _ _ _ _ (c .before .before .before .loop .inv) (sym (c .before .row-holds .ensures) ∙ not-true _ (c .if1 .taken)) (omega arith)
-
-sub-t : tie.Need-sub-t Inv-loop μ-loop
-sub-t c = omega (arith, row-long _ _ (sym (c .before .row-holds .ensures) ∙ not-false _ (c .if1 .left)))
-
-part-t-start : tie.Need-part-t-start Inv-loop μ-loop
-part-t-start c = omega (arith, row-long _ _ (sym (c .before .row-holds .ensures) ∙ not-false _ (c .if1 .left)))
 
 loop-again : tie.Need-loop-again Inv-loop μ-loop
 loop-again c = rowed-more _ _ _ _ _ (c .before .before .before .before .loop .inv) (sym (c .before .before .row-holds .ensures) ∙ not-false _ (c .before .if1 .left)) (omega arith)
@@ -43,13 +34,13 @@ judge-rows-spec =
     (tie.spec
     Inv-loop
     μ-loop
-    loop-holds
+    (λ c. rowed _ _ _)
     (λ c κs. search needs)
     (λ c. search needs)
     returns
     (λ c. search needs)
-    sub-t
-    part-t-start
+    (λ c. omega (arith, row-long _ _ (sym (c .before .row-holds .ensures) ∙ not-false _ (c .if1 .left))))
+    (λ c. omega (arith, row-long _ _ (sym (c .before .row-holds .ensures) ∙ not-false _ (c .if1 .left))))
     (λ c. search needs)
     (λ c. search needs)
     (λ c. search needs)

@@ -12,18 +12,12 @@ use native.Mathlib.Omega.{arith}
 use Rattle.floor_text.proofs.read_header.Statement.{statement}
 use Rattle.floor_text.proofs.read_header.Tie as tie
 
-returns : tie.Need-returns
-returns c = no-type _ (sym (c .before .begins-with .ensures) ∙ not-true _ (c .if1 .taken))
-
 -- past the first line's test: the text, and that it begins as it must
 abbrev text : tie.Else1 → List ℕ
 text e = e .before .before .before .before .args .text .now
 
 typed : (e : tie.Else1) → begins typeAndHeight (text e) ≡ true
 typed e = sym (e .before .begins-with .ensures) ∙ not-false _ (e .if1 .left)
-
-returns-2 : tie.Need-returns-2
-returns-2 c = no-height _ _ (typed (c .before .before)) (c .before .height-in .ensures .0) (c .if2 .taken)
 
 returns-3 : tie.Need-returns-3
 returns-3 c =
@@ -70,9 +64,9 @@ read-header-spec =
     (tie.spec
     (λ c. search needs)
     (λ c κs. search needs)
-    returns
+    (λ c. no-type _ (sym (c .before .begins-with .ensures) ∙ not-true _ (c .if1 .taken)))
     (λ c κs. search needs)
-    returns-2
+    (λ c. no-height _ _ (typed (c .before .before)) (c .before .height-in .ensures .0) (c .if2 .taken))
     (λ c. search needs)
     (λ c κs. search needs)
     (λ c κs. search needs)

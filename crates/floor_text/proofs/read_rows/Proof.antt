@@ -10,12 +10,6 @@ use native.Mathlib.Omega.{arith}
 use Rattle.floor_text.proofs.read_rows.Statement.{statement}
 use Rattle.floor_text.proofs.read_rows.Tie as tie
 
-mul-if1 : tie.Need-mul-if1
-mul-if1 c = omega (arith, mul-le-mul (c .before .before .pre .narrow) (c .before .before .pre .low))
-
-returns : tie.Need-returns
-returns c = no-room _ _ _ _ (c .before .before .before .pre) (omega arith)
-
 -- once the rows were judged: they are the text's
 abbrev begun : tie.After-judge-rows → tie.Start
 begun e = e .before .before .before .before .before .before
@@ -46,8 +40,8 @@ pub read-rows-spec : {M : Type 1} → statement M
 read-rows-spec =
     tie.close
     (tie.spec
-    mul-if1
-    returns
+    (λ c. omega (arith, mul-le-mul (c .before .before .pre .narrow) (c .before .before .pre .low)))
+    (λ c. no-room _ _ _ _ (c .before .before .before .pre) (omega arith))
     (λ c κs. search needs)
     (λ c κs. search needs)
     (λ c κs. search needs)

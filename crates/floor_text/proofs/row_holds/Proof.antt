@@ -15,20 +15,11 @@ Inv-loop width text i₀ i = Lettered width text i
 abbrev μ-loop : tie.MeasureT-loop
 μ-loop width text i₀ i = width - i
 
-returns : tie.Need-returns Inv-loop μ-loop
-returns c = row-short _ _ (omega arith)
-
-loop-holds : tie.Need-loop-holds Inv-loop μ-loop
-loop-holds c = lettered _ _
-
 returns-2 : tie.Need-returns-2 Inv-loop μ-loop
 returns-2 c = row-not _ _ _ (c .before .before .before .before .loop .inv) (sym (c .before .is-letter .ensures) ∙ not-true _ (c .if2 .taken)) (omega arith)
 
 loop-again : tie.Need-loop-again Inv-loop μ-loop
 loop-again c = lettered-more _ _ _ (c .before .before .before .before .loop .inv) (sym (c .before .is-letter .ensures) ∙ not-false _ (c .if2 .left)) (omega arith)
-
-returns-3 : tie.Need-returns-3 Inv-loop μ-loop
-returns-3 c = row-end _ _ _ (c .before .before .loop .inv) (omega arith)
 
 pub row-holds-spec : {M : Type 1} → statement M
 row-holds-spec =
@@ -36,8 +27,8 @@ row-holds-spec =
     (tie.spec
     Inv-loop
     μ-loop
-    returns
-    loop-holds
+    (λ c. row-short _ _ (omega arith))
+    (λ c. lettered _ _)
     (λ c. search needs)
     (λ c κs. search needs)
     returns-2
@@ -45,4 +36,4 @@ row-holds-spec =
     (λ c. search needs)
     loop-again
     (λ c. search needs)
-    returns-3)
+    (λ c. row-end _ _ _ (c .before .before .loop .inv) (omega arith)))

@@ -8,15 +8,9 @@ use native.Mathlib.Omega.{arith}
 use Rattle.floor_text.proofs.size_in.Statement.{statement}
 use Rattle.floor_text.proofs.size_in.Tie as tie
 
-returns : tie.Need-returns
-returns c = (size-zero _ (sym (c .before .byte-at .ensures) ∙ c .if1 .taken), omega arith)
-
 -- past the first test: no zero stands in front
 no-zero : (e : tie.Else1) → getD (e .before .before .before .args .text .now) 0 0 ≡ 48 → ⊥
 no-zero e z = e .if1 .left (e .before .byte-at .ensures ∙ z)
-
-returns-2 : tie.Need-returns-2
-returns-2 c = (size-long _ _ (c .before .read .ensures) (no-zero (c .before .before)) (omega arith), omega arith)
 
 returns-3 : tie.Need-returns-3
 returns-3 c =
@@ -40,9 +34,9 @@ size-in-spec =
     tie.close
     (tie.spec
     (λ c κs. search needs)
-    returns
+    (λ c. (size-zero _ (sym (c .before .byte-at .ensures) ∙ c .if1 .taken), omega arith))
     (λ c κs. search needs)
-    returns-2
+    (λ c. (size-long _ _ (c .before .read .ensures) (no-zero (c .before .before)) (omega arith), omega arith))
     (λ c κs. search needs)
     returns-3
     returns-4

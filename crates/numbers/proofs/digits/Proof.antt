@@ -7,12 +7,6 @@ use Rattle.numbers.proofs.Laws.{digits-over, digits-end, digits-blank, 
 use Rattle.numbers.proofs.digits.Statement.{statement}
 use Rattle.numbers.proofs.digits.Tie as tie
 
-returns : tie.Need-returns
-returns c = digits-over _ _ _ (c .before .before .read .ensures) (omega arith)
-
-returns-2 : tie.Need-returns-2
-returns-2 c = digits-end _ _ _ (c .before .before .before .read .ensures) (omega arith) (omega arith)
-
 returns-3 : tie.Need-returns-3
 returns-3 c = digits-blank _ _ _ (c .before .before .before .before .before .before .read .ensures) (omega arith) (omega arith) (sym (c .before .is-blank .ensures) ∙ c .if3 .taken)
 
@@ -24,8 +18,8 @@ digits-spec =
     tie.close
     (tie.spec
     (λ c κs. search needs)
-    returns
-    returns-2
+    (λ c. digits-over _ _ _ (c .before .before .read .ensures) (omega arith))
+    (λ c. digits-end _ _ _ (c .before .before .before .read .ensures) (omega arith) (omega arith))
     (λ c. search needs)
     (λ c κs. search needs)
     returns-3

@@ -17,9 +17,6 @@ Inv-loop input at i₀ i = numberFrom i (drop i input) ≡ numberAt input at
 abbrev μ-loop : tie.MeasureT-loop
 μ-loop input at i₀ i = length input - i
 
-loop-holds : tie.Need-loop-holds Inv-loop μ-loop
-loop-holds c = refl
-
 returns : tie.Need-returns Inv-loop μ-loop
 returns c =
     let at-loop = c .before .before .before .before .before in
@@ -48,7 +45,7 @@ next-spec =
     (tie.spec
     Inv-loop
     μ-loop
-    loop-holds
+    (λ c. refl)
     (λ c. omega arith)
     (λ c κs. search needs)
     (λ c κs. search needs)

@@ -15,9 +15,6 @@ Inv-loop out₀ at s i₀ out i = (i ≤ length s) × (length out ≡ length out
 abbrev μ-loop : tie.MeasureT-loop
 μ-loop out₀ at s i₀ out i = length s - i
 
-loop-holds : tie.Need-loop-holds Inv-loop μ-loop
-loop-holds c = (omega arith, refl, refl)
-
 loop-again : tie.Need-loop-again Inv-loop μ-loop
 loop-again c =
     let a = c .before .before .before .args in
@@ -36,7 +33,7 @@ bytes-spec =
     (tie.spec
     Inv-loop
     μ-loop
-    loop-holds
+    (λ c. (omega arith, refl, refl))
     (λ c. omega arith)
     (λ c. omega arith)
     (λ c. omega arith)
