@@ -1,9 +1,11 @@
 -- What it is to tell a text through a list of 65,536 places that is written out when it is nearly full.
--- No contract can say what is written out. So a promise is on what stands in the list: it is the end of the text, and all of it where it is short.
+-- No contract can say what the C library writes. So one promise is on what is handed to it, the list's first bytes, and on standard output;
+-- and one on what stands in the list: it is the end of the text, after as many bytes as are handed out, and all of it where it is short.
 use Prim.Native.Nat.{ℕ, _≤_, _<_}
 use mathlib.Core.Path.{_≡_}
 use mathlib.Core.Bool.{Bool, true, false}
 use mathlib.Core.List.{List, [], _∷_, _++_}
+use lib.IntN.{ℤ, pos}
 use lib.ListN.{length, take, drop}
 use Rattle.answers.specs.declared.Answer.{Answer}
 use Rattle.answers.specs.declared.Answer.the-variants as A
@@ -22,6 +24,11 @@ pub record Follows (standing text after : List ℕ) : Type 0 where
   pub within : gone ≤ length (standing ++ text)
   pub rest : after ≡ drop gone (standing ++ text)
   pub whole : length (standing ++ text) ≤ 65024 → gone ≡ 0
+
+-- what may be handed to the C library to write: on standard output, and the first bytes of the list
+pub record Front (fd : ℤ) (part out : List ℕ) : Type 0 where
+  pub standard : fd ≡ pos 1
+  pub first : part ≡ take (length part) out
 
 -- a list, and a place that leaves 512
 pub record Room (out : List ℕ) (at : ℕ) : Type 0 where

@@ -13,7 +13,7 @@ ghost use Rattle.model.specs.Ride.{ride, courseFrom};
 ghost use Rattle.model.specs.Line.{courseLines};
 ghost use Rattle.line.specs.Printing.{Printed, moveDigits, countFields};
 ghost use Rattle.run.specs.Trials.{Scratch};
-ghost use Rattle.journey.specs.Telling.{Room, Spilt, Told, Ended, movesOf, dash, Ways, Trips};
+ghost use Rattle.journey.specs.Telling.{Front, Room, Spilt, Told, Ended, movesOf, dash, Ways, Trips};
 use answers::Answer;
 use answers::Job;
 use answers::Report;
@@ -22,8 +22,25 @@ use answers::Verdict;
 use libc::STDOUT_FILENO;
 use line::print;
 
+// A part is handed to the C library to write: on standard output, and only the first bytes of the list; how many.
+fn hand_out(fd: i32, part: &[u8], out: &[u8]) -> usize
+    requires { ⌜ Front fd (now part) (now out) ⌝ }
+    ensures { λ r. ⌜ r ≡ length (now (part .entry)) ⌝ }
+{
+    io::write_all(fd, part);
+    part.len()
+}
+
+// All that stands before a place is written out; how many bytes are handed out.
+pub fn write_out(out: &[u8], at: usize) -> usize
+    requires { ⌜ at ≤ length (now out) ⌝ }
+    ensures { λ r. ⌜ r ≡ at ⌝ }
+{
+    hand_out(STDOUT_FILENO, &out[..at], out)
+}
+
 // Where fewer than 512 of the list's 65,536 places are left, what is told is written out; the next place. What is told at once, the moves of a
-// decision or the counts of a trial, needs fewer.
+// decision or the counts of a trial, needs fewer. The place falls by what is handed out, so nothing is passed over.
 fn spill(out: &[u8], at: usize) -> usize
     requires { ⌜ at ≤ length (now out) ⌝ }
     ensures { λ r. ⌜ Spilt at r ⌝ }
@@ -31,8 +48,7 @@ fn spill(out: &[u8], at: usize) -> usize
     if at <= 65024 {
         return at;
     }
-    io::write_all(STDOUT_FILENO, &out[..at]);
-    0
+    at - write_out(out, at)
 }
 
 // The first n moves, a digit each.
