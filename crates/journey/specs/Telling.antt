@@ -7,8 +7,6 @@ use mathlib.Core.Bool.{Bool, true, false}
 use mathlib.Core.List.{List, [], _∷_, _++_}
 use lib.IntN.{ℤ, pos}
 use lib.ListN.{length, take, drop}
-use Rattle.answers.specs.declared.Answer.{Answer}
-use Rattle.answers.specs.declared.Answer.the-variants as A
 use Rattle.answers.specs.declared.Job.{Job}
 use Rattle.model.specs.Ride.{Ride}
 use Rattle.model.specs.Line.{trialLine}
@@ -51,14 +49,7 @@ pub record Ended (out : List ℕ) (at : ℕ) (text out′ : List ℕ) (at′ : �
   pub within : at′ ≤ 65536
   pub follows : Follows (take at out) text (take at′ out′)
 
--- how many moves an answer tells of, and whether there are some
-abbrev pub movesOf : Answer → ℕ
-movesOf A.Arrived = 0
-movesOf (A.Forward target rise moves) = moves
-movesOf (A.BackedOut target rise moves) = moves
-movesOf (A.Stayed rise) = 0
-movesOf (A.Refused r) = 0
-
+-- whether there are some
 abbrev pub some : List ℕ → Bool
 some [] = false
 some (m ∷ ms) = true
