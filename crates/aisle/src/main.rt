@@ -13,7 +13,6 @@ use answers::Refusal;
 use answers::Settings;
 use answers::Verdict;
 use libc::STDIN_FILENO;
-use libc::STDOUT_FILENO;
 use line::Line;
 use line::print;
 
@@ -117,5 +116,5 @@ fn main() {
     let mut out = io::large_buffer();
     let got = io::read_full(STDIN_FILENO, &mut input);
     let n = answer(&input[..got], &mut out);
-    io::write_all(STDOUT_FILENO, &out[..n]);
+    journey::write_out(&out, n);
 }

@@ -17,6 +17,8 @@ use Rattle.answers.specs.declared.Report.{Report}
 use Rattle.answers.specs.declared.Verdict.the-variants as Vd
 use Rattle.model.specs.Opening.{openTrial}
 use Rattle.learning.specs.Ground.{View}
+use Rattle.model.specs.Basics.{member}
+use Rattle.model.specs.Floor.{goalsOf}
 use Rattle.model.specs.Checks.{ceiling}
 use Rattle.model.specs.Lookahead.{seen, ring, emptyRing, newFigure, target}
 use Rattle.model.specs.Decision.{Deed, atGoal, rise, forward, stay, backOut, goBack, learn, act}
@@ -27,10 +29,13 @@ use Rattle.model.proofs.Steps.{Does}
 use Rattle.model.proofs.Rides.{does}
 use Rattle.line.specs.Printing.{Printed, moveDigits, countFields}
 use Rattle.line.proofs.Decimals.{field-few}
-use Rattle.decision.specs.declared.Acted.{Acted}
-use Rattle.decision.specs.Ready.{Acts}
-use Rattle.run.proofs.Driving.{Driving, begins, begins-at, off, drives, drives-at}
-use Rattle.journey.specs.Telling.{Follows, Room, Spilt, Told, Ended, movesOf, some, dash}
+use Rattle.lookahead.specs.Contract.{Fresh}
+use Rattle.decision.specs.Ready.{Places}
+use Rattle.run.specs.declared.Stand.{Stand}
+use Rattle.run.specs.Stands.{movesOf, setOut, Went}
+use Rattle.run.specs.Trials.{Scratch}
+use Rattle.run.proofs.Driving.{Driving, Underway, off, sets-out, sets-out-at, aside, goes-on, goes-on-at}
+use Rattle.journey.specs.Telling.{Follows, Room, Spilt, Told, Ended, some, dash}
 
 -- ---- one text after another
 
@@ -152,84 +157,91 @@ module _ (j : Job) (bytes : List ℕ) (s : State) (table path : List ℕ) where
 -- ---- a decision of a trial
 
 module _ (j : Job) (bytes : List ℕ) (start : ℕ) (table₀ path₀ : List ℕ) (opened : openTrial j bytes start table₀ path₀ ≡ Vd.Done)
-    {s : State} {decisions learned travel : ℕ} {table path : List ℕ} (g : Driving j bytes start table₀ path₀ s decisions learned travel table path)
-    (aside : s .current ≡ j .goal → ⊥) where
-  same : act j bytes (g .at .state) (g .at .table) (g .at .path) ≡ act j bytes s table path
+    {w : Stand} {table path : List ℕ} (g : Driving j bytes start table₀ path₀ w table path) (aside : w .state .current ≡ j .goal → ⊥) where
+  abbrev d : Deed
+  d = act j bytes (w .state) table path
+
+  same : act j bytes (g .at .state) (g .at .table) (g .at .path) ≡ d
   same i = act j bytes (g .state-is i) (g .table-is i) (g .path-is i)
 
   done : Does j bytes (g .at .state) (g .at .table) (g .at .path) (act j bytes (g .at .state) (g .at .table) (g .at .path))
   done = does j bytes start table₀ path₀ (openings.ready j bytes start table₀ path₀ opened) (g .riding) (off j bytes start table₀ path₀ opened g aside)
 
-  module _ {moves moves′ table′ path′ : List ℕ} {r : Acted} (a : Acts (act j bytes s table path) moves 0 r table′ path′ moves′) where
+  module _ {moves along moves′ table′ path′ along′ : List ℕ} {r : Stand} (a : Went d w moves along r table′ path′ moves′ along′) where
     -- its moves stand at the front of the lent list
-    counted : movesOf (r .answer) ≡ length (act j bytes s table path .way)
-    counted = ap movesOf (a .answer) ∙ act-counted j bytes s table path
+    counted : r .moves ≡ length (d .way)
+    counted = a .many ∙ act-counted j bytes (w .state) table path
 
-    laid-is : moves′ ≡ act j bytes s table path .way ++ drop (0 + length (act j bytes s table path .way)) moves
+    laid-is : moves′ ≡ d .way ++ drop (0 + length (d .way)) moves
     laid-is = a .moves
 
-    pub way-is : take (movesOf (r .answer)) moves′ ≡ act j bytes s table path .way
-    way-is = ap (take (movesOf (r .answer))) laid-is ∙ take-at (act j bytes s table path .way) _ (movesOf (r .answer)) (sym counted)
+    way-is : take (r .moves) moves′ ≡ d .way
+    way-is = ap (take (r .moves)) laid-is ∙ take-at (d .way) _ (r .moves) (sym counted)
 
     -- they are few, and moves
-    pub few : movesOf (r .answer) ≤ 11
-    few = omega (arith, counted, done .few, ap (λ d. length (d .way)) same)
-
-    pub inside : movesOf (r .answer) ≤ length moves′
-    inside = omega (arith, counted, ap length laid-is, length-append (act j bytes s table path .way) (drop (0 + length (act j bytes s table path .way)) moves))
-
-    pub low : (i : ℕ) → i < movesOf (r .answer) → getD moves′ i 0 < 8
-    low i h =
-        subst (λ l. getD l i 0 < 8) (sym laid-is)
-        (all-at (subst (λ d. All (λ m. m < 8) (d .way)) same (done .low)) _ i (omega (arith, counted)))
+    pub sayable : (r .moves ≤ 11) × (r .moves ≤ length moves′) × ((i : ℕ) → i < r .moves → getD moves′ i 0 < 8)
+    sayable = (
+      omega (arith, counted, done .few, ap (λ x. length (x .way)) same),
+      omega (arith, counted, ap length laid-is, length-append (d .way) (drop (0 + length (d .way)) moves)),
+      λ i h. subst (λ l. getD l i 0 < 8) (sym laid-is) (all-at (subst (λ x. All (λ m. m < 8) (x .way)) same (done .low)) _ i (omega (arith, counted))),
+    )
 
     -- told after the moves before it, they are those of the ride so far
-    pub more-moves : moveDigits (g .at .moves) ++ moveDigits (take (movesOf (r .answer)) moves′) ≡ moveDigits (next j bytes (g .at) .moves)
+    pub more-moves : moveDigits (g .at .moves) ++ moveDigits (take (r .moves) moves′) ≡ moveDigits (next j bytes (g .at) .moves)
     unfolding next
     more-moves =
-        ap (λ l. moveDigits (g .at .moves) ++ moveDigits l) (way-is ∙ ap (λ d. d .way) (sym same))
+        ap (λ l. moveDigits (g .at .moves) ++ moveDigits l) (way-is ∙ ap (λ x. x .way) (sym same))
         ∙ sym (digits-more (g .at .moves) (act j bytes (g .at .state) (g .at .table) (g .at .path) .way))
 
-    pub moved-more : (some (g .at .moves) || ltb 0 (movesOf (r .answer))) ≡ some (next j bytes (g .at) .moves)
+    pub moved-more : (some (g .at .moves) || ltb 0 (r .moves)) ≡ some (next j bytes (g .at) .moves)
     unfolding next
     moved-more =
-        ap (λ (n : ℕ). some (g .at .moves) || ltb 0 n) (counted ∙ ap (λ d. length (d .way)) (sym same))
+        ap (λ (n : ℕ). some (g .at .moves) || ltb 0 n) (counted ∙ ap (λ x. length (x .way)) (sym same))
         ∙ sym (some-more (g .at .moves) (act j bytes (g .at .state) (g .at .table) (g .at .path) .way))
 
 -- ---- a trial, decision by decision
 
 -- The invariant: the ride so far, and its moves are told.
-pub record Telling (j : Job) (bytes : List ℕ) (start : ℕ) (table₀ path₀ out₀ : List ℕ) (from : ℕ) (s : State) (decisions learned travel : ℕ) (table path : List ℕ) (moved : Bool) (out : List ℕ) (at : ℕ) : Type 0 where
-  pub drive : Driving j bytes start table₀ path₀ s decisions learned travel table path
-  pub told : Told out₀ from (moveDigits (drive .at .moves)) out at
-  pub moved-is : moved ≡ some (drive .at .moves)
+pub record Telling (j : Job) (bytes : List ℕ) (start : ℕ) (table₀ path₀ out₀ : List ℕ) (from : ℕ) (w : Stand) (table path moves mark cost list place along : List ℕ)
+    (moved : Bool) (out : List ℕ) (at : ℕ) : Type 0 where
+  pub under : Underway j bytes start table₀ path₀ w table path moves mark cost list place along
+  pub told : Told out₀ from (moveDigits (under .drive .at .moves)) out at
+  pub moved-is : moved ≡ some (under .drive .at .moves)
 
 module _ (j : Job) (bytes : List ℕ) (start : ℕ) (table₀ path₀ : List ℕ) (opened : openTrial j bytes start table₀ path₀ ≡ Vd.Done) (out₀ : List ℕ) (from : ℕ) where
-  pub tells-none : Room out₀ from → Telling j bytes start table₀ path₀ out₀ from (record { current = start; learned = 0; length = 0 }) 0 0 0 table₀ path₀ false out₀ from
-  tells-none r =
-      let e = sym (begins-at j bytes start table₀ path₀ opened) in
+  pub tells-none : {moves mark cost list place along : List ℕ} → Scratch moves mark cost list place along → Room out₀ from
+      → Telling j bytes start table₀ path₀ out₀ from (setOut start) table₀ path₀ moves mark cost list place along false out₀ from
+  tells-none l r =
+      let e = sym (sets-out-at j bytes start table₀ path₀ opened l) in
       record {
-        drive = begins j bytes start table₀ path₀ opened;
+        under = sets-out j bytes start table₀ path₀ opened l;
         told = subst (λ o. Told out₀ from (moveDigits (o .moves)) out₀ from) e (told-none r);
         moved-is = ap (λ o. some (o .moves)) e;
       }
 
-  module _ {s : State} {decisions learned travel : ℕ} {table path out : List ℕ} {moved : Bool} {at : ℕ}
-      (t : Telling j bytes start table₀ path₀ out₀ from s decisions learned travel table path moved out at) (aside : s .current ≡ j .goal → ⊥) where
-    pub tells : {moves moves′ table′ path′ out′ : List ℕ} {r : Acted} {n at′ : ℕ} {moved′ : Bool} → Acts (act j bytes s table path) moves 0 r table′ path′ moves′
-        → n ≡ movesOf (r .answer) → Told out at (moveDigits (take n moves′)) out′ at′ → moved′ ≡ (moved || ltb 0 n)
-        → Telling j bytes start table₀ path₀ out₀ from (r .state) (decisions + 1) (learned + r .rise) (travel + r .cost) table′ path′ moved′ out′ at′
-    tells {moves′ = moves′} {out′ = out′} {r = r} {n = n} {at′ = at′} a e u m =
-        let g = t .drive in
-        let so = sym (drives-at j bytes start table₀ path₀ opened g aside a) in
+  module _ {w : Stand} {table path moves mark cost list place along out : List ℕ} {moved : Bool} {at : ℕ}
+      (t : Telling j bytes start table₀ path₀ out₀ from w table path moves mark cost list place along moved out at) (e : member (w .state .current) (goalsOf (j .goal)) ≡ false)
+      {moves′ table′ path′ along′ : List ℕ} {r : Stand} (a : Went (act j bytes (w .state) table path) w moves along r table′ path′ moves′ along′) where
+    abbrev g : Driving j bytes start table₀ path₀ w table path
+    g = t .under .drive
+
+    abbrev off-it : w .state .current ≡ j .goal → ⊥
+    off-it = aside j bytes start table₀ path₀ opened (t .under) e
+
+    pub may-say : Room out at × ((r .moves ≤ 11) × (r .moves ≤ length moves′) × ((i : ℕ) → i < r .moves → getD moves′ i 0 < 8))
+    may-say = (t .told .room, sayable j bytes start table₀ path₀ opened g off-it a)
+
+    pub tells : {mark′ cost′ list′ place′ out′ : List ℕ} {at′ : ℕ} {moved′ : Bool} → Fresh (r .base) mark′ cost′ list′ × Places place′ path′ (r .state .length) → length moves′ ≡ length moves
+        → Told out at (moveDigits (take (r .moves) moves′)) out′ at′ → moved′ ≡ (moved || ltb 0 (r .moves))
+        → Telling j bytes start table₀ path₀ out₀ from r table′ path′ moves′ mark′ cost′ list′ place′ along′ moved′ out′ at′
+    tells {out′ = out′} {at′ = at′} f size u m =
+        let so = sym (goes-on-at j bytes start table₀ path₀ opened (t .under) e a f size) in
         record {
-          drive = drives j bytes start table₀ path₀ opened g aside a;
+          under = goes-on j bytes start table₀ path₀ opened (t .under) e a f size;
           told =
               subst (λ o. Told out₀ from (moveDigits (o .moves)) out′ at′) so
-              (subst (λ l. Told out₀ from l out′ at′) (more-moves j bytes start table₀ path₀ opened g aside a)
-              (told-then _ _ (t .told) (subst (λ k. Told out at (moveDigits (take k moves′)) out′ at′) e u)));
-          moved-is =
-              m ∙ (λ i. t .moved-is i || ltb 0 (e i)) ∙ moved-more j bytes start table₀ path₀ opened g aside a ∙ ap (λ o. some (o .moves)) so;
+              (subst (λ l. Told out₀ from l out′ at′) (more-moves j bytes start table₀ path₀ opened g off-it a) (told-then _ _ (t .told) u));
+          moved-is = m ∙ ap (λ b. b || ltb 0 (r .moves)) (t .moved-is) ∙ moved-more j bytes start table₀ path₀ opened g off-it a ∙ ap (λ o. some (o .moves)) so;
         }
 
 pub told-ride : {o o′ : Ride} {out out′ : List ℕ} {at at′ : ℕ} → o ≡ o′ → Told out at (moveDigits (o .moves)) out′ at′ → Told out at (moveDigits (o′ .moves)) out′ at′

@@ -1,12 +1,12 @@
 -- What it is to tell a text through a list of 65,536 places that is written out when it is nearly full.
--- No contract can say what is written out. So a promise is on what stands in the list: it is the end of the text, and all of it where it is short.
+-- No contract can say what the C library writes. So one promise is on what is handed to it, the list's first bytes, and on standard output;
+-- and one on what stands in the list: it is the end of the text, after as many bytes as are handed out, and all of it where it is short.
 use Prim.Native.Nat.{ℕ, _≤_, _<_}
 use mathlib.Core.Path.{_≡_}
 use mathlib.Core.Bool.{Bool, true, false}
 use mathlib.Core.List.{List, [], _∷_, _++_}
+use lib.IntN.{ℤ, pos}
 use lib.ListN.{length, take, drop}
-use Rattle.answers.specs.declared.Answer.{Answer}
-use Rattle.answers.specs.declared.Answer.the-variants as A
 use Rattle.answers.specs.declared.Job.{Job}
 use Rattle.model.specs.Ride.{Ride}
 use Rattle.model.specs.Line.{trialLine}
@@ -22,6 +22,11 @@ pub record Follows (standing text after : List ℕ) : Type 0 where
   pub within : gone ≤ length (standing ++ text)
   pub rest : after ≡ drop gone (standing ++ text)
   pub whole : length (standing ++ text) ≤ 65024 → gone ≡ 0
+
+-- what may be handed to the C library to write: on standard output, and the first bytes of the list
+pub record Front (fd : ℤ) (part out : List ℕ) : Type 0 where
+  pub standard : fd ≡ pos 1
+  pub first : part ≡ take (length part) out
 
 -- a list, and a place that leaves 512
 pub record Room (out : List ℕ) (at : ℕ) : Type 0 where
@@ -44,14 +49,7 @@ pub record Ended (out : List ℕ) (at : ℕ) (text out′ : List ℕ) (at′ : �
   pub within : at′ ≤ 65536
   pub follows : Follows (take at out) text (take at′ out′)
 
--- how many moves an answer tells of, and whether there are some
-abbrev pub movesOf : Answer → ℕ
-movesOf A.Arrived = 0
-movesOf (A.Forward target rise moves) = moves
-movesOf (A.BackedOut target rise moves) = moves
-movesOf (A.Stayed rise) = 0
-movesOf (A.Refused r) = 0
-
+-- whether there are some
 abbrev pub some : List ℕ → Bool
 some [] = false
 some (m ∷ ms) = true

@@ -13,17 +13,32 @@ ghost use Rattle.model.specs.Ride.{ride, courseFrom};
 ghost use Rattle.model.specs.Line.{courseLines};
 ghost use Rattle.line.specs.Printing.{Printed, moveDigits, countFields};
 ghost use Rattle.run.specs.Trials.{Scratch};
-ghost use Rattle.journey.specs.Telling.{Room, Spilt, Told, Ended, movesOf, dash, Ways, Trips};
-use answers::Answer;
+ghost use Rattle.journey.specs.Telling.{Front, Room, Spilt, Told, Ended, dash, Ways, Trips};
 use answers::Job;
 use answers::Report;
-use answers::State;
 use answers::Verdict;
 use libc::STDOUT_FILENO;
 use line::print;
 
+// A part is handed to the C library to write: on standard output, and only the first bytes of the list; how many.
+fn hand_out(fd: i32, part: &[u8], out: &[u8]) -> usize
+    requires { ⌜ Front fd (now part) (now out) ⌝ }
+    ensures { λ r. ⌜ r ≡ length (now (part .entry)) ⌝ }
+{
+    io::write_all(fd, part);
+    part.len()
+}
+
+// All that stands before a place is written out; how many bytes are handed out.
+pub fn write_out(out: &[u8], at: usize) -> usize
+    requires { ⌜ at ≤ length (now out) ⌝ }
+    ensures { λ r. ⌜ r ≡ at ⌝ }
+{
+    hand_out(STDOUT_FILENO, &out[..at], out)
+}
+
 // Where fewer than 512 of the list's 65,536 places are left, what is told is written out; the next place. What is told at once, the moves of a
-// decision or the counts of a trial, needs fewer.
+// decision or the counts of a trial, needs fewer. The place falls by what is handed out, so nothing is passed over.
 fn spill(out: &[u8], at: usize) -> usize
     requires { ⌜ at ≤ length (now out) ⌝ }
     ensures { λ r. ⌜ Spilt at r ⌝ }
@@ -31,8 +46,7 @@ fn spill(out: &[u8], at: usize) -> usize
     if at <= 65024 {
         return at;
     }
-    io::write_all(STDOUT_FILENO, &out[..at]);
-    0
+    at - write_out(out, at)
 }
 
 // The first n moves, a digit each.
@@ -42,27 +56,6 @@ fn say_moves(out: &mut [u8], at: usize, moves: &[u8], n: usize) -> usize
 {
     let end = print::moves(out, at, moves, n);
     spill(out, end)
-}
-
-// How many moves an answer tells of.
-pub fn moves_of(a: Answer) -> usize
-    ensures { λ r. ⌜ r ≡ movesOf a ⌝ }
-{
-    match a {
-        Answer::Arrived => 0,
-        Answer::Forward {
-            target,
-            rise,
-            moves,
-        } => moves,
-        Answer::BackedOut {
-            target,
-            rise,
-            moves,
-        } => moves,
-        Answer::Stayed { rise } => 0,
-        Answer::Refused(_) => 0,
-    }
 }
 
 // Whether there was a move before, or there is one now.
@@ -98,53 +91,29 @@ fn tell_moves(
     requires { ⌜ openTrial job (now floor) start (now table) (now path) ≡ Verdict.Done ⌝ ∗ ⌜ Scratch (now moves) (now mark) (now cost) (now list) (now place) (now along) ⌝ ∗ ⌜ Room (now out) from ⌝ }
     ensures { λ r. ⌜ Ways job (now (floor .entry)) (ride job (now (floor .entry)) start (now (table .entry)) (now (path .entry))) r (now (table .exit)) (now (path .exit)) (now (out .entry)) from (now (out .exit)) ⌝ }
 {
-    let mut state = State {
-        current: start,
-        learned: 0,
-        length: 0,
-    };
-    let mut decisions: u64 = 0;
-    let mut learned: u64 = 0;
-    let mut travel: u64 = 0;
-    let mut base: u32 = 1;
+    let mut w = run::set_out(start);
     let mut moved = false;
     let mut at = from;
-    while state.current != job.goal {
-        let r = decision::act(
+    while !run::arrived(job, w) {
+        w = run::onward(
             job,
             floor,
-            state,
+            w,
             table,
             path,
             moves,
-            0,
-            base,
             mark,
             cost,
             list,
             place,
+            along,
         );
-        let answer = r.answer;
-        let n = moves_of(answer);
-        at = say_moves(out, at, moves, n);
-        moved = moves_yet(moved, n);
-        let after = r.state;
-        run::note_leg(along, state.length, after.length, r.cost);
-        state = after;
-        decisions += 1;
-        learned += r.rise as u64;
-        travel += r.cost as u64;
-        base = r.base;
+        at = say_moves(out, at, moves, w.moves);
+        moved = moves_yet(moved, w.moves);
     }
-    let last = state.length;
-    let kept = along[last] as u64;
+    let report = run::tally(w, along);
     Way {
-        report: Report {
-            decisions: decisions,
-            learned: learned,
-            kept: kept,
-            travel: travel,
-        },
+        report: report,
         moved: moved,
         at: at,
     }

@@ -80,7 +80,7 @@ fn go_on(
     let d = learner::decide(job, floor, before, table, path, &mut moves, 0);
     let answer = d.answer;
     let after = d.state;
-    let n = journey::moves_of(answer);
+    let n = run::moves_of(answer);
     if 11 < n {
         return under;
     }

@@ -2,10 +2,10 @@
 -- The ride keeps its moves, which the code does not. Each decision lowers the ride's potential, so the loop ends; and the counts fit in 64 bits.
 use Prim.Native.Nat.{ℕ, _+_, _≤_, _<_, _*_}
 use mathlib.Core.Path.{_≡_, refl, sym, ap, subst, _∙_}
-use mathlib.Core.Bool.{true, false}
+use mathlib.Core.Bool.{Bool, true, false, not}
 use mathlib.Core.List.{List, [], _∷_, _++_}
 use native.Mathlib.Omega.{arith}
-use lib.Dec.{T}
+use lib.Dec.{T, eqb, eqb→eq, eqb-refl}
 use lib.ListN.{length, getD, replicate, length-replicate, getD-replicate}
 use lib.Seq.{length-take-le, getD-set-same}
 use Rattle.learning.specs.Path.{legs}
@@ -20,11 +20,14 @@ use Rattle.answers.specs.declared.Verdict.{Verdict}
 use Rattle.answers.specs.declared.Verdict.the-variants as Vd
 use Rattle.answers.specs.declared.Tried.the-variants as Td
 use Rattle.answers.specs.Says.{saysTried}
+use Rattle.model.specs.Basics.{member}
+use Rattle.model.specs.Floor.{goalsOf}
 use Rattle.model.specs.Checks.{floorOf}
 use Rattle.model.specs.Opening.{openTrial}
-use Rattle.model.specs.Decision.{atGoal, onPath, judge, act}
+use Rattle.model.specs.Decision.{Deed, atGoal, onPath, judge, act, laid}
 use Rattle.model.specs.Ride as model
 use Rattle.model.specs.Ride.{Ride, begun, next, learningJob, ride, trialOf, trial}
+use Rattle.model.proofs.Held.{or-false}
 use Rattle.model.proofs.Moves.{is-true, free-below}
 use Rattle.model.proofs.Accepted.{fails}
 use Rattle.model.proofs.Demand.{trial-is-made}
@@ -32,26 +35,28 @@ use Rattle.model.proofs.Openings as openings
 use Rattle.model.proofs.Meaning.{goal-means, goal-is}
 use Rattle.model.proofs.Steps.{asState, short, size-high}
 use Rattle.model.proofs.Rides.{Riding, yet, rest, riding-begun, riding-next, does, falls, keeps, judges, room, rest-begun, rest-next, ride-there, kept-low, counts-fit, mostLearned, mostDecisions, dearestKept}
-use Rattle.decision.specs.declared.Acted.{Acted}
-use Rattle.decision.specs.Ready.{Ready, Acts}
+use Rattle.decision.specs.Ready.{Ready, Places}
 use Rattle.decision.proofs.Judging.{ready}
+use Rattle.lookahead.specs.Contract.{Fresh}
 use Rattle.decision.proofs.Acting.{fresh-zeros}
-use Rattle.run.specs.Trials.{Fits, noted, Scratch, Rode, IsTrial}
+use Rattle.run.specs.declared.Stand.{Stand}
+use Rattle.run.specs.Stands.{movesOf, setOut, talliedOf, Onward, Went}
+use Rattle.run.specs.Trials.{noted, Scratch, Rode, IsTrial}
 use Rattle.run.proofs.Legs.{Sums, sums-none, sum-last, note-more, noted-size, noted-sums}
 use Rattle.model.specs.Lookahead.{dearestLeg}
 
--- The loop's invariant, of the state, the counts and the lists.
-pub record Driving (j : Job) (bytes : List ℕ) (start : ℕ) (lent-table lent-path : List ℕ) (s : State) (decisions learned travel : ℕ) (table path : List ℕ) : Type 0 where
+-- Where a trial stands: of the state, the counts and the lists.
+pub record Driving (j : Job) (bytes : List ℕ) (start : ℕ) (lent-table lent-path : List ℕ) (w : Stand) (table path : List ℕ) : Type 0 where
   -- a ride that is made so far
   pub at : Ride
   pub riding : Riding j bytes start lent-table lent-path at
   -- which comes to the whole ride
   pub comes : rest j bytes at ≡ ride j bytes start lent-table lent-path
   -- and the code stands where it stands
-  pub state-is : at .state ≡ s
-  pub decisions-is : at .decisions ≡ decisions
-  pub learned-is : at .learned ≡ learned
-  pub travel-is : at .travel ≡ travel
+  pub state-is : at .state ≡ w .state
+  pub decisions-is : at .decisions ≡ w .decisions
+  pub learned-is : at .learned ≡ w .learned
+  pub travel-is : at .travel ≡ w .travel
   pub table-is : at .table ≡ table
   pub path-is : at .path ≡ path
 
@@ -68,7 +73,7 @@ module _ (j : Job) (bytes : List ℕ) (start : ℕ) (table₀ path₀ : List ℕ
   abbrev R : openings.Ready j bytes start table₀ path₀
   R = openings.ready j bytes start table₀ path₀ opened
 
-  pub begins : Driving j bytes start table₀ path₀ (record { current = start; learned = 0; length = 0 }) 0 0 0 table₀ path₀
+  pub begins : Driving j bytes start table₀ path₀ (setOut start) table₀ path₀
   begins = record {
     at = begun start table₀ path₀;
     riding = riding-begun j bytes start table₀ path₀ R;
@@ -81,16 +86,15 @@ module _ (j : Job) (bytes : List ℕ) (start : ℕ) (table₀ path₀ : List ℕ
     path-is = refl;
   }
 
-  pub begins-along : {along : List ℕ} → length along ≡ 4096 → getD along 0 0 ≡ 0 → Along j bytes (record { current = start; learned = 0; length = 0 }) path₀ along
+  pub begins-along : {along : List ℕ} → length along ≡ 4096 → getD along 0 0 ≡ 0 → Along j bytes (setOut start .state) path₀ along
   begins-along size none = record { size = size; sums = sums-none (learningJob j bytes .leg) start none }
 
-  pub begins-at : begins .at ≡ begun start table₀ path₀
-  unfolding begins
-  begins-at = refl
+  module _ {w : Stand} {table path : List ℕ} (g : Driving j bytes start table₀ path₀ w table path) where
+    abbrev s : State
+    s = w .state
 
-  module _ {s : State} {decisions learned travel : ℕ} {table path : List ℕ} (g : Driving j bytes start table₀ path₀ s decisions learned travel table path) where
     -- the counts fit
-    pub fits : (decisions < mostDecisions) × (learned ≤ mostLearned) × (travel < dearestLeg * mostDecisions)
+    pub fits : (w .decisions < mostDecisions) × (w .learned ≤ mostLearned) × (w .travel < dearestLeg * mostDecisions)
     fits = omega (arith, counts-fit j bytes start table₀ path₀ R (g .riding), g .decisions-is, g .learned-is, g .travel-is)
 
     pub long : length path ≡ length path₀
@@ -133,7 +137,7 @@ module _ (j : Job) (bytes : List ℕ) (start : ℕ) (table₀ path₀ : List ℕ
 
     -- and the record is the ride's
     pub rode : {along : List ℕ} → s .current ≡ j .goal → Along j bytes s path along
-        → Rode j bytes (ride j bytes start table₀ path₀) (record { decisions = decisions; learned = learned; kept = getD along (s .length) 0; travel = travel }) table path
+        → Rode j bytes (ride j bytes start table₀ path₀) (talliedOf w along) table path
     rode e S = subst (λ o. Rode j bytes o _ table path) (over e) (record {
       record-is = sym (λ i. record { decisions = g .decisions-is i; learned = g .learned-is i; kept = sym (kept-is S) i; travel = g .travel-is i });
       table-is = sym (g .table-is);
@@ -148,33 +152,28 @@ module _ (j : Job) (bytes : List ℕ) (start : ℕ) (table₀ path₀ : List ℕ
       same i = act j bytes (g .state-is i) (g .table-is i) (g .path-is i)
 
       -- a decision can be made
-      pub may-act : (moves : ℕ) → 288 ≤ moves → Ready j bytes s table path moves 0
+      may-act : (moves : ℕ) → 288 ≤ moves → Ready j bytes s table path moves 0
       may-act moves h =
           ready j bytes s table path moves 0
           ((λ i. judge j bytes (sym (g .state-is) i) (sym (g .table-is) i) (sym (g .path-is) i) moves 0) ∙ judges j bytes start table₀ path₀ R (g .riding) moves 0 (omega arith))
 
       -- and one more is made
-      pub drives : {moves moves′ table′ path′ : List ℕ} {from : ℕ} {r : Acted} → Acts (act j bytes s table path) moves from r table′ path′ moves′
-          → Driving j bytes start table₀ path₀ (r .state) (decisions + 1) (learned + r .rise) (travel + r .cost) table′ path′
+      pub drives : {moves along moves′ table′ path′ along′ : List ℕ} {r : Stand} → Went (act j bytes s table path) w moves along r table′ path′ moves′ along′
+          → Driving j bytes start table₀ path₀ r table′ path′
       unfolding next
       drives a = record {
         at = next j bytes (g .at);
         riding = riding-next j bytes start table₀ path₀ R (g .riding) off;
         comes = sym (rest-next j bytes start table₀ path₀ R (g .riding) off) ∙ g .comes;
         state-is = ap (λ d. d .state) same ∙ sym (a .state);
-        decisions-is = omega (arith, g .decisions-is);
-        learned-is = (λ i. g .learned-is i + same i .rise) ∙ ap (λ (n : ℕ). learned + n) (sym (a .rise));
-        travel-is = (λ i. g .travel-is i + same i .cost) ∙ ap (λ (n : ℕ). travel + n) (sym (a .cost));
+        decisions-is = omega (arith, g .decisions-is, a .decisions);
+        learned-is = (λ i. g .learned-is i + same i .rise) ∙ sym (a .learned);
+        travel-is = (λ i. g .travel-is i + same i .cost) ∙ sym (a .travel);
         table-is = ap (λ d. d .table) same ∙ sym (a .table);
         path-is = ap (λ d. d .path) same ∙ sym (a .path);
       }
 
-      pub drives-at : {moves moves′ table′ path′ : List ℕ} {from : ℕ} {r : Acted} (a : Acts (act j bytes s table path) moves from r table′ path′ moves′)
-          → drives a .at ≡ next j bytes (g .at)
-      unfolding drives
-      drives-at a = refl
-
-      pub lowers : {moves moves′ table′ path′ : List ℕ} {from : ℕ} {r : Acted} → Acts (act j bytes s table path) moves from r table′ path′ moves′
+      pub lowers : {moves along moves′ table′ path′ along′ : List ℕ} {r : Stand} → Went (act j bytes s table path) w moves along r table′ path′ moves′ along′
           → yetTo j bytes (r .state) table′ path′ < yetTo j bytes s table path
       unfolding next
       lowers a =
@@ -183,39 +182,53 @@ module _ (j : Job) (bytes : List ℕ) (start : ℕ) (table₀ path₀ : List ℕ
           subst (λ x. potential (learningJob j bytes) x < yetTo j bytes s table path) after
           (subst (λ x. yet j bytes (next j bytes (g .at)) < potential (learningJob j bytes) x) here (falls j bytes start table₀ path₀ R (g .riding) off))
 
-  module _ {s : State} {decisions learned travel : ℕ} {table path along : List ℕ} (g : Driving j bytes start table₀ path₀ s decisions learned travel table path) (aside : s .current ≡ j .goal → ⊥)
-      {moves moves′ table′ path′ : List ℕ} {from : ℕ} {r : Acted} (a : Acts (act j bytes s table path) moves from r table′ path′ moves′) (S : Along j bytes s path along) where
+  module _ {w : Stand} {table path along : List ℕ} (g : Driving j bytes start table₀ path₀ w table path) (aside : w .state .current ≡ j .goal → ⊥) (S : Along j bytes (w .state) path along) where
     abbrev J : learning.Job
     J = learningJob j bytes
 
-    -- the decision as `learning` has it
-    stepped : Step J (asState s table path) (r .rise) (r .cost) (asState (r .state) table′ path′)
-    stepped =
-        let did = same g aside in
-        let here = coe 0 1 (i. Step J (asState (g .state-is i) (g .table-is i) (g .path-is i)) (did i .rise) (did i .cost) (asState (did i .state) (did i .table) (did i .path)))
-        (does j bytes start table₀ path₀ R (g .riding) (off g aside) .step) in
-        coe 1 0 (i. Step J (asState s table path) (a .rise i) (a .cost i) (asState (a .state i) (a .table i) (a .path i))) here
+    abbrev d : Deed
+    d = act j bytes (w .state) table path
 
-    -- its leg is noted
-    pub notes : {along′ : List ℕ} → along′ ≡ noted along (s .length) (r .state .length) (r .cost) → Along j bytes (r .state) path′ along′
-    notes e =
-        let next = drives g aside a in
-        let room : length (onPath (r .state) path′) < length along = omega (arith, path-size next, path-fits next, S .size) in
-        let note = e ∙ (λ i. noted along (sym (path-size g) i) (sym (path-size next) i) (r .cost)) in
-        record {
-          size = ap length e ∙ noted-size along (s .length) (r .state .length) (r .cost) ∙ S .size;
-          sums = subst (Sums (J .leg) (onPath (r .state) path′ ++ r .state .current ∷ [])) (sym note) (noted-sums J stepped room (S .sums));
-        }
+    module _ {moves moves′ table′ path′ along′ : List ℕ} {r : Stand} (a : Went d w moves along r table′ path′ moves′ along′) where
+      -- the decision as `learning` has it
+      stepped : Step J (asState (w .state) table path) (d .rise) (d .cost) (asState (r .state) table′ path′)
+      stepped =
+          let did = same g aside in
+          let here = coe 0 1 (i. Step J (asState (g .state-is i) (g .table-is i) (g .path-is i)) (did i .rise) (did i .cost) (asState (did i .state) (did i .table) (did i .path)))
+          (does j bytes start table₀ path₀ R (g .riding) (off g aside) .step) in
+          coe 1 0 (i. Step J (asState (w .state) table path) (d .rise) (d .cost) (asState (a .state i) (a .table i) (a .path i))) here
 
-    pub may-note : Fits along (s .length) (r .state .length) (r .cost)
-    may-note =
-        let next = drives g aside a in
+      -- its leg is noted
+      pub notes : Along j bytes (r .state) path′ along′
+      notes =
+          let next = drives g aside a in
+          let room : length (onPath (r .state) path′) < length along = omega (arith, path-size next, path-fits next, S .size) in
+          let note = a .sums ∙ (λ i. noted along (sym (path-size g) i) ((ap (λ x. x .length) (sym (a .state)) ∙ sym (path-size next)) i) (d .cost)) in
+          record {
+            size = ap length (a .sums) ∙ noted-size along (w .state .length) (d .state .length) (d .cost) ∙ S .size;
+            sums = subst (Sums (J .leg) (onPath (r .state) path′ ++ r .state .current ∷ [])) (sym note) (noted-sums J stepped room (S .sums));
+          }
+
+    -- a decision can be noted and counted
+    pub may-go : {moves : List ℕ} → length moves ≡ 288 → Onward j bytes w table path moves along
+    may-go {moves} size =
+        let r : Stand = record { state = d .state; decisions = w .decisions + 1; learned = w .learned + d .rise; travel = w .travel + d .cost; base = 0; moves = movesOf (d .answer) } in
+        let made : Went d w moves along r (d .table) (d .path) (laid moves 0 (d .way)) (noted along (w .state .length) (d .state .length) (d .cost)) =
+        record { state = refl; decisions = refl; learned = refl; travel = refl; many = refl; table = refl; path = refl; moves = refl; sums = refl } in
+        let next = drives g aside made in
+        let few = fits next in
         record {
-          size = S .size;
-          place = λ h. path-fits next;
-          sum = λ h.
-              let stored = ap (λ xs. getD xs (r .state .length) 0) (note-more along (s .length) (r .state .length) (r .cost) h) in
-              omega (arith, stored, getD-set-same along (r .state .length) (getD along (s .length) 0 + r .cost) 0 (omega (arith, path-fits next, S .size)), kept-fits next (notes refl));
+          ready = may-act g aside (length moves) (omega arith);
+          fits = record {
+            size = S .size;
+            place = λ h. path-fits next;
+            sum = λ h.
+                let stored = ap (λ xs. getD xs (d .state .length) 0) (note-more along (w .state .length) (d .state .length) (d .cost) h) in
+                omega (arith, stored, getD-set-same along (d .state .length) (getD along (w .state .length) 0 + d .cost) 0 (omega (arith, path-fits next, S .size)), kept-fits next (notes made));
+          };
+          decisions = omega (arith, few);
+          learned = omega (arith, few);
+          travel = omega (arith, few);
         }
 
 -- the scratch lists that a trial starts with
@@ -227,6 +240,90 @@ scratched = record {
   sums = length-replicate {A = ℕ} 4096 0;
   none-yet = getD-replicate {A = ℕ} 4096 0 0 0 (omega arith);
 }
+
+-- ---- the loop of a trial
+
+-- What a trial's loop keeps from one decision to the next.
+pub record Underway (j : Job) (bytes : List ℕ) (start : ℕ) (table₀ path₀ : List ℕ) (w : Stand) (table path moves mark cost list place along : List ℕ) : Type 0 where
+  -- the ride so far
+  pub drive : Driving j bytes start table₀ path₀ w table path
+  -- the scratch lists that the next decision takes
+  pub fresh : Fresh (w .base) mark cost list
+  pub places : Places place path (w .state .length)
+  pub room : length moves ≡ 288
+  -- the sums of the legs
+  pub legs-so : Along j bytes (w .state) path along
+
+on-goal : (x goal : ℕ) → member x (goalsOf goal) ≡ true → x ≡ goal
+unfolding member
+on-goal x goal e = eqb→eq x goal (subst T (or-false (eqb x goal)) (subst T (sym e) tt))
+
+off-goal : (x goal : ℕ) → member x (goalsOf goal) ≡ false → x ≡ goal → ⊥
+unfolding member
+off-goal x goal e h = subst T e (subst T (sym (or-false (eqb x goal))) (subst (λ y. T (eqb x y)) h (eqb-refl x)))
+
+-- what a test of `!b` says of b
+pub not-so : {b m : Bool} → b ≡ m → not b ≡ true → m ≡ false
+not-so {b = true} e h = sym e ∙ sym h
+not-so {b = false} e h = sym e
+
+pub so : {b m : Bool} → b ≡ m → not b ≡ false → m ≡ true
+so {b = true} e h = sym e
+so {b = false} e h = sym e ∙ sym h
+
+module _ (j : Job) (bytes : List ℕ) (start : ℕ) (table₀ path₀ : List ℕ) (opened : openTrial j bytes start table₀ path₀ ≡ Vd.Done) where
+  pub sets-out : {moves mark cost list place along : List ℕ} → Scratch moves mark cost list place along
+      → Underway j bytes start table₀ path₀ (setOut start) table₀ path₀ moves mark cost list place along
+  sets-out l = record {
+    drive = begins j bytes start table₀ path₀ opened;
+    fresh = l .fresh;
+    places = record { size = l .places; noted = λ k h. absurd (omega arith) };
+    room = l .room;
+    legs-so = begins-along j bytes start table₀ path₀ opened (l .sums) (l .none-yet);
+  }
+
+  pub sets-out-at : {moves mark cost list place along : List ℕ} (l : Scratch moves mark cost list place along) → sets-out l .drive .at ≡ begun start table₀ path₀
+  unfolding sets-out begins
+  sets-out-at l = refl
+
+  module _ {w : Stand} {table path moves mark cost list place along : List ℕ} (u : Underway j bytes start table₀ path₀ w table path moves mark cost list place along) where
+    pub may-tally : (length along ≡ 4096) × (w .state .length < 4096)
+    may-tally = (u .legs-so .size, path-fits j bytes start table₀ path₀ opened (u .drive))
+
+    -- on the goal it is over, and its record is the ride's
+    pub done : member (w .state .current) (goalsOf (j .goal)) ≡ true → u .drive .at ≡ ride j bytes start table₀ path₀
+    done e = over j bytes start table₀ path₀ opened (u .drive) (on-goal (w .state .current) (j .goal) e)
+
+    pub rode-so : member (w .state .current) (goalsOf (j .goal)) ≡ true → Rode j bytes (ride j bytes start table₀ path₀) (talliedOf w along) table path
+    rode-so e = rode j bytes start table₀ path₀ opened (u .drive) (on-goal (w .state .current) (j .goal) e) (u .legs-so)
+
+    module _ (e : member (w .state .current) (goalsOf (j .goal)) ≡ false) where
+      pub aside : w .state .current ≡ j .goal → ⊥
+      aside = off-goal (w .state .current) (j .goal) e
+
+      -- off it one more decision can be made
+      pub may-go-on : Onward j bytes w table path moves along
+      may-go-on = may-go j bytes start table₀ path₀ opened (u .drive) aside (u .legs-so) (u .room)
+
+      module _ {moves′ table′ path′ along′ : List ℕ} {r : Stand} (a : Went (act j bytes (w .state) table path) w moves along r table′ path′ moves′ along′) where
+        pub goes-on : {mark′ cost′ list′ place′ : List ℕ} → Fresh (r .base) mark′ cost′ list′ × Places place′ path′ (r .state .length) → length moves′ ≡ length moves
+            → Underway j bytes start table₀ path₀ r table′ path′ moves′ mark′ cost′ list′ place′ along′
+        goes-on f size = record {
+          drive = drives j bytes start table₀ path₀ opened (u .drive) aside a;
+          fresh = f .0;
+          places = f .1;
+          room = size ∙ u .room;
+          legs-so = notes j bytes start table₀ path₀ opened (u .drive) aside (u .legs-so) a;
+        }
+
+        pub goes-on-at : {mark′ cost′ list′ place′ : List ℕ} (f : Fresh (r .base) mark′ cost′ list′ × Places place′ path′ (r .state .length)) (size : length moves′ ≡ length moves)
+            → goes-on f size .drive .at ≡ next j bytes (u .drive .at)
+        unfolding goes-on drives
+        goes-on-at f size = refl
+
+        -- and it is nearer its end
+        pub nearer : yetTo j bytes (r .state) table′ path′ < yetTo j bytes (w .state) table path
+        nearer = lowers j bytes start table₀ path₀ opened (u .drive) aside a
 
 -- ---- a trial's answer, by what the opening answers
 

@@ -6,8 +6,15 @@ ghost use mathlib.Core.List.{_++_};
 ghost use lib.ListN.{length, set, getD, take, drop};
 ghost use Rattle.model.specs.Opening.{openTrial, openRun};
 ghost use Rattle.model.specs.Ride.{ride, trial, run};
+ghost use Rattle.model.specs.Basics.{member};
+ghost use Rattle.model.specs.Floor.{goalsOf};
+ghost use Rattle.model.specs.Decision.{act};
+ghost use Rattle.lookahead.specs.Contract.{Fresh};
+ghost use Rattle.decision.specs.Ready.{Places};
+ghost use Rattle.run.specs.Stands.{movesOf, setOut, talliedOf, Onward, Went};
 ghost use Rattle.run.specs.Trials.{none, Fits, noted, Scratch, Rode, IsTrial, IsRun, allowedBy, limitAfter, answered};
 ghost use Rattle.run.specs.Numbers.{recordAt, records, put, numbers, Counted, IsCounted};
+use answers::Answer;
 use answers::Job;
 use answers::Ran;
 use answers::Report;
@@ -33,7 +40,126 @@ pub fn note_leg(along: &mut [u32], before: usize, after: usize, leg: usize)
     }
 }
 
-// A trial on scratch lists that are lent: decisions until the goal. The sum at the path's end is the kept cost: cells cut off lie past it.
+// How many moves an answer tells of.
+pub fn moves_of(a: Answer) -> usize
+    ensures { λ r. ⌜ r ≡ movesOf a ⌝ }
+{
+    match a {
+        Answer::Arrived => 0,
+        Answer::Forward {
+            target,
+            rise,
+            moves,
+        } => moves,
+        Answer::BackedOut {
+            target,
+            rise,
+            moves,
+        } => moves,
+        Answer::Stayed { rise } => 0,
+        Answer::Refused(_) => 0,
+    }
+}
+
+// What a trial carries from one decision to the next: its state and its counts, the marks' base, and how many moves its last decision tells of.
+pub struct Stand {
+    pub state: State,
+    pub decisions: u64,
+    pub learned: u64,
+    pub travel: u64,
+    pub base: u32,
+    pub moves: usize,
+}
+
+// A trial before its first decision.
+pub fn set_out(start: usize) -> Stand
+    ensures { λ r. ⌜ r ≡ setOut start ⌝ }
+{
+    Stand {
+        state: State {
+            current: start,
+            learned: 0,
+            length: 0,
+        },
+        decisions: 0,
+        learned: 0,
+        travel: 0,
+        base: 1,
+        moves: 0,
+    }
+}
+
+// Whether a trial is over: it stands on a goal.
+pub fn arrived(job: Job, w: Stand) -> bool
+    ensures { λ r. ⌜ r ≡ member (w .state .current) (goalsOf (job .goal)) ⌝ }
+{
+    let s = w.state;
+    floor::is_goal(job.goal, s.current)
+}
+
+// One decision of a trial: it is made, its leg is noted, and it is counted.
+pub fn onward(
+    job: Job,
+    floor: &[u8],
+    w: Stand,
+    table: &mut [u32],
+    path: &mut [u16],
+    moves: &mut [u8],
+    mark: &mut [u32],
+    cost: &mut [u16],
+    list: &mut [u16],
+    place: &mut [u16],
+    along: &mut [u32],
+) -> Stand
+    requires { ⌜ Onward job (now floor) w (now table) (now path) (now moves) (now along) ⌝ ∗ ⌜ Fresh (w .base) (now mark) (now cost) (now list) ⌝ ∗ ⌜ Places (now place) (now path) (w .state .length) ⌝ }
+    ensures { λ r. ⌜ Went (act job (now (floor .entry)) (w .state) (now (table .entry)) (now (path .entry))) w (now (moves .entry)) (now (along .entry)) r (now (table .exit)) (now (path .exit)) (now (moves .exit)) (now (along .exit)) ⌝ }
+    ensures { λ r. ⌜ Fresh (r .base) (now (mark .exit)) (now (cost .exit)) (now (list .exit)) × Places (now (place .exit)) (now (path .exit)) (r .state .length) ⌝ }
+{
+    let before = w.state;
+    let r = decision::act(
+        job,
+        floor,
+        before,
+        table,
+        path,
+        moves,
+        0,
+        w.base,
+        mark,
+        cost,
+        list,
+        place,
+    );
+    let after = r.state;
+    note_leg(along, before.length, after.length, r.cost);
+    let answer = r.answer;
+    let n = moves_of(answer);
+    Stand {
+        state: after,
+        decisions: w.decisions + 1,
+        learned: w.learned + r.rise as u64,
+        travel: w.travel + r.cost as u64,
+        base: r.base,
+        moves: n,
+    }
+}
+
+// The record of a trial that is over. The sum at the path's end is the kept cost: cells cut off lie past it.
+pub fn tally(w: Stand, along: &[u32]) -> Report
+    requires { ⌜ (length (now along) ≡ 4096) × (w .state .length < 4096) ⌝ }
+    ensures { λ r. ⌜ r ≡ talliedOf w (now (along .entry)) ⌝ }
+{
+    let s = w.state;
+    let last = s.length;
+    Report {
+        decisions: w.decisions,
+        learned: w.learned,
+        kept: along[last] as u64,
+        travel: w.travel,
+    }
+}
+
+// A trial on scratch lists that are lent: decisions until the goal.
 fn drive(
     job: Job,
     floor: &[u8],
@@ -50,46 +176,23 @@ fn drive(
     requires { ⌜ openTrial job (now floor) start (now table) (now path) ≡ Verdict.Done ⌝ ∗ ⌜ Scratch (now moves) (now mark) (now cost) (now list) (now place) (now along) ⌝ }
     ensures { λ r. ⌜ Rode job (now (floor .entry)) (ride job (now (floor .entry)) start (now (table .entry)) (now (path .entry))) r (now (table .exit)) (now (path .exit)) ⌝ }
 {
-    let mut state = State {
-        current: start,
-        learned: 0,
-        length: 0,
-    };
-    let mut decisions: u64 = 0;
-    let mut learned: u64 = 0;
-    let mut travel: u64 = 0;
-    let mut base: u32 = 1;
-    while state.current != job.goal {
-        let r = decision::act(
+    let mut w = set_out(start);
+    while !arrived(job, w) {
+        w = onward(
             job,
             floor,
-            state,
+            w,
             table,
             path,
             moves,
-            0,
-            base,
             mark,
             cost,
             list,
             place,
+            along,
         );
-        let after = r.state;
-        note_leg(along, state.length, after.length, r.cost);
-        state = after;
-        decisions += 1;
-        learned += r.rise as u64;
-        travel += r.cost as u64;
-        base = r.base;
     }
-    let last = state.length;
-    let kept = along[last] as u64;
-    Report {
-        decisions: decisions,
-        learned: learned,
-        kept: kept,
-        travel: travel,
-    }
+    tally(w, along)
 }
 
 // One trial of a job that is opened: decisions until the goal. Its scratch lists stand in its frame.

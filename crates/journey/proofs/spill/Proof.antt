@@ -1,23 +1,8 @@
--- `journey::spill` meets its contract: what is written out is a part of the list.
+-- `journey::spill` meets its contract: the place falls to 0, since all before it is handed out.
 -- Assumes nothing.
-use mathlib.Core.Path.{sym}
-use native.Mathlib.Omega.{arith}
-use lib.Seq.{length-take-le}
 use borrow.Author.Needs.{needs}
 use Rattle.journey.proofs.spill.Statement.{statement}
 use Rattle.journey.proofs.spill.Tie as tie
 
-returns : tie.Need-returns
-returns c = search needs
-
-slice-aggregate-write-all : tie.Need-slice-aggregate-write-all
-slice-aggregate-write-all c = sym (length-take-le _ _ (omega arith))
-
-write-all-requires : tie.Need-write-all-requires
-write-all-requires c κs = search needs
-
-returns-2 : tie.Need-returns-2
-returns-2 c = search needs
-
 pub spill-spec : {M : Type 1} → statement M
-spill-spec = tie.close (tie.spec returns slice-aggregate-write-all write-all-requires returns-2)
+spill-spec = tie.close (tie.spec (λ c. search needs) (λ c κs. search needs) (λ c. search needs) (λ c. search needs))

@@ -1,95 +1,90 @@
--- `run::drive` meets its contract: the loop's laws are `Driving.antt`'s, of the model's own ride; its scratch lists stay as a decision leaves them.
+-- `run::drive` meets its contract: the loop's laws are `Driving.antt`'s, of the model's own ride.
 -- The measure is the ride's potential. Assumes nothing.
-use mathlib.Core.Path.{_≡_, sym, _∙_}
-use native.Mathlib.Omega.{arith}
-use lib.ListN.{length}
-use Rattle.lookahead.specs.Contract.{Fresh}
-use Rattle.decision.specs.Ready.{Places}
-use Rattle.run.proofs.Driving.{Driving, Along, yetTo, begins, begins-along, fits, long, sized, path-fits, kept-fits, rode, may-act, drives, lowers, notes, may-note}
+use mathlib.Core.Path.{sym, _∙_}
+use borrow.Author.Needs.{needs}
+use Rattle.run.proofs.Driving.{Underway, yetTo, long, sized, sets-out, may-tally, rode-so, may-go-on, goes-on, nearer, not-so, so}
 use Rattle.run.proofs.drive.Statement.{statement}
 use Rattle.run.proofs.drive.Tie as tie
 
--- the ride so far, the scratch lists that the next decision takes, and the sums of the legs
 abbrev Inv-loop : tie.InvT-loop
-Inv-loop job floor start table₀ path₀ moves₀ mark₀ cost₀ list₀ place₀ along₀ state₀ decisions₀ learned₀ travel₀ base₀ table path moves mark cost list place along state decisions learned travel base =
-    Driving job floor start table₀ path₀ state decisions learned travel table path × Fresh base mark cost list × Places place path (state .length) × (length moves ≡ 288) × Along job floor state path along
+Inv-loop job floor start table₀ path₀ moves₀ mark₀ cost₀ list₀ place₀ along₀ w₀ table path moves mark cost list place along w =
+    Underway job floor start table₀ path₀ w table path moves mark cost list place along
 
 abbrev μ-loop : tie.MeasureT-loop
-μ-loop job floor start table₀ path₀ moves₀ mark₀ cost₀ list₀ place₀ along₀ state₀ decisions₀ learned₀ travel₀ base₀ table path moves mark cost list place along state decisions learned travel base =
-    yetTo job floor state table path
+μ-loop job floor start table₀ path₀ moves₀ mark₀ cost₀ list₀ place₀ along₀ w₀ table path moves mark cost list place along w = yetTo job floor (w .state) table path
+
+abbrev start : tie.After-set-out Inv-loop μ-loop → tie.Start Inv-loop μ-loop
+start e = let known = e .before .before .before .before .before .before in known .before .before .before .before
+
+abbrev opened : tie.After-arrived Inv-loop μ-loop → tie.Start Inv-loop μ-loop
+opened e = start (e .before .before)
+
+-- one turn: the test, and the decision
+abbrev turn : tie.After-onward-arg8 Inv-loop μ-loop → tie.Then1 Inv-loop μ-loop
+turn e = let args = e .before .before .before .before in args .before .before .before .before
+
+abbrev moves-after : tie.After-slice-known16 Inv-loop μ-loop → tie.After-moves Inv-loop μ-loop
+moves-after e = let list = e .before .before .before .before .before .before in list .before .before .before .before .before
+
+abbrev went : tie.After-slice-known16 Inv-loop μ-loop → tie.After-onward Inv-loop μ-loop
+went e = let m = moves-after e in m .before .before .before .before .before
 
 loop-holds : tie.Need-loop-holds Inv-loop μ-loop
-loop-holds c =
-    let lent = c .before .before .before .before .before .before .before .before .before .pre .1 in
-    (begins _ _ _ _ _ (c .before .before .before .before .before .before .before .before .before .pre .0), lent .fresh, record { size = lent .places; noted = λ k h. absurd (omega arith) }, lent .room, begins-along _ _ _ _ _ (c .before .before .before .before .before .before .before .before .before .pre .0) (lent .sums) (lent .none-yet))
+loop-holds c = let s = start c in rw (c .set-out .ensures) (sets-out _ _ _ _ _ (s .pre .0) (s .pre .1))
 
-act-requires : tie.Need-act-requires Inv-loop μ-loop
-act-requires c κs =
-    let g = c .before .before .before .before .before .before .before .before .before .before .loop .inv in
-    (may-act _ _ _ _ _ (c .before .before .before .before .before .before .before .before .before .before .before .before .before .before .before .before .before .before .before .before .pre .0) (g .0) (c .before .before .before .before .before .before .before .if1 .taken) _ (omega (arith, g .3)), (g .1, g .2))
-
-note-leg-requires : tie.Need-note-leg-requires Inv-loop μ-loop
-note-leg-requires c κs =
-    let g = c .before .before .before .before .before .before .before .before .before .before .before .before .before .before .before .before .before .before .before .before .before .before .before .before .before .before .before .loop .inv in
-    may-note _ _ _ _ _ (c .before .before .before .before .before .before .before .before .before .before .before .before .before .before .before .before .before .before .before .before .before .before .before .before .before .before .before .before .before .before .before .before .before .before .before .before .before .pre .0) (g .0) (c .before .before .before .before .before .before .before .before .before .before .before .before .before .before .before .before .before .before .before .before .before .before .before .before .if1 .taken) (c .before .before .before .before .before .before .before .before .before .before .before .before .before .before .before .before .act .ensures .0) (g .4)
-
-add-decisions : tie.Need-add-decisions Inv-loop μ-loop
-add-decisions c = omega (arith, fits _ _ _ _ _ (c .before .before .before .before .before .before .before .before .before .before .before .before .before .before .before .before .before .before .before .before .before .before .before .before .before .before .before .before .before .before .before .before .before .before .before .before .before .before .before .before .pre .0) (drives _ _ _ _ _ (c .before .before .before .before .before .before .before .before .before .before .before .before .before .before .before .before .before .before .before .before .before .before .before .before .before .before .before .before .before .before .before .before .before .before .before .before .before .before .before .before .pre .0) (c .before .before .before .before .before .before .before .before .before .before .before .before .before .before .before .before .before .before .before .before .before .before .before .before .before .before .before .before .before .before .loop .inv .0) (c .before .before .before .before .before .before .before .before .before .before .before .before .before .before .before .before .before .before .before .before .before .before .before .before .before .before .before .if1 .taken) (c .before .before .before .before .before .before .before .before .before .before .before .before .before .before .before .before .before .before .before .act .ensures .0)))
-
-add-learned : tie.Need-add-learned Inv-loop μ-loop
-add-learned c = omega (arith, fits _ _ _ _ _ (c .before .before .before .before .before .before .before .before .before .before .before .before .before .before .before .before .before .before .before .before .before .before .before .before .before .before .before .before .before .before .before .before .before .before .before .before .before .before .before .before .pre .0) (drives _ _ _ _ _ (c .before .before .before .before .before .before .before .before .before .before .before .before .before .before .before .before .before .before .before .before .before .before .before .before .before .before .before .before .before .before .before .before .before .before .before .before .before .before .before .before .pre .0) (c .before .before .before .before .before .before .before .before .before .before .before .before .before .before .before .before .before .before .before .before .before .before .before .before .before .before .before .before .before .before .loop .inv .0) (c .before .before .before .before .before .before .before .before .before .before .before .before .before .before .before .before .before .before .before .before .before .before .before .before .before .before .before .if1 .taken) (c .before .before .before .before .before .before .before .before .before .before .before .before .before .before .before .before .before .before .before .act .ensures .0)))
-
-add-travel : tie.Need-add-travel Inv-loop μ-loop
-add-travel c = omega (arith, fits _ _ _ _ _ (c .before .before .before .before .before .before .before .before .before .before .before .before .before .before .before .before .before .before .before .before .before .before .before .before .before .before .before .before .before .before .before .before .before .before .before .before .before .before .before .before .pre .0) (drives _ _ _ _ _ (c .before .before .before .before .before .before .before .before .before .before .before .before .before .before .before .before .before .before .before .before .before .before .before .before .before .before .before .before .before .before .before .before .before .before .before .before .before .before .before .before .pre .0) (c .before .before .before .before .before .before .before .before .before .before .before .before .before .before .before .before .before .before .before .before .before .before .before .before .before .before .before .before .before .before .loop .inv .0) (c .before .before .before .before .before .before .before .before .before .before .before .before .before .before .before .before .before .before .before .before .before .before .before .before .before .before .before .if1 .taken) (c .before .before .before .before .before .before .before .before .before .before .before .before .before .before .before .before .before .before .before .act .ensures .0)))
+onward-requires : tie.Need-onward-requires Inv-loop μ-loop
+onward-requires c κs =
+    let t = turn c in
+    let u = t .before .before .loop .inv in
+    (may-go-on _ _ _ _ _ (opened (t .before) .pre .0) u (not-so (t .before .arrived .ensures) (t .if1 .taken)), (u .fresh, u .places))
 
 loop-less : tie.Need-loop-less Inv-loop μ-loop
-loop-less c = lowers _ _ _ _ _ (c .before .before .before .before .before .before .before .before .before .before .before .before .before .before .before .before .before .before .before .before .before .before .before .before .before .before .before .before .before .before .before .before .before .before .before .before .before .before .before .before .pre .0) (c .before .before .before .before .before .before .before .before .before .before .before .before .before .before .before .before .before .before .before .before .before .before .before .before .before .before .before .before .before .before .loop .inv .0) (c .before .before .before .before .before .before .before .before .before .before .before .before .before .before .before .before .before .before .before .before .before .before .before .before .before .before .before .if1 .taken) (c .before .before .before .before .before .before .before .before .before .before .before .before .before .before .before .before .before .before .before .act .ensures .0)
+loop-less c =
+    let o = went c in
+    let t = turn (o .before) in
+    nearer _ _ _ _ _ (opened (t .before) .pre .0) (t .before .before .loop .inv) (not-so (t .before .arrived .ensures) (t .if1 .taken)) (o .onward .ensures .0)
 
 loop-again : tie.Need-loop-again Inv-loop μ-loop
 loop-again c =
-    let opened = c .before .before .before .before .before .before .before .before .before .before .before .before .before .before .before .before .before .before .before .before .before .before .before .before .before .before .before .before .before .before .before .before .before .before .before .before .before .before .before .before .pre .0 in
-    let g = c .before .before .before .before .before .before .before .before .before .before .before .before .before .before .before .before .before .before .before .before .before .before .before .before .before .before .before .before .before .before .loop .inv in
-    let aside = c .before .before .before .before .before .before .before .before .before .before .before .before .before .before .before .before .before .before .before .before .before .before .before .before .before .before .before .if1 .taken in
-    let did = c .before .before .before .before .before .before .before .before .before .before .before .before .before .before .before .before .before .before .before .act .ensures in
-    (drives _ _ _ _ _ opened (g .0) aside (did .0), did .1 .fresh, did .1 .places, c .before .before .before .before .before .before .before .before .before .before .before .before .before .before .moves .given ∙ g .3, notes _ _ _ _ _ opened (g .0) aside (did .0) (g .4) (c .before .before .note-leg .ensures))
+    let o = went c in
+    let t = turn (o .before) in
+    goes-on _ _ _ _ _ (opened (t .before) .pre .0) (t .before .before .loop .inv) (not-so (t .before .arrived .ensures) (t .if1 .taken)) (o .onward .ensures .0) (o .onward .ensures .1) (moves-after c .moves .given)
 
-mul-kept : tie.Need-mul-kept Inv-loop μ-loop
-mul-kept c = omega (arith, path-fits _ _ _ _ _ (c .before .before .before .before .before .before .before .before .before .before .before .before .before .pre .0) (c .before .before .before .loop .inv .0))
+tally-requires : tie.Need-tally-requires Inv-loop μ-loop
+tally-requires c κs = let e = c .before .before in may-tally _ _ _ _ _ (opened e .pre .0) (e .before .loop .inv)
 
-slice-read-kept : tie.Need-slice-read-kept Inv-loop μ-loop
-slice-read-kept c = omega (arith, path-fits _ _ _ _ _ (c .before .before .before .before .before .before .before .before .before .before .before .before .before .before .pre .0) (c .before .before .before .before .loop .inv .0), c .before .before .before .before .loop .inv .4 .size)
-
-cast-kept : tie.Need-cast-kept Inv-loop μ-loop
-cast-kept c = omega (arith, kept-fits _ _ _ _ _ (c .before .before .before .before .before .before .before .before .before .before .before .before .before .before .pre .0) (c .before .before .before .before .loop .inv .0) (c .before .before .before .before .loop .inv .4))
+-- the lists at the end are as long as those lent
+abbrev over : tie.After-tally Inv-loop μ-loop → tie.After-arrived Inv-loop μ-loop
+over e = e .before .before .before
 
 same-length : tie.Need-same-length Inv-loop μ-loop
-same-length c = sized _ _ _ _ _ (c .before .before .before .before .before .before .before .before .before .before .before .before .before .before .pre .0) (c .before .before .before .before .loop .inv .0)
+same-length c = let e = over c in sized _ _ _ _ _ (opened e .pre .0) (e .before .loop .inv .drive)
 
 same-length-2 : tie.Need-same-length-2 Inv-loop μ-loop
-same-length-2 c = long _ _ _ _ _ (c .before .before .before .before .before .before .before .before .before .before .before .before .before .before .pre .0) (c .before .before .before .before .loop .inv .0)
+same-length-2 c = let e = over c in long _ _ _ _ _ (opened e .pre .0) (e .before .loop .inv .drive)
 
 same-length-3 : tie.Need-same-length-3 Inv-loop μ-loop
-same-length-3 c = c .before .before .before .before .loop .inv .3 ∙ sym (c .before .before .before .before .before .before .before .before .before .before .before .before .before .before .pre .1 .room)
+same-length-3 c = let e = over c in e .before .loop .inv .room ∙ sym (opened e .pre .1 .room)
 
 same-length-4 : tie.Need-same-length-4 Inv-loop μ-loop
-same-length-4 c = c .before .before .before .before .loop .inv .1 .marks .size ∙ sym (c .before .before .before .before .before .before .before .before .before .before .before .before .before .before .pre .1 .fresh .marks .size)
+same-length-4 c = let e = over c in e .before .loop .inv .fresh .marks .size ∙ sym (opened e .pre .1 .fresh .marks .size)
 
 same-length-5 : tie.Need-same-length-5 Inv-loop μ-loop
-same-length-5 c = c .before .before .before .before .loop .inv .1 .costs ∙ sym (c .before .before .before .before .before .before .before .before .before .before .before .before .before .before .pre .1 .fresh .costs)
+same-length-5 c = let e = over c in e .before .loop .inv .fresh .costs ∙ sym (opened e .pre .1 .fresh .costs)
 
 same-length-6 : tie.Need-same-length-6 Inv-loop μ-loop
-same-length-6 c = c .before .before .before .before .loop .inv .1 .cells ∙ sym (c .before .before .before .before .before .before .before .before .before .before .before .before .before .before .pre .1 .fresh .cells)
+same-length-6 c = let e = over c in e .before .loop .inv .fresh .cells ∙ sym (opened e .pre .1 .fresh .cells)
 
 same-length-7 : tie.Need-same-length-7 Inv-loop μ-loop
-same-length-7 c = c .before .before .before .before .loop .inv .2 .size ∙ sym (c .before .before .before .before .before .before .before .before .before .before .before .before .before .before .pre .1 .places)
+same-length-7 c = let e = over c in e .before .loop .inv .places .size ∙ sym (opened e .pre .1 .places)
 
 same-length-8 : tie.Need-same-length-8 Inv-loop μ-loop
-same-length-8 c = c .before .before .before .before .loop .inv .4 .size ∙ sym (c .before .before .before .before .before .before .before .before .before .before .before .before .before .before .pre .1 .sums)
+same-length-8 c = let e = over c in e .before .loop .inv .legs-so .size ∙ sym (opened e .pre .1 .sums)
 
 returns : tie.Need-returns Inv-loop μ-loop
 returns c =
-    let g = c .before .before .before .before .loop .inv in
-    rode _ _ _ _ _ (c .before .before .before .before .before .before .before .before .before .before .before .before .before .before .pre .0) (g .0) (omega arith) (g .4)
+    let e = over c in
+    rw (c .tally .ensures) (rode-so _ _ _ _ _ (opened e .pre .0) (e .before .loop .inv) (so (e .arrived .ensures) (c .before .before .if1 .left)))
 
 pub drive-spec : {M : Type 1} → statement M
 drive-spec =
@@ -97,17 +92,13 @@ drive-spec =
     (tie.spec
     Inv-loop
     μ-loop
+    (λ c κs. search needs)
     loop-holds
-    act-requires
-    note-leg-requires
-    add-decisions
-    add-learned
-    add-travel
+    (λ c κs. search needs)
+    onward-requires
     loop-less
     loop-again
-    mul-kept
-    slice-read-kept
-    cast-kept
+    tally-requires
     same-length
     same-length-2
     same-length-3

@@ -1,0 +1,81 @@
+-- `run::onward` meets its contract: `act` does the deed, `note_leg` notes its leg, and the sums fit.
+-- Assumes nothing.
+use Prim.Native.Nat.{ℕ, _+_}
+use mathlib.Core.Path.{refl, ap, _∙_}
+use native.Mathlib.Omega.{arith}
+use borrow.Author.Needs.{needs}
+use Rattle.run.specs.Trials.{Fits, noted}
+use Rattle.run.specs.Stands.{movesOf}
+use Rattle.run.proofs.onward.Statement.{statement}
+use Rattle.run.proofs.onward.Tie as tie
+
+abbrev start : tie.After-act → tie.Start
+start e =
+    let args = e .before .before .before .before .before .before in
+    let known = args .before .before .before .before .before .before in
+    known .before .before .before .before .before .before
+
+abbrev acted : tie.After-note-leg-arg → tie.After-act
+acted e =
+    let list = e .before .before .before .before .before in
+    let moves = list .before .before .before .before .before .before in
+    moves .before .before .before .before .before
+
+abbrev noting : tie.After-struct-known → tie.After-note-leg
+noting e = e .before .before .before .before
+
+note-leg-requires : tie.Need-note-leg-requires
+note-leg-requires c κs =
+    let a = acted c in
+    let did = a .act .ensures .0 in
+    let s = start a in
+    coe 1 0 (i. Fits (s .args .along .now) (s .args .w .state .length) (did .state i .length) (did .cost i)) (s .pre .0 .fits)
+
+add-t34 : tie.Need-add-t34
+add-t34 c = omega (arith, start (acted (noting c .before)) .pre .0 .decisions)
+
+add-t36 : tie.Need-add-t36
+add-t36 c = let a = acted (noting (c .before) .before) in omega (arith, start a .pre .0 .learned, a .act .ensures .0 .rise)
+
+add-t38 : tie.Need-add-t38
+add-t38 c = let a = acted (noting (c .before .before) .before) in omega (arith, start a .pre .0 .travel, a .act .ensures .0 .cost)
+
+returns : tie.Need-returns
+returns c =
+    let n = noting (c .before .before) in
+    let a = acted (n .before) in
+    let did = a .act .ensures .0 in
+    let s = start a .args in (
+      record {
+        state = did .state;
+        decisions = refl;
+        learned = ap (λ (k : ℕ). s .w .learned + k) (did .rise);
+        travel = ap (λ (k : ℕ). s .w .travel + k) (did .cost);
+        many = c .before .before .before .moves-of .ensures ∙ ap movesOf (did .answer);
+        table = did .table;
+        path = did .path;
+        moves = did .moves;
+        sums = n .note-leg .ensures ∙ (λ i. noted (s .along .now) (s .w .state .length) (did .state i .length) (did .cost i));
+      },
+      (a .act .ensures .1 .fresh, a .act .ensures .1 .places),
+    )
+
+pub onward-spec : {M : Type 1} → statement M
+onward-spec =
+    tie.close
+    (tie.spec
+    (λ c κs. search needs)
+    note-leg-requires
+    (λ c κs. search needs)
+    add-t34
+    add-t36
+    add-t38
+    (λ c. search needs)
+    (λ c. search needs)
+    (λ c. search needs)
+    (λ c. search needs)
+    (λ c. search needs)
+    (λ c. search needs)
+    (λ c. search needs)
+    (λ c. search needs)
+    returns)

@@ -1,0 +1,48 @@
+-- Where a trial stands between two decisions, and what one more decision takes and makes of it.
+use Prim.Native.Nat.{ℕ, _+_, _<_}
+use mathlib.Core.Path.{_≡_}
+use mathlib.Core.List.{List}
+use lib.ListN.{length, getD}
+use Rattle.answers.specs.declared.Answer.{Answer}
+use Rattle.answers.specs.declared.Answer.the-variants as A
+use Rattle.answers.specs.declared.Job.{Job}
+use Rattle.answers.specs.declared.Report.{Report}
+use Rattle.model.specs.Decision.{Deed, act, laid}
+use Rattle.decision.specs.Ready.{Ready}
+use Rattle.run.specs.declared.Stand.{Stand}
+use Rattle.run.specs.Trials.{Fits, noted}
+
+-- how many moves an answer tells of
+abbrev pub movesOf : Answer → ℕ
+movesOf A.Arrived = 0
+movesOf (A.Forward target rise moves) = moves
+movesOf (A.BackedOut target rise moves) = moves
+movesOf (A.Stayed rise) = 0
+movesOf (A.Refused r) = 0
+
+-- a trial before its first decision, and its record once it is over
+abbrev pub setOut : ℕ → Stand
+setOut start = record { state = record { current = start; learned = 0; length = 0 }; decisions = 0; learned = 0; travel = 0; base = 1; moves = 0 }
+
+abbrev pub talliedOf : Stand → List ℕ → Report
+talliedOf w along = record { decisions = w .decisions; learned = w .learned; kept = getD along (w .state .length) 0; travel = w .travel }
+
+-- a decision can be made, its leg noted, and the counts fit in 64 bits
+pub record Onward (j : Job) (bytes : List ℕ) (w : Stand) (table path moves along : List ℕ) : Type 0 where
+  pub ready : Ready j bytes (w .state) table path (length moves) 0
+  pub fits : Fits along (w .state .length) (act j bytes (w .state) table path .state .length) (act j bytes (w .state) table path .cost)
+  pub decisions : w .decisions + 1 < 18446744073709551616
+  pub learned : w .learned + act j bytes (w .state) table path .rise < 18446744073709551616
+  pub travel : w .travel + act j bytes (w .state) table path .cost < 18446744073709551616
+
+-- the deed d is done: the lent lists are as it leaves them, its leg is noted, and it is counted
+pub record Went (d : Deed) (w : Stand) (lent along : List ℕ) (r : Stand) (table′ path′ moves′ along′ : List ℕ) : Type 0 where
+  pub state : r .state ≡ d .state
+  pub decisions : r .decisions ≡ w .decisions + 1
+  pub learned : r .learned ≡ w .learned + d .rise
+  pub travel : r .travel ≡ w .travel + d .cost
+  pub many : r .moves ≡ movesOf (d .answer)
+  pub table : table′ ≡ d .table
+  pub path : path′ ≡ d .path
+  pub moves : moves′ ≡ laid lent 0 (d .way)
+  pub sums : along′ ≡ noted along (w .state .length) (d .state .length) (d .cost)
