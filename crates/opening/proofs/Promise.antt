@@ -27,6 +27,11 @@ module _ (f : Floor) (q : ℕ) (gs table : List ℕ) where
   pub fills-done : {after : List ℕ} → Done ≡ openTable f q gs (length table) → after ≡ openingTable f q gs → Fills f q gs table Done after
   fills-done e t = record { answer = answered e; left = t ∙ ap (λ v. filled v f q gs table) e }
 
+-- a check of two is the one, then the other
+pub then-two : (v u w : Verdict) → then (then v u) w ≡ then v (then u w)
+then-two Done u w = refl
+then-two (Refused r) u w = refl
+
 module _ (j : Job) (bytes : List ℕ) (start : ℕ) (table : List ℕ) where
   -- one trial and room for one report are never refused
   pub run-of-one : (path : List ℕ) → openRun j bytes start table path 1 1 ≡ openTrial j bytes start table path

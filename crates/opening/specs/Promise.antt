@@ -4,6 +4,7 @@ use mathlib.Core.Path.{_≡_}
 use mathlib.Core.List.{List}
 use lib.ListN.{length}
 use Rattle.answers.specs.Says.{saysVerdict}
+use Rattle.answers.specs.declared.Job.{Job}
 use Rattle.answers.specs.declared.Settings.{Settings}
 use Rattle.answers.specs.declared.Verdict.{Verdict}
 use Rattle.model.specs.Basics.{then}
@@ -21,6 +22,9 @@ pub record Fills (f : Floor) (q : ℕ) (gs table : List ℕ) (r : Verdict) (afte
   pub answer : Answers r (openTable f q gs (length table))
   pub left : after ≡ filled (openTable f q gs (length table)) f q gs table
 
--- 3: the line's settings; the sizes of a floor are no part of them
+-- 3: the settings of a run; and those of the line, of which the sizes of a floor are no part
+abbrev pub runSettings : Job → (trials : ℕ) → Verdict
+runSettings j trials = then (settings j) (trialsHold trials)
+
 abbrev pub lineHolds : Settings → Verdict
-lineHolds s = then (settings (jobIn s 1 1)) (trialsHold (s .trials))
+lineHolds s = runSettings (jobIn s 1 1) (s .trials)

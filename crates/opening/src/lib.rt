@@ -11,7 +11,7 @@ ghost use Rattle.model.specs.Checks.{finest, floorOf};
 ghost use Rattle.model.specs.Opening.{soundness, accepts, openJob, openTrial, reportsRoom, trialsHold, openRun, openTable};
 ghost use Rattle.floor.specs.Moves.{flat};
 ghost use Rattle.opening.specs.Distances.{above, judged, Openable};
-ghost use Rattle.opening.specs.Promise.{Answers, Fills, lineHolds};
+ghost use Rattle.opening.specs.Promise.{Answers, Fills, runSettings, lineHolds};
 use answers::Job;
 use answers::Place;
 use answers::Settings;
@@ -122,23 +122,33 @@ pub fn trials_hold(trials: usize) -> Verdict
     Verdict::Done
 }
 
+// 3: the settings of a run: those of its job, and how many trials it has.
+fn run_settings(job: Job, trials: usize) -> Verdict
+    ensures { λ r. ⌜ r ≡ runSettings job trials ⌝ }
+{
+    let v = checks::settings(job);
+    let Verdict::Done = v else {
+        return v;
+    };
+    trials_hold(trials)
+}
+
 // 3: the line's settings, before the floor text is looked at: the sizes of a floor are no part of them.
 pub fn settings_hold(s: Settings) -> Verdict
     ensures { λ r. ⌜ r ≡ lineHolds s ⌝ }
 {
-    let v = checks::settings(Job {
-        width: 1,
-        height: 1,
-        goal: s.goal,
-        depth: s.depth,
-        p: s.p,
-        q: s.q,
-        quota: s.quota,
-    });
-    let Verdict::Done = v else {
-        return v;
-    };
-    trials_hold(s.trials)
+    run_settings(
+        Job {
+            width: 1,
+            height: 1,
+            goal: s.goal,
+            depth: s.depth,
+            p: s.p,
+            q: s.q,
+            quota: s.quota,
+        },
+        s.trials,
+    )
 }
 
 // The opening of a run: also its path list, its reports and its trials.
@@ -165,11 +175,7 @@ pub fn open_run(
     let Verdict::Done = v else {
         return v;
     };
-    let v = checks::settings(job);
-    let Verdict::Done = v else {
-        return v;
-    };
-    let v = trials_hold(trials);
+    let v = run_settings(job, trials);
     let Verdict::Done = v else {
         return v;
     };

@@ -104,7 +104,6 @@ module _ (f : Floor) (q : ℕ) (gs table out₀ : List ℕ) (all : ℕ) where
         let cells = changed f q gs table (all - suc x) (suc x) in
         let r = room-left e l in
         let m : 6 * (n + 1) ≡ 6 * n + 6 = omega arith in
-        let w : figure ≡ getD table x 0 = d in
         record {
           counted = counting-more f q gs table all n x (g .counted) e l;
           room = g .room;

@@ -8,8 +8,8 @@ use Rattle.opening.proofs.judge_in.Tie as tie
 
 returns : tie.Need-returns
 returns c =
-    let after-find-distances = c .before .before .before .before in
-    let start = after-find-distances .before .before .before .before .before in
+    let found = c .before .before .before .before in
+    let start = found .before .before .before .before .before in
     c .judge-distances .ensures ∙ judged-soundness _ _ _ _ _ (start .pre .0) (c .before .before .before .before .find-distances .ensures)
 
 pub judge-in-spec : {M : Type 1} → statement M

@@ -10,8 +10,9 @@ use Rattle.answers.specs.declared.Verdict.{Verdict}
 use Rattle.model.specs.Basics.{then}
 use Rattle.model.specs.Floor.{size, Sized}
 use Rattle.model.specs.Checks.{floorOf, sizes, pathRoom, settings}
-use Rattle.model.specs.Opening.{reportsRoom, openRun}
-use Rattle.model.proofs.Accepted.{then-stops, then-goes, sizes-judges, settings-judges}
+use Rattle.model.specs.Opening.{reportsRoom, trialsHold, openRun}
+use Rattle.model.proofs.Accepted.{then-stops, then-goes, then-done, sizes-judges, settings-judges}
+use Rattle.opening.proofs.Promise.{then-two}
 use Rattle.opening.proofs.open_run.Statement.{statement}
 use Rattle.opening.proofs.open_run.Tie as tie
 
@@ -41,11 +42,11 @@ past-room : (e : tie.After-enum-told3) (places : List ℕ) {r w : Verdict} → l
 past-room e places q g = past-sizes (at-sizes e) (then-goes _ (room-is (e .before .before) places q) (e .enum-told3 .given .1) g)
 
 past-settings : (e : tie.After-enum-told7) {r w : Verdict} → r ≡ w →
-    let a = at-start (at-sizes (at-room e)) .args in r ≡ then (reportsRoom (a .trials) (a .records)) (then (settings (a .job)) w)
+    let a = at-start (at-sizes (at-room e)) .args in r ≡ then (reportsRoom (a .trials) (a .records)) (then (settings (a .job)) (then (trialsHold (a .trials)) w))
 past-settings e g =
     let reported = e .before .before .before in
     then-goes _ (reported .before .before .reports-room .ensures) (reported .enum-told5 .given .1)
-    (then-goes _ (e .before .before .settings .ensures) (e .enum-told7 .given .1) g)
+    (then-goes _ (e .before .before .run-settings .ensures) (e .enum-told7 .given .1) g ∙ then-two (settings _) (trialsHold _) _)
 
 returns : tie.Need-returns
 unfolding openRun
@@ -65,26 +66,17 @@ returns-4 c = λ places q.
     let reported = c .before .before .before in
     past-room (reported .before .before .before) places q
     (then-goes _ (reported .before .before .reports-room .ensures) (reported .enum-told5 .given .1)
-    (then-stops _ (c .before .before .settings .ensures) (c .enum-told8 .given .1)))
-
-returns-5 : tie.Need-returns-5
-unfolding openRun
-returns-5 c = λ places q.
-    let set = c .before .before .before in
-    past-room (at-room set) places q (past-settings set (then-stops _ (c .before .before .trials-hold .ensures) (c .enum-told10 .given .1)))
+    (then-stops _ (c .before .before .run-settings .ensures) (c .enum-told8 .given .1) ∙ then-two (settings _) (trialsHold _) _))
 
 accepts-requires : tie.Need-accepts-requires
 accepts-requires c κs =
-    let set = c .before .before .before in
-    let s = sized (at-sizes (at-room set)) in
-    (s .0, s .1, settings-judges _ .gives (sym (set .before .before .settings .ensures) ∙ set .enum-told7 .given .1) .fine)
+    let s = sized (at-sizes (at-room c)) in
+    let set = then-done (settings _) (trialsHold _) (sym (c .before .before .run-settings .ensures) ∙ c .enum-told7 .given .1) .0 in
+    (s .0, s .1, settings-judges _ .gives set .fine)
 
-returns-6 : tie.Need-returns-6
+returns-5 : tie.Need-returns-5
 unfolding openRun
-returns-6 c = λ places q.
-    let set = c .before .before .before .before in
-    past-room (at-room set) places q
-    (past-settings set (then-goes _ (c .before .before .before .trials-hold .ensures) (c .before .enum-told9 .given .1) (c .accepts .ensures)))
+returns-5 c = λ places q. past-room (at-room (c .before)) places q (past-settings (c .before) (c .accepts .ensures))
 
 pub open-run-spec : {M : Type 1} → statement M
 open-run-spec =
@@ -106,9 +98,5 @@ open-run-spec =
     (λ c. search needs)
     (λ c. search needs)
     returns-4
-    (λ c κs. search needs)
-    (λ c. search needs)
-    (λ c. search needs)
-    returns-5
     accepts-requires
-    returns-6)
+    returns-5)

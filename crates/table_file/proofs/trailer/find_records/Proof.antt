@@ -1,6 +1,6 @@
 -- `table_file::trailer::find_records` meets its contract: by the trailer's check, the part that it points to or the empty one.
 -- Assumes nothing.
-use Prim.Native.Nat.{ℕ, _+_}
+use Prim.Native.Nat.{_+_}
 use mathlib.Core.Path.{_≡_, refl, sym, _∙_, ap}
 use mathlib.Core.Bool.{true, false}
 use denote.Ref.{now}
@@ -22,7 +22,7 @@ holds e = sym (e .before .trailer-holds .ensures) ∙ not-false _ (e .if1 .left)
 returns : tie.Need-returns
 returns c =
     let file = c .before .before .before .before .args .file in
-    (sym (found-none _ (faulty (c .before))), (refl, ap (λ (n : ℕ). n + file .ptr .1) (start-none _ (faulty (c .before)))))
+    (sym (found-none _ (faulty (c .before))), (refl, ap (λ n. n + file .ptr .1) (start-none _ (faulty (c .before)))))
 
 back-in-requires : tie.Need-back-in-requires
 back-in-requires c κs = trailer-gives _ (holds c) .long
@@ -35,7 +35,7 @@ returns-2 c =
     let back = c .before .before in
     let file = back .before .before .before .before .args .file in (
       found-part _ _ _ (back .back-in .ensures) (c .before .count-in .ensures .0) (holds (back .before)),
-      (refl, ap (λ (n : ℕ). n + file .ptr .1) (start-some _ _ (back .back-in .ensures) (holds (back .before)))),
+      (refl, ap (λ n. n + file .ptr .1) (start-some _ _ (back .back-in .ensures) (holds (back .before)))),
     )
 
 pub find-records-spec : {M : Type 1} → statement M

@@ -1,8 +1,6 @@
 -- `table_file::trailer::trailer_holds` meets its contract: each test is a field of `Trailer`.
 -- Assumes nothing.
-use Prim.Native.Nat.{ℕ}
 use mathlib.Core.Path.{sym, _∙_, ap}
-use mathlib.Core.List.{List}
 use borrow.Author.Tests.{not-true, not-false}
 use lib.ListN.{getD}
 use Rattle.model.specs.TableFile.{isLetters}
@@ -20,7 +18,7 @@ returns-2 : tie.Need-returns-2
 returns-2 c = sym (trailer-false _ (λ t. never (t .letters) (sym (c .before .is-letters .ensures ∙ ap isLetters (c .before .before .trailer-of .ensures .0)) ∙ not-true _ (c .if2 .taken))))
 
 returns-3 : tie.Need-returns-3
-returns-3 c = sym (trailer-false _ (λ t. c .if3 .taken (ap (λ (l : List ℕ). getD l 5 0) (c .before .before .before .before .trailer-of .ensures .0) ∙ t .edition)))
+returns-3 c = sym (trailer-false _ (λ t. c .if3 .taken (ap (λ l. getD l 5 0) (c .before .before .before .before .trailer-of .ensures .0) ∙ t .edition)))
 
 returns-4 : tie.Need-returns-4
 returns-4 c = sym (trailer-false _ (λ t. omega (arith, t .even)))
@@ -36,7 +34,7 @@ returns-6 c =
     sym (trailer-true _ (record {
       long = omega arith;
       letters = sym (letters .is-letters .ensures ∙ ap isLetters trailer) ∙ not-false _ (edition .before .before .if2 .left);
-      edition = sym (ap (λ (l : List ℕ). getD l 5 0) trailer) ∙ edition .if3 .left;
+      edition = sym (ap (λ l. getD l 5 0) trailer) ∙ edition .if3 .left;
       even = omega arith;
       within = omega arith;
     }))
