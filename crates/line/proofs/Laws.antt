@@ -23,7 +23,7 @@ use Rattle.line.specs.declared.Reading.{Reading}
 use Rattle.line.specs.declared.Line.{Line}
 use Rattle.line.specs.declared.Line.the-variants.{Asked, Malformed}
 use Rattle.line.specs.Reading.{after, asksOf, numbersOf, whole, Goes, Pushed, Scanned, asked, textOf, Said}
-use Rattle.line.proofs.Decimals.{tens}
+use Rattle.notation.proofs.Decimals.{tens}
 use Rattle.notation.specs.declared.digits.Run.{Run}
 use Rattle.notation.specs.Runs.{digitsIn, valueIn, runAt}
 use Rattle.notation.proofs.Runs.{digit-bounds, here, one-digit, no-digit, with-small, run-after, run-rest}

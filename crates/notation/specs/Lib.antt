@@ -1,2 +1,3 @@
--- What the functions of notation promise: Runs of digits.
+-- What the functions of notation promise: Runs of digits that are read, and Printing.
 pub mod Runs
+pub mod Printing

@@ -1,5 +1,6 @@
-// How numbers are held and written, whatever they count: the same number in more bits; `digits` reads them.
+// How numbers are held and written, whatever they count: the same number in more bits; `digits` reads them and `print` writes them.
 pub mod digits;
+pub mod print;
 
 ghost use mathlib.Core.Path.{_≡_};
 ghost use Prim.Native.Nat.{_<_};

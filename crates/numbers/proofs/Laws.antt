@@ -18,8 +18,8 @@ use Rattle.model.proofs.Openings.{not-both}
 use Rattle.notation.specs.declared.digits.Run.{Run}
 use Rattle.notation.specs.Runs.{digitsIn, valueIn, runAt}
 use Rattle.notation.proofs.Runs.{digit-bounds, here, one-digit, no-digit, with-small, with-great, stays-great, run-after, run-rest}
-use Rattle.line.specs.Printing.{Printed}
-use Rattle.line.proofs.Decimals.{printed-then, printed-none}
+use Rattle.notation.specs.Printing.{Printed}
+use Rattle.notation.proofs.Decimals.{printed-then, printed-none}
 use Rattle.numbers.specs.declared.Cursor.{Cursor}
 use Rattle.numbers.specs.declared.Item.{Item}
 use Rattle.numbers.specs.declared.Item.the-variants.{Number, End, Malformed}
