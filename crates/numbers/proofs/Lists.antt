@@ -35,7 +35,7 @@ module _ (most : ℕ) (input : List ℕ) (i : ℕ) (d : Cursor) (list : List ℕ
     good-turn t = ap (turned n e) (sym t) ∙ one-turn n e same
 
 -- a list that is read: what it is, and that its count is one of its entries
-abbrev pub Ends : (most : ℕ) (input : List ℕ) → Cursor → (list : List ℕ) → Cursor → List ℕ → Type 0
+abbrev Ends : (most : ℕ) (input : List ℕ) → Cursor → (list : List ℕ) → Cursor → List ℕ → Type 0
 Ends most input c list r mid = Read (readList most input c list) r mid × ((r .value ≤ length mid) × (r .value ≡ length (take (r .value) mid)))
 
 -- a list so far, i of as many entries as the cursor says: reading on from here gives what reading the whole list gives
