@@ -23,7 +23,7 @@ use Rattle.line.specs.declared.Reading.{Reading}
 use Rattle.line.specs.declared.Line.{Line}
 use Rattle.line.specs.declared.Line.the-variants.{Asked, Malformed}
 use Rattle.line.specs.Reading.{after, asksOf, numbersOf, whole, Goes, Pushed, Scanned, asked, textOf, Said}
-use Rattle.line.proofs.Decimals.{tens}
+use Rattle.notation.proofs.Decimals.{tens}
 use Rattle.notation.specs.declared.digits.Run.{Run}
 use Rattle.notation.specs.Runs.{digitsIn, valueIn, runAt}
 use Rattle.notation.proofs.Runs.{digit-bounds, here, one-digit, no-digit, with-small, run-after, run-rest}
@@ -108,7 +108,7 @@ module _ (d v b : ℕ) (rest : List ℕ) (t : isDigit b ≡ true) where
       at-other d v b rest (not-both (isDigit b) (leb d 6) (λ e. lt-leb d 6 (omega arith))) (λ e. omega (arith, h .0)) (λ e. omega (arith, h .0))
 
 -- a run of at most 7 digits is below 10,000,000
-abbrev pub longest : ℕ
+abbrev longest : ℕ
 longest = 9999999
 
 tens-high : (d : ℕ) → d ≤ 7 → tens d ≤ 10000000
@@ -179,7 +179,7 @@ after-run (b ∷ bs) = go (isDigit b) refl (after-run bs)
     go false t h = rw (no-digit 0 0 b bs t .0)
 
 -- nothing read yet, and nothing left to read
-pub none-yet : (r : Reading) (input : List ℕ) → r .count ≡ 0 → whole r input ≡ readLine input
+none-yet : (r : Reading) (input : List ℕ) → r .count ≡ 0 → whole r input ≡ readLine input
 unfolding readLine
 none-yet r input c = rw c (same (numbersIn 0 0 input))
   where

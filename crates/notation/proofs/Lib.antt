@@ -1,3 +1,4 @@
--- Laws of notation: Runs of digits, and Puts of bytes.
+-- Laws of notation: Runs of digits that are read, Decimals of numbers that are printed, and Puts of bytes.
 pub mod Puts
 pub mod Runs
+pub mod Decimals

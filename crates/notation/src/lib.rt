@@ -1,6 +1,8 @@
-// How numbers are held and written, whatever they count: the same number in more bits; `digits` reads them from a text, `bytes` reads and writes them big-endian.
+// How numbers are held and written, whatever they count: the same number in more bits; `digits` reads them and `print` writes them in decimal, `bytes` does
+// both big-endian.
 pub mod bytes;
 pub mod digits;
+pub mod print;
 
 ghost use mathlib.Core.Path.{_≡_};
 ghost use Prim.Native.Nat.{_<_};

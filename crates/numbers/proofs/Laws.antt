@@ -1,30 +1,25 @@
--- What each byte does to a number that is being read, and each number to a list; and a list that is printed.
+-- What stands at a place of an input: the number that a run of digits makes, after any blanks, or none.
 -- A loop's invariant is that reading on from here gives what reading from the start gives. Assumes nothing.
-use Prim.Native.Nat.{ℕ, zero, suc, _+_, _-_, _*_, _≤_, _<_}
+use Prim.Native.Nat.{ℕ, suc, _+_, _-_, _*_, _≤_, _<_}
 use mathlib.Core.Path.{_≡_, refl, sym, ap, _∙_}
 use mathlib.Core.Bool.{Bool, true, false, _&&_}
-use mathlib.Core.List.{List, [], _∷_, _++_, append-assoc, append-nil}
+use mathlib.Core.List.{List, [], _∷_}
 use native.Mathlib.Nat.{add-zero}
 use native.Mathlib.Decide.{decLe}
 use native.Mathlib.Numerals.{add-one}
 use native.Mathlib.Omega.{arith}
 use borrow.Author.Tests.{le-leb, lt-leb, ne-eqb}
 use lib.Dec.{leb}
-use lib.ListN.{length, getD, set, take, drop, drop-of-length-le, length-set}
-use lib.Seq.{take-suc, take-all, length-take-le}
+use lib.ListN.{length, getD, drop, drop-of-length-le}
 use Rattle.model.specs.FloorText.{isDigit}
-use Rattle.model.specs.Line.{field}
 use Rattle.model.proofs.Openings.{not-both}
 use Rattle.notation.specs.declared.digits.Run.{Run}
 use Rattle.notation.specs.Runs.{digitsIn, valueIn, runAt}
 use Rattle.notation.proofs.Runs.{digit-bounds, here, one-digit, no-digit, with-small, with-great, stays-great, run-after, run-rest}
-use Rattle.line.specs.Printing.{Printed}
-use Rattle.line.proofs.Decimals.{printed-then, printed-none}
 use Rattle.numbers.specs.declared.Cursor.{Cursor}
 use Rattle.numbers.specs.declared.Item.{Item}
 use Rattle.numbers.specs.declared.Item.the-variants.{Number, End, Malformed}
-use Rattle.numbers.specs.Reading.{isBlank, greatest, digitsFrom, numberFrom, numberAt, failed, atMost, numberIn, isEnd, endedAt, Filled, filled, fillFrom, readList, Read}
-use Rattle.numbers.specs.Printing.{fieldsOf}
+use Rattle.numbers.specs.Reading.{isBlank, greatest, digitsFrom, numberFrom, numberAt, failed, atMost, numberIn, isEnd, endedAt}
 
 -- a digit that makes the number too great
 too-great : (b n : ℕ) → greatest < n → (isDigit b && leb n greatest) ≡ false
@@ -176,117 +171,3 @@ module _ (input : List ℕ) (c : Cursor) where
   pub ended-by : c .ok ≡ true → (n m : Item) → n ≡ numberAt input (c .at) → n ≡ m → isEnd m ≡ endedAt input c
   unfolding endedAt
   ended-by t n m e f = sym (rw (t, ← e, f))
-
--- one turn of reading a list, and its end
-module _ (most : ℕ) (input : List ℕ) (i : ℕ) (d : Cursor) (list : List ℕ) where
-  no-turn : filled (record { ok = d .ok; at = d .at; value = i }) list ≡ fillFrom most input zero i d list
-  unfolding fillFrom
-  no-turn = refl
-
-  turned : ℕ → Cursor → Bool → Filled
-  turned n e t = elim t [ true ↦ fillFrom most input n (suc i) e (set list i (e .value)) | false ↦ filled failed list ]
-
-  one-turn : (n : ℕ) (e : Cursor) → e ≡ numberIn most input d → turned n e (e .ok) ≡ fillFrom most input (suc n) i d list
-  unfolding fillFrom turned
-  one-turn n e same = ap (λ x. turned n x (x .ok)) same
-
-  module _ (n : ℕ) (e : Cursor) (same : e ≡ numberIn most input d) where
-    bad-turn : e .ok ≡ false → filled failed list ≡ fillFrom most input (suc n) i d list
-    unfolding turned
-    bad-turn t = ap (turned n e) (sym t) ∙ one-turn n e same
-
-    good-turn : e .ok ≡ true → fillFrom most input n (suc i) e (set list i (e .value)) ≡ fillFrom most input (suc n) i d list
-    unfolding turned
-    good-turn t = ap (turned n e) (sym t) ∙ one-turn n e same
-
--- a list that is read: what it is, and that its count is one of its entries
-abbrev pub Ends : (most : ℕ) (input : List ℕ) → Cursor → (list : List ℕ) → Cursor → List ℕ → Type 0
-Ends most input c list r mid = Read (readList most input c list) r mid × ((r .value ≤ length mid) × (r .value ≡ length (take (r .value) mid)))
-
--- a list so far, i of as many entries as the cursor says: reading on from here gives what reading the whole list gives
-pub record Filling (most : ℕ) (input : List ℕ) (c : Cursor) (list : List ℕ) (count : ℕ) (mid : List ℕ) (d : Cursor) (i : ℕ) : Type 0 where
-  pub all : count ≡ c .value
-  pub few : i ≤ count
-  pub room : count ≤ length list
-  pub same : length mid ≡ length list
-  pub left : fillFrom most input (c .value - i) i d mid ≡ readList most input c list
-
-module _ (most : ℕ) (input : List ℕ) (c : Cursor) (list : List ℕ) where
-  ends : (mid : List ℕ) (r : Cursor) → r .value ≤ length mid → filled r mid ≡ readList most input c list → Ends most input c list r mid
-  ends mid r h e = (record { cursor = ap (λ x. x .cursor) e; entries = ap (λ x. x .list) e }, (h, sym (length-take-le (r .value) mid h)))
-
-  fails : (mid : List ℕ) (r : Cursor) → r ≡ failed → filled failed mid ≡ readList most input c list → Ends most input c list r mid
-  fails mid r e f = ends mid r (omega (arith, ap (λ x. x .value) e)) (ap (λ x. filled x mid) e ∙ f)
-
-  pub filling-long : length list < c .value → (r : Cursor) → r ≡ failed → Ends most input c list r list
-  unfolding readList
-  filling-long h r e = fails list r e (sym (rw (lt-leb (c .value) (length list) h)))
-
-  pub filling : c .value ≤ length list → Filling most input c list (c .value) list c 0
-  unfolding readList
-  filling h = let z : c .value - 0 ≡ c .value = omega arith in record {
-    all = refl;
-    few = omega arith;
-    room = h;
-    same = refl;
-    left = ap (λ n. fillFrom most input n 0 c list) z ∙ sym (rw (le-leb (c .value) (length list) h));
-  }
-
-  module _ {count : ℕ} {mid : List ℕ} {d : Cursor} {i : ℕ} (g : Filling most input c list count mid d i) where
-    pub filling-all : count ≤ i → (r : Cursor) → r ≡ record { ok = d .ok; at = d .at; value = count } → Ends most input c list r mid
-    filling-all h r e =
-        let z : zero ≡ c .value - i = omega (arith, g .all) in
-        let n : count ≡ i = omega (arith, g .few) in
-        ends mid r (omega (arith, ap (λ x. x .value) e, g .room, g .same))
-        (ap (λ x. filled x mid) e ∙ ap (λ n. filled (record { ok = d .ok; at = d .at; value = n }) mid) n ∙ no-turn most input i d mid
-        ∙ ap (λ n. fillFrom most input n i d mid) z ∙ g .left)
-
-    module _ (h : i < count) (e : Cursor) (same-e : e ≡ numberIn most input d) where
-      turn : fillFrom most input (suc (c .value - (i + 1))) i d mid ≡ readList most input c list
-      turn = let z : suc (c .value - (i + 1)) ≡ c .value - i = omega (arith, g .all) in ap (λ n. fillFrom most input n i d mid) z ∙ g .left
-
-      pub filling-off : e .ok ≡ false → (r : Cursor) → r ≡ failed → Ends most input c list r mid
-      filling-off t r f = fails mid r f (bad-turn most input i d mid (c .value - (i + 1)) e same-e t ∙ turn)
-
-      pub filling-more : e .ok ≡ true → Filling most input c list count (set mid i (e .value)) e (i + 1)
-      filling-more t = record {
-        all = g .all;
-        few = omega arith;
-        room = g .room;
-        same = length-set mid i (e .value) ∙ g .same;
-        left = ap (λ k. fillFrom most input (c .value - (i + 1)) k e (set mid i (e .value))) (add-one i) ∙ good-turn most input i d mid (c .value - (i + 1)) e same-e t ∙ turn;
-      }
-
--- one field more of a list that is printed
-fields-snoc : (xs : List ℕ) (x : ℕ) → fieldsOf (xs ++ x ∷ []) ≡ fieldsOf xs ++ field x
-unfolding fieldsOf
-fields-snoc [] x = append-nil (field x)
-fields-snoc (y ∷ xs) x = ap (λ l. field y ++ l) (fields-snoc xs x) ∙ sym (append-assoc (field y) (fieldsOf xs) (field x))
-
--- a list so far, i entries of it printed from the place `at` on: each in at most 21 bytes
-pub record Fields (out₀ : List ℕ) (at : ℕ) (list out : List ℕ) (end i : ℕ) : Type 0 where
-  pub few : i ≤ length list
-  pub same : length out ≡ length out₀
-  pub short : end ≤ at + 21 * i
-  pub printed : Printed out₀ at (fieldsOf (take i list)) out end
-
-module _ (out : List ℕ) (at : ℕ) (list : List ℕ) where
-  pub fields : Fields out at list out at 0
-  unfolding fieldsOf
-  fields = record { few = omega arith; same = refl; short = omega arith; printed = printed-none out at }
-
-  module _ {mid : List ℕ} {end i : ℕ} (g : Fields out at list mid end i) where
-    pub fields-more : {out′ : List ℕ} {end′ : ℕ} (x : ℕ) → i < length list → x ≡ getD list i 0 → length out′ ≡ length mid → Printed mid end (field x) out′ end′ × (end′ ≤ end + 21)
-        → Fields out at list out′ end′ (i + 1)
-    fields-more x h e l P =
-        let f : fieldsOf (take i list) ++ field x ≡ fieldsOf (take (i + 1) list) =
-        ap (λ y. fieldsOf (take i list) ++ field y) e ∙ sym (fields-snoc (take i list) (getD list i 0)) ∙ ap fieldsOf (sym (take-suc list i 0 h) ∙ ap (λ k. take k list) (sym (add-one i))) in
-        record {
-          few = omega arith;
-          same = l ∙ g .same;
-          short = omega (arith, g .short, P .1);
-          printed = rw f at (printed-then (fieldsOf (take i list)) (field x) (g .printed) (P .0));
-        }
-
-    pub fields-all : length list ≤ i → Printed out at (fieldsOf list) mid end × (end ≤ at + 21 * length list)
-    fields-all h = (rw (take-all i list h) at (g .printed), omega (arith, g .few, g .short))

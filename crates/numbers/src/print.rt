@@ -2,7 +2,7 @@
 ghost use Prim.Native.Nat.{_+_, _*_, _≤_, _<_};
 ghost use mathlib.Core.Path.{_≡_};
 ghost use lib.ListN.{length};
-ghost use Rattle.line.specs.Printing.{Printed};
+ghost use Rattle.notation.specs.Printing.{Printed};
 ghost use Rattle.numbers.specs.Printing.{fieldsOf};
 
 // A field is at most a space and 20 digits.
@@ -14,7 +14,7 @@ pub fn fields8(out: &mut [u8], at: usize, list: &[u8]) -> usize
     let mut end = at;
     let mut i = 0;
     while i < list.len() {
-        end = line::print::field(out, end, notation::wide8(list[i]));
+        end = notation::print::field(out, end, notation::wide8(list[i]));
         i += 1;
     }
     end
@@ -28,7 +28,7 @@ pub fn fields16(out: &mut [u8], at: usize, list: &[u16]) -> usize
     let mut end = at;
     let mut i = 0;
     while i < list.len() {
-        end = line::print::field(out, end, notation::wide16(list[i]));
+        end = notation::print::field(out, end, notation::wide16(list[i]));
         i += 1;
     }
     end
@@ -42,7 +42,7 @@ pub fn fields32(out: &mut [u8], at: usize, list: &[u32]) -> usize
     let mut end = at;
     let mut i = 0;
     while i < list.len() {
-        end = line::print::field(out, end, notation::wide32(list[i]));
+        end = notation::print::field(out, end, notation::wide32(list[i]));
         i += 1;
     }
     end
@@ -56,7 +56,7 @@ pub fn fields64(out: &mut [u8], at: usize, list: &[u64]) -> usize
     let mut end = at;
     let mut i = 0;
     while i < list.len() {
-        end = line::print::field(out, end, notation::wide64(list[i]));
+        end = notation::print::field(out, end, notation::wide64(list[i]));
         i += 1;
     }
     end

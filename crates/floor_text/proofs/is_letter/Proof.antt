@@ -21,4 +21,11 @@ returns-5 c =
     simp (ne-eqb (start .args .b) 46 (omega arith), ne-eqb (start .args .b) 71 (omega arith), ne-eqb (start .args .b) 64 (omega arith), ne-eqb (start .args .b) 79 (omega arith))
 
 pub is-letter-spec : {M : Type 1} → statement M
-is-letter-spec = tie.close (tie.spec (λ c. simp (eq-eqb (c .before .args .b) 46 (omega arith))) (λ c. simp (ne-eqb (c .before .before .args .b) 46 (omega arith), eq-eqb (c .before .before .args .b) 71 (omega arith))) returns-3 returns-4 returns-5)
+is-letter-spec =
+    tie.close
+    (tie.spec
+    (λ c. simp (eq-eqb _ 46 (c .if1 .taken)))
+    (λ c. simp (ne-eqb _ 46 (c .before .if1 .left), eq-eqb _ 71 (c .if2 .taken)))
+    returns-3
+    returns-4
+    returns-5)

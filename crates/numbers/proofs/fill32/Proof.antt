@@ -4,7 +4,7 @@ use Prim.Native.Nat.{_-_}
 use native.Mathlib.Omega.{arith}
 use borrow.Author.Needs.{needs}
 use borrow.Author.Tests.{not-true, not-false}
-use Rattle.numbers.proofs.Laws.{Filling, filling, filling-long, filling-off, filling-more, filling-all}
+use Rattle.numbers.proofs.Lists.{Filling, filling, filling-long, filling-off, filling-more, filling-all}
 use Rattle.numbers.proofs.fill32.Statement.{statement}
 use Rattle.numbers.proofs.fill32.Tie as tie
 

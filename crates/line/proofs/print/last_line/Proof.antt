@@ -3,7 +3,7 @@
 use mathlib.Core.List.{[], _∷_, _++_}
 use Rattle.model.specs.FloorText.{LF}
 use Rattle.model.specs.Line.{field, settledWord}
-use Rattle.line.proofs.Decimals.{printed-then}
+use Rattle.notation.proofs.Decimals.{printed-then}
 use borrow.Author.Needs.{needs}
 use Rattle.line.proofs.print.last_line.Statement.{statement}
 use Rattle.line.proofs.print.last_line.Tie as tie

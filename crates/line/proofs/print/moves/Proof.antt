@@ -6,7 +6,8 @@ use native.Mathlib.Omega.{arith}
 use lib.ListN.{length, getD, set, take, length-set}
 use lib.Seq.{sets}
 use Rattle.line.specs.Printing.{moveDigits}
-use Rattle.line.proofs.Decimals.{bytes-more, bytes-all, digits-length, digit-at}
+use Rattle.notation.proofs.Decimals.{bytes-more, bytes-all}
+use Rattle.line.proofs.Decimals.{digits-length, digit-at}
 use Rattle.line.proofs.print.moves.Statement.{statement}
 use Rattle.line.proofs.print.moves.Tie as tie
 

@@ -1,7 +1,7 @@
 -- `line::print::place` meets its contract: nothing, or the field of the place.
 -- Assumes nothing.
 use native.Mathlib.Omega.{arith}
-use Rattle.line.proofs.Decimals.{printed-none}
+use Rattle.notation.proofs.Decimals.{printed-none}
 use borrow.Author.Needs.{needs}
 use Rattle.line.proofs.print.place.Statement.{statement}
 use Rattle.line.proofs.print.place.Tie as tie

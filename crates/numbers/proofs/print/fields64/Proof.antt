@@ -4,7 +4,7 @@ use Prim.Native.Nat.{_-_}
 use native.Mathlib.Omega.{arith}
 use lib.ListN.{length}
 use borrow.Author.Needs.{needs}
-use Rattle.numbers.proofs.Laws.{Fields, fields, fields-more, fields-all}
+use Rattle.numbers.proofs.Fields.{Fields, fields, fields-more, fields-all}
 use Rattle.numbers.proofs.print.fields64.Statement.{statement}
 use Rattle.numbers.proofs.print.fields64.Tie as tie
 

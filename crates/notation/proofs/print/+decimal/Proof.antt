@@ -2,15 +2,15 @@
 -- Assumes nothing.
 use native.Mathlib.Omega.{arith}
 use lib.ListN.{length-set}
-use Rattle.line.proofs.Decimals.{printed-one, printed-more, room-one, room-more}
+use Rattle.notation.proofs.Decimals.{printed-one, printed-more, room-one, room-more}
 use Prim.Native.Nat.{ℕ, _<_}
 use borrow.Fn.Kinds.{In}
 use borrow.Fn.PlainCycle.{Measures, is, falls, and}
-use Rattle.line.proofs.print.decimal.Reads as decimal
-use Rattle.line.proofs.print.decimal.Kinds as decimal-kinds
-use Rattle.line.proofs.print.+decimal.Lts-decimal as decimal-lts
-use Rattle.line.proofs.print.+decimal.{statement}
-use Rattle.line.proofs.print.+decimal.Tie.{close}
+use Rattle.notation.proofs.print.decimal.Reads as decimal
+use Rattle.notation.proofs.print.decimal.Kinds as decimal-kinds
+use Rattle.notation.proofs.print.+decimal.Lts-decimal as decimal-lts
+use Rattle.notation.proofs.print.+decimal.{statement}
+use Rattle.notation.proofs.print.+decimal.Tie.{close}
 
 abbrev μ-decimal : Measures 1 decimal-kinds.ps ℕ
 μ-decimal κs a = a .1 .1 .0

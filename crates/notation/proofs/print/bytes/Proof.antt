@@ -1,13 +1,13 @@
--- `line::print::bytes` meets its contract. The loop's invariant: the first i bytes are written, and nothing else has changed.
+-- `notation::print::bytes` meets its contract. The loop's invariant: the first i bytes are written, and nothing else has changed.
 -- Assumes nothing.
 use Prim.Native.Nat.{_+_, _-_, _≤_}
 use mathlib.Core.Path.{_≡_, refl, _∙_}
 use native.Mathlib.Omega.{arith}
 use lib.ListN.{length, getD, take, length-set}
 use lib.Seq.{sets}
-use Rattle.line.proofs.Decimals.{bytes-more, bytes-all}
-use Rattle.line.proofs.print.bytes.Statement.{statement}
-use Rattle.line.proofs.print.bytes.Tie as tie
+use Rattle.notation.proofs.Decimals.{bytes-more, bytes-all}
+use Rattle.notation.proofs.print.bytes.Statement.{statement}
+use Rattle.notation.proofs.print.bytes.Tie as tie
 
 abbrev Inv-loop : tie.InvT-loop
 Inv-loop out₀ at s i₀ out i = (i ≤ length s) × (length out ≡ length out₀) × (out ≡ sets out₀ at (take i s))

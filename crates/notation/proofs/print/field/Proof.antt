@@ -1,4 +1,4 @@
--- `line::print::field` meets its contract: a space, and the number after it.
+-- `notation::print::field` meets its contract: a space, and the number after it.
 -- Assumes nothing.
 use mathlib.Core.Path.{ap, _∙_}
 use native.Mathlib.Numerals.{add-one}
@@ -6,10 +6,10 @@ use native.Mathlib.Omega.{arith}
 use lib.ListN.{length-set, set}
 use lib.Seq.{sets}
 use Rattle.model.specs.Line.{decimal}
-use Rattle.line.proofs.Decimals.{digits-few}
+use Rattle.notation.proofs.Decimals.{digits-few}
 use borrow.Author.Needs.{needs}
-use Rattle.line.proofs.print.field.Statement.{statement}
-use Rattle.line.proofs.print.field.Tie as tie
+use Rattle.notation.proofs.print.field.Statement.{statement}
+use Rattle.notation.proofs.print.field.Tie as tie
 
 decimal-requires : tie.Need-decimal-requires
 decimal-requires c κs = let a = c .before .before in simp length-set (omega (arith, a .pre, digits-few (a .args .n)))
