@@ -1,7 +1,5 @@
--- Lending, LendingPart: lists lent on to a call, for the walks by hand. Course: a run between two trials. Legs: what a path's legs cost.
+-- Course: a run between two trials. Legs: what a path's legs cost.
 -- Driving: a trial's decisions. Counting: records as numbers. Promises: what a caller may conclude from the contracts.
-pub mod Lending
-pub mod LendingPart
 pub mod Course
 pub mod Legs
 pub mod Driving
