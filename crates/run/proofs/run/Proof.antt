@@ -1,4 +1,4 @@
--- `run::run` meets its contract: a walk of its MIR, by hand, with a loop. The table and the path are lent on to `judge` and at each turn to `ride`, the reports to `store_report`, each for a lifetime of the call, and come back (`Lending.antt`).
+-- `run::run` meets its contract: a walk of its MIR, by hand, with a loop. The table and the path are lent on to `judge` and at each turn to `ride`, the reports to `store_report`, each for a lifetime of the call, and come back (`Whole` of lending).
 -- The invariant and all that it gives are laws of `Course.antt`; all that the walk knows of the callees is that each meets its contract. Assumes nothing.
 use mathlib.Core.Path.{_≡_, refl, sym, _∙_, ap, subst}
 use Prim.Native.Nat.{ℕ, _+_, _≤_, _<_, _^_}
@@ -58,7 +58,7 @@ use Rattle.model.specs.Ride as model
 use Rattle.run.specs.Trials.{Rode, IsRun, allowedBy, limitAfter, answered}
 use Rattle.run.proofs.Course as C′
 use Rattle.run.proofs.Course.{Stands}
-use Rattle.run.proofs.Lending.{Waits, lends-on, comes-back}
+use Rattle.lending.proofs.Whole.{Waits, lends-on, comes-back}
 use Rattle.answers.proofs.Job as J
 use Rattle.answers.proofs.Job.Laws as J′
 use Rattle.answers.proofs.Report as T

@@ -1,4 +1,4 @@
--- `run::put_all` meets its contract: one record more at each turn, by `Counting.antt`.
+-- `run::counts::put_all` meets its contract: one record more at each turn, by `Counting.antt`.
 -- The measure is what is left of n. Assumes nothing.
 use Prim.Native.Nat.{_≤_, _*_, _-_}
 use mathlib.Core.Path.{_≡_, refl, sym, ap, _∙_}
@@ -7,8 +7,8 @@ use native.Mathlib.Omega.{arith}
 use lib.ListN.{length, take, drop, length-set}
 use Rattle.run.specs.Numbers.{numbers}
 use Rattle.run.proofs.Counting.{written-none, write-more, write-all}
-use Rattle.run.proofs.put_all.Statement.{statement}
-use Rattle.run.proofs.put_all.Tie as tie
+use Rattle.run.proofs.counts.put_all.Statement.{statement}
+use Rattle.run.proofs.counts.put_all.Tie as tie
 
 abbrev Inv-loop : tie.InvT-loop
 Inv-loop counts₀ n reports i₀ counts i = (i ≤ n) × (length counts ≡ length counts₀) × (counts ≡ numbers (take i reports) ++ drop (i * 4) counts₀)

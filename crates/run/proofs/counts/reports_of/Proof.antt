@@ -1,4 +1,4 @@
--- `run::reports_of` meets its contract: one record more at each turn, by `Counting.antt`.
+-- `run::counts::reports_of` meets its contract: one record more at each turn, by `Counting.antt`.
 -- The measure is what is left of n. Assumes nothing.
 use Prim.Native.Nat.{_≤_, _-_}
 use mathlib.Core.Path.{_≡_, refl, sym}
@@ -6,8 +6,8 @@ use native.Mathlib.Omega.{arith}
 use lib.ListN.{length, take, length-set}
 use Rattle.run.specs.Numbers.{records}
 use Rattle.run.proofs.Counting.{records-none, read-more, read-all}
-use Rattle.run.proofs.reports_of.Statement.{statement}
-use Rattle.run.proofs.reports_of.Tie as tie
+use Rattle.run.proofs.counts.reports_of.Statement.{statement}
+use Rattle.run.proofs.counts.reports_of.Tie as tie
 
 abbrev Inv-loop : tie.InvT-loop
 Inv-loop counts n reports₀ i₀ reports i = (i ≤ n) × (length reports ≡ 1001) × (take i reports ≡ records counts i)

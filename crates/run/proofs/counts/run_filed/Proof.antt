@@ -1,4 +1,4 @@
--- `run::run_filed` meets its contract: a walk of its MIR, by hand. The reports are a local array of structs, whose first n are lent as a slice for the call of `run`, and which is whole again after it (`LendingPart.antt`).
+-- `run::counts::run_filed` meets its contract: a walk of its MIR, by hand. The reports are a local array of structs, whose first n are lent as a slice for the call of `run`, and which is whole again after it (`Part` of lending).
 -- The array comes from one covered function and goes to another, so no element is touched here. Assumes nothing.
 use mathlib.Core.Path.{_≡_, refl, _∙_}
 use Prim.Native.Nat.{ℕ, _*_, _≤_, _<_, _^_}
@@ -50,33 +50,33 @@ use Rattle.answers.specs.declared.Ran.{Ran}
 use Rattle.model.specs.Ride as model
 use Rattle.run.specs.Trials.{IsRun}
 use Rattle.run.specs.Numbers.{records, Counted}
-use Rattle.run.specs.declared.Filed.{Filed}
+use Rattle.run.specs.declared.counts.Filed.{Filed}
 use Rattle.run.proofs.Counting.{filed}
-use Rattle.run.proofs.LendingPart.{part-at, Rests, lends-part, part-back}
-use Rattle.run.proofs.Filed as K
-use Rattle.run.proofs.Filed.Laws as K′
+use Rattle.lending.proofs.Part.{part-at, Rests, lends-part, part-back}
+use Rattle.run.proofs.counts.Filed as K
+use Rattle.run.proofs.counts.Filed.Laws as K′
 use Rattle.answers.proofs.Job as J
 use Rattle.answers.proofs.Job.Laws as J′
 use Rattle.answers.proofs.Report as T
 use Rattle.answers.proofs.Report.Laws as T′
 use Rattle.answers.proofs.Ran as R
 use Rattle.answers.proofs.Ran.Laws as R′
-use Rattle.run.proofs.reports_of as reports-of
-use Rattle.run.proofs.reports_of.Symbol as reports-of-def
-use Rattle.run.proofs.reports_of.Symbol.{name as #run·reports-of}
-use Rattle.run.proofs.reports_of.Met as reports-of-thm
+use Rattle.run.proofs.counts.reports_of as reports-of
+use Rattle.run.proofs.counts.reports_of.Symbol as reports-of-def
+use Rattle.run.proofs.counts.reports_of.Symbol.{name as #run·reports-of}
+use Rattle.run.proofs.counts.reports_of.Met as reports-of-thm
 use Rattle.run.proofs.run as run′
 use Rattle.run.proofs.run.Symbol as run-def
 use Rattle.run.proofs.run.Symbol.{name as #run·run}
 use Rattle.run.proofs.run.Met as run-thm
-use Rattle.run.proofs.file as file′
-use Rattle.run.proofs.file.Symbol as file-def
-use Rattle.run.proofs.file.Symbol.{name as #run·file}
-use Rattle.run.proofs.file.Met as file-thm
-use Rattle.run.proofs.run_filed.Key.{name as #run·run-filed}
-use Rattle.run.proofs.run_filed as f
-use Rattle.run.proofs.run_filed.Statement as stated
-use Rattle.run.proofs.run_filed.Code as code
+use Rattle.run.proofs.counts.file as file′
+use Rattle.run.proofs.counts.file.Symbol as file-def
+use Rattle.run.proofs.counts.file.Symbol.{name as #run·file}
+use Rattle.run.proofs.counts.file.Met as file-thm
+use Rattle.run.proofs.counts.run_filed.Key.{name as #run·run-filed}
+use Rattle.run.proofs.counts.run_filed as f
+use Rattle.run.proofs.counts.run_filed.Statement as stated
+use Rattle.run.proofs.counts.run_filed.Code as code
 
 abbrev stayed : Stays (f.ended .signature .params) (f.ended .kept)
 stayed = (
@@ -331,6 +331,6 @@ run-filed-spec 𝓤 H 𝓜 𝓖 𝓡 =
     entered 𝓤 H (tripleOf 𝓤 H (𝓖 .A) f.signature (f.spec 𝓤 H (𝓖 .A) (𝓜 .mem) (𝓡 .run)))
     (tables 𝓤 H 𝓜 𝓡 code.env .C) (tables 𝓤 H 𝓜 𝓡 code.env .Λ) #run·run-filed code.function (code.unfolded 𝓤 H 𝓜 𝓡)
     (run-filed-meets 𝓤 H (𝓖 .A) (givenOf 𝓤 H 𝓜 𝓖) (𝓜 .mem) (𝓡 .run) (tablesOf 𝓤 H 𝓜 (tables 𝓤 H 𝓜 𝓡 code.env))
-    (cited 𝓤 H (ReportsOf 𝓤 H (𝓖 .A) (𝓜 .mem) (𝓡 .run)) 𝓜 𝓡 code.env #run·reports-of reports-of-def.routine code.calls-run·reports-of (reports-of-thm.met 𝓤 H 𝓜 𝓖 𝓡))
+    (cited 𝓤 H (ReportsOf 𝓤 H (𝓖 .A) (𝓜 .mem) (𝓡 .run)) 𝓜 𝓡 code.env #run·reports-of reports-of-def.routine code.calls-run·counts·reports-of (reports-of-thm.met 𝓤 H 𝓜 𝓖 𝓡))
     (cited 𝓤 H (Run 𝓤 H (𝓖 .A) (𝓜 .mem) (𝓡 .run)) 𝓜 𝓡 code.env #run·run run-def.routine code.calls-run·run (run-thm.met 𝓤 H 𝓜 𝓖 𝓡))
-    (cited 𝓤 H (File 𝓤 H (𝓖 .A) (𝓜 .mem) (𝓡 .run)) 𝓜 𝓡 code.env #run·file file-def.routine code.calls-run·file (file-thm.met 𝓤 H 𝓜 𝓖 𝓡)))
+    (cited 𝓤 H (File 𝓤 H (𝓖 .A) (𝓜 .mem) (𝓡 .run)) 𝓜 𝓡 code.env #run·file file-def.routine code.calls-run·counts·file (file-thm.met 𝓤 H 𝓜 𝓖 𝓡)))

@@ -1,10 +1,10 @@
--- `run::put_counts` meets its contract: four stores, which keep the length.
+-- `run::counts::put_counts` meets its contract: four stores, which keep the length.
 -- Assumes nothing.
 use native.Mathlib.Omega.{arith}
 use lib.ListN.{length-set}
 use borrow.Author.Needs.{needs}
-use Rattle.run.proofs.put_counts.Statement.{statement}
-use Rattle.run.proofs.put_counts.Tie as tie
+use Rattle.run.proofs.counts.put_counts.Statement.{statement}
+use Rattle.run.proofs.counts.put_counts.Tie as tie
 
 mul-at : tie.Need-mul-at
 mul-at c = search needs

@@ -1,10 +1,10 @@
--- `run::run_counts` meets its contract: the records of the run are written as numbers, by `Counting.antt`.
+-- `run::counts::run_counts` meets its contract: the records of the run are written as numbers, by `Counting.antt`.
 -- Assumes nothing.
 use mathlib.Core.Path.{refl}
 use borrow.Author.Needs.{needs}
 use Rattle.run.proofs.Counting.{counted}
-use Rattle.run.proofs.run_counts.Statement.{statement}
-use Rattle.run.proofs.run_counts.Tie as tie
+use Rattle.run.proofs.counts.run_counts.Statement.{statement}
+use Rattle.run.proofs.counts.run_counts.Tie as tie
 
 run-filed-requires : tie.Need-run-filed-requires
 run-filed-requires c κs = search needs

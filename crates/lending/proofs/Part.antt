@@ -1,5 +1,5 @@
 -- The first k elements of a local array, lent as a slice for a lifetime ν; and the whole array again, at what the slice was left at and the rest.
--- The cells are cut in two, the first part is lent, and the rest waits. It says nothing of this crate. Assumes `Given`.
+-- The cells are cut in two, the first part is lent, and the rest waits. It knows nothing of any crate. Assumes `Given`.
 use mathlib.Core.Path.{_≡_, refl, sym, subst, _∙_}
 use Prim.Native.Nat.{ℕ, _≤_}
 use mathlib.Core.List.{List, [], _∷_, _++_}

@@ -1,5 +1,5 @@
 -- A lent list that is lent on to a call, for a lifetime ν made for that call, and comes back at the list that the call leaves.
--- The list's machine value is told by its length n, which no call changes. It says nothing of this crate. Assumes `Given`.
+-- The list's machine value is told by its length n, which no call changes. It knows nothing of any crate. Assumes `Given`.
 use mathlib.Core.Path.{_≡_, sym, ap, subst}
 use Prim.Native.Nat.{ℕ}
 use mathlib.Core.List.{List, [], _∷_}

@@ -1,0 +1,1 @@
+// Lists lent on to a call, for walks by hand: no code.
