@@ -7,8 +7,8 @@ use notation::digits;
 ghost use mathlib.Core.Path.{_≡_};
 ghost use mathlib.Core.Bool.{_||_};
 ghost use mathlib.Core.List.{_++_, map};
-ghost use Prim.Native.Nat.{ℕ, _+_, _*_, _≤_, _<_};
-ghost use lib.ListN.{length, take, drop, getD};
+ghost use Prim.Native.Nat.{_+_, _*_, _≤_};
+ghost use lib.ListN.{length, drop, getD};
 ghost use Rattle.model.specs.FloorText.{begins, sizeIn, sizeBytes, heightIn, afterHeight, widthIn, afterWidth, freeLetter, blockedLetter, byteOf, rowHolds, rows, cellsOf, readFloor};
 ghost use Rattle.floor_text.specs.Reads.{Sound, Heads, Reads};
 

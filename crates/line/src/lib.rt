@@ -2,7 +2,7 @@
 pub mod print;
 
 ghost use mathlib.Core.Path.{_≡_};
-ghost use Prim.Native.Nat.{_<_, _≤_};
+ghost use Prim.Native.Nat.{_≤_};
 ghost use lib.ListN.{length};
 ghost use Rattle.line.specs.Reading.{Pushed, Scanned, Said, Reads};
 use answers::Settings;

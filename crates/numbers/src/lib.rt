@@ -3,7 +3,7 @@ pub mod print;
 
 ghost use mathlib.Core.Path.{_≡_};
 ghost use mathlib.Core.Bool.{true, false};
-ghost use Prim.Native.Nat.{_<_, _≤_};
+ghost use Prim.Native.Nat.{_≤_};
 ghost use lib.ListN.{length, take, drop};
 ghost use Rattle.numbers.specs.Reading.{isBlank, greatest, digitsFrom, numberAt, failed, numberIn, endedAt, Read, readList, listAt, severalAt};
 

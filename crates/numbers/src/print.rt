@@ -1,6 +1,5 @@
 // The entries of a list as fields, each a space and a number, written into a lent list from a place on.
-ghost use Prim.Native.Nat.{_+_, _*_, _≤_, _<_};
-ghost use mathlib.Core.Path.{_≡_};
+ghost use Prim.Native.Nat.{_+_, _*_, _≤_};
 ghost use lib.ListN.{length};
 ghost use Rattle.notation.specs.Printing.{Printed};
 ghost use Rattle.numbers.specs.Printing.{fieldsOf};
