@@ -71,7 +71,7 @@ fn lists_fit(
 }
 
 // The checks ahead of the lookahead, lower number first; where they all pass, the path's places are noted.
-pub fn judge(
+fn judge(
     job: Job,
     floor: &[u8],
     state: State,

@@ -233,5 +233,6 @@ module _ (f : Floor) (base : ℕ) (mark : List ℕ) where
       tight : (x : ℕ) → In base mark x → Followed f base mark x 8 (at Z x) Z
       tight x h m l d v s t =
           let k = p .listing .listed x h in
-          let c : noteAt list (k .0) ≤ at Z x = subst (λ y. noteAt list (k .0) ≤ at Z y) (k .2) (subst (λ y. noteAt list (k .0) ≤ at y (getD list (k .0) 0)) (sym (p .lowered .same none .1)) (p .calm none (k .0) (k .1))) in
+          let c : noteAt list (k .0) ≤ at Z x = subst (λ y. noteAt list (k .0) ≤ at Z y) (k .2)
+          (subst (λ y. noteAt list (k .0) ≤ at y (getD list (k .0) 0)) (sym (p .lowered .same none .1)) (p .calm none (k .0) (k .1))) in
           omega (arith, c, p .lowered .so (k .0) (k .1) m l d v (subst (λ y. stepOf f y m ≡ To d v) (sym (k .2)) s) t)

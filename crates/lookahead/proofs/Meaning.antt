@@ -51,7 +51,8 @@ module _ (j : Job) (bytes : List ℕ) (s : ℕ) (Q : Asked j bytes s) where
   pub not-goal : ¬ Goal (groundIn j bytes) s
   not-goal g = Q .apart (goal-means f (j .goal) s g)
 
-  pub job-window : Window (netOf (groundIn j bytes)) (Goal (groundIn j bytes)) (j .depth) s (lastOf (groundIn j bytes) (j .depth) s) (ringOf (groundIn j bytes) (j .depth) s) (legOf (groundIn j bytes) (j .depth) s)
+  pub job-window : Window (netOf (groundIn j bytes)) (Goal (groundIn j bytes)) (j .depth) s (lastOf (groundIn j bytes) (j .depth) s)
+      (ringOf (groundIn j bytes) (j .depth) s) (legOf (groundIn j bytes) (j .depth) s)
   job-window = window G d s start-on (Q .shallow) not-goal
 
   few-cells : size f ≤ 4096

@@ -51,9 +51,9 @@ pub struct Ahead {
 }
 
 // A cell, and the move from it.
-pub struct Link {
-    pub cell: usize,
-    pub m: usize,
+struct Link {
+    cell: usize,
+    m: usize,
 }
 
 fn larger(a: usize, b: usize) -> usize

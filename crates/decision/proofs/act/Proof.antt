@@ -7,18 +7,27 @@ use Rattle.decision.proofs.Acting.{goal-here, goal-away, asked, act-her
 use Rattle.decision.proofs.act.Statement.{statement}
 use Rattle.decision.proofs.act.Tie as tie
 
+-- what `go` left
+abbrev gone : tie.After-renew → tie.After-go
+gone c =
+    let half = c .before .before .before .before .before .before in
+    let near = half .before .before .before .before .before .before in
+    near .before .before .before .before
+
 returns : tie.Need-returns
 returns c =
     let tested = c .before in
     let lent = tested .before .before .before .before in
-    let start = lent .before .before .before .before .before in
-    (acts-as _ _ (act-here _ _ _ _ _ (start .pre .0 .here) (goal-here _ _ (sym (tested .is-goal .ensures) ∙ c .if1 .taken))) (acts-arrived _ _ _ _ _ _), record { fresh = start .pre .1 .0; places = start .pre .1 .1 })
+    let start = lent .before .before .before .before .before in (
+      acts-as _ _ (act-here _ _ _ _ _ (start .pre .0 .here) (goal-here _ _ (sym (tested .is-goal .ensures) ∙ c .if1 .taken)))
+          (acts-arrived _ _ _ _ _ _),
+      record { fresh = start .pre .1 .0; places = start .pre .1 .1 },
+    )
 
 go-requires : tie.Need-go-requires
 go-requires c κs =
     let after-go-arg = c .before .before .before .before .before .before in
-    let else1 = after-go-arg .before in
-    let at-if1 = else1 in
+    let at-if1 = after-go-arg .before in
     let tested = at-if1 .before in
     let lent = tested .before .before .before .before in
     let start = lent .before .before .before .before .before in
@@ -27,7 +36,7 @@ go-requires c κs =
 returns-2 : tie.Need-returns-2
 returns-2 c =
     let at-renew = c .before .before .before in
-    let at-go = at-renew .before .before .before .before .before .before .before .before .before .before .before .before .before .before .before .before in
+    let at-go = gone at-renew in
     let l = at-go .go .ensures .1 in
     (acts-renewed _ _ _ (at-go .go .ensures .0), record { fresh = renewed (l .used) (at-renew .renew .ensures); places = l .places })
 

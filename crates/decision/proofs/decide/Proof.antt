@@ -20,8 +20,7 @@ returns c = decides-refused _ _ _ _ _ _ _ _ (sym (c .before .before .before .bef
 returns-2 : tie.Need-returns-2
 returns-2 c =
     let after-table = c .before .before .before .before .before .before in
-    let after-decide-past = after-table .before in
-    let at-decide-past = after-decide-past in
+    let at-decide-past = after-table .before in
     let at-enum-told = at-decide-past .before .before .before .before .before in
     let at-judge = at-enum-told .before .before .before in
     decides-past _ _ _ _ _ _ _ (sym (at-judge .judge .ensures .verdict) ∙ at-enum-told .enum-told .given .1) (at-decide-past .decide-past .ensures)

@@ -9,16 +9,14 @@ act-requires : tie.Need-act-requires
 act-requires c κs =
     let after-mark = c .before .before .before in
     let after-slice-known2 = after-mark .before .before .before .before .before .before in
-    let start-here = after-slice-known2 .before .before .before in
-    let start = start-here in
+    let start = after-slice-known2 .before .before .before in
     (start .pre .0, (fresh-zeros, start .pre .1))
 
 returns : tie.Need-returns
 returns c =
     let after-mark2 = c .before .before .before .before .before in
     let after-table = after-mark2 .before .before .before .before .before .before in
-    let after-act = after-table .before in
-    let at-act = after-act in
+    let at-act = after-table .before in
     decides-acts _ _ _ _ _ _ _ (at-act .act .ensures .0)
 
 pub decide-past-spec : {M : Type 1} → statement M

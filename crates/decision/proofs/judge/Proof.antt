@@ -54,13 +54,13 @@ returns-4 c =
     let e = c .enum-told8 .given .1 in
     let f = fits _ _ _ _ _ _ (sym (at-lists-fit .lists-fit .ensures) ∙ a) in
     judged-refused _ _ _ _ _ _ _ _ _
-    (then-goes _ (at-lists-fit .lists-fit .ensures) a (then-goes _ (at-settings .settings .ensures) b (then-goes _ (at-places .places .ensures) d (then-stops _ (at-figures .figures .ensures _ (sym (f .figures-are))) e)))) e
+    (then-goes _ (at-lists-fit .lists-fit .ensures) a (then-goes _ (at-settings .settings .ensures) b
+    (then-goes _ (at-places .places .ensures) d (then-stops _ (at-figures .figures .ensures _ (sym (f .figures-are))) e)))) e
 
 state-holds-requires : tie.Need-state-holds-requires
 state-holds-requires c κs =
     let after-places = c .before .before .before .before .before .before in
-    let after-enum-told3 = after-places .before in
-    let at-told2 = after-enum-told3 in
+    let at-told2 = after-places .before in
     let at-settings = at-told2 .before .before in
     let at-told1 = at-settings .before in
     let at-lists-fit = at-told1 .before .before in
@@ -85,7 +85,8 @@ returns-5 c =
     let e = at-told4 .enum-told7 .given .1 in
     let f = fits _ _ _ _ _ _ (sym (at-lists-fit .lists-fit .ensures) ∙ a) in
     judged-checked _ _ _ _ _ _ _ _ _
-    (λ v. then-goes _ (at-lists-fit .lists-fit .ensures) a (then-goes _ (at-settings .settings .ensures) b (then-goes _ (at-places .places .ensures) d (then-goes _ (at-figures .figures .ensures _ (sym (f .figures-are))) e v))))
+    (λ v. then-goes _ (at-lists-fit .lists-fit .ensures) a (then-goes _ (at-settings .settings .ensures) b
+    (then-goes _ (at-places .places .ensures) d (then-goes _ (at-figures .figures .ensures _ (sym (f .figures-are))) e v))))
     (at-state-holds .state-holds .ensures)
 
 pub judge-spec : {M : Type 1} → statement M

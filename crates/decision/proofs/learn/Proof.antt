@@ -12,22 +12,29 @@ use Rattle.decision.proofs.Noting.{places-down}
 use Rattle.decision.proofs.learn.Statement.{statement}
 use Rattle.decision.proofs.learn.Tie as tie
 
+-- the call's start, from where the aim is known
+abbrev start-of : tie.After-aim → tie.Start
+start-of c =
+    let half = c .before .before .before .before .before .before in
+    let near = half .before .before .before in
+    near .before .before .before .before
+
 aim-requires : tie.Need-aim-requires
 aim-requires c κs =
-    let start = c .before .before .before .before .before .before .before .before .before .before .before .before in
+    let half = c .before .before .before .before .before .before in
+    let start = half .before .before .before .before .before .before in
     (start .pre .1 .0, (start .pre .1 .1 .0, weighed (start .pre .0)))
 
 mul-wide32 : tie.Need-mul-wide32
 mul-wide32 c =
-    let start = c .before .before .before .before .before .before .before .before .before .before .before .before .before in
+    let start = start-of c in
     record { fits = omega (arith, current-in (start .pre .0), table-short (start .pre .0)) }
 
 slice-read-wide32 : tie.Need-slice-read-wide32
 slice-read-wide32 c =
     let after-slice-known7 = c .before .before .before .before .before .before in
     let after-slice-known = after-slice-known7 .before .before .before .before .before .before in
-    let start-here = after-slice-known .before .before in
-    let start = start-here in
+    let start = after-slice-known .before .before in
     current-in (start .pre .0)
 
 returns : tie.Need-returns
@@ -36,7 +43,7 @@ returns c =
     let at-too-high = at-if1 .before in
     let at-wide32 = at-too-high .before in
     let at-aim = at-wide32 .before .before in
-    let start = at-aim .before .before .before .before .before .before .before .before .before .before .before .before .before in
+    let start = start-of at-aim in
     let q = c .refuse .ensures in (
       acts-as _ _ (learns-over _ _ _ _ _ _ (at-aim .aim .ensures) _ (at-wide32 .wide32 .ensures .0) (sym (at-too-high .too-high .ensures) ∙ at-if1 .if1 .taken)) (acts-refused _ _ _ _ q),
       leaves-refused q (window-used (start .pre .1 .1 .0)) (start .pre .1 .1 .1),
@@ -46,45 +53,49 @@ add-if2 : tie.Need-add-if2
 add-if2 c =
     let at-rise-of = c .before in
     let at-aim = at-rise-of .before .before .before .before .before in
-    let start = at-aim .before .before .before .before .before .before .before .before .before .before .before .before .before in
+    let start = start-of at-aim in
     record { fits = omega (arith, start .pre .0 .within, quota-low (start .pre .0), at-aim .aim .ensures .high, at-rise-of .rise-of .ensures) }
 
--- from a place to one before it
 abbrev to-start : tie.After-rise-of → tie.Start
-to-start c =
-    let after-aim = c .before .before .before .before .before in
-    let after-slice-known6 = after-aim .before .before .before .before .before .before in
-    let after-shared-slice-known = after-slice-known6 .before .before .before .before .before .before in
-    after-shared-slice-known .before
+to-start c = start-of (c .before .before .before .before .before)
 
 mul-if2 : tie.Need-mul-if2
 mul-if2 c =
-    let start-here = to-start (c .before .before) in
-    let start = start-here in
+    let start = to-start (c .before .before) in
     record { fits = lt-of-le-of-lt (quota-low (start .pre .0)) (lit< tt) }
 
 forward-requires : tie.Need-forward-requires
 forward-requires c κs =
     let then2 = c .before .before .before .before .before .before in
-    let after-rise-of = then2 .before .before .before in
-    let at-rise-of = after-rise-of in
+    let at-rise-of = then2 .before .before .before in
     let at-wide32 = at-rise-of .before .before .before in
     let at-aim = at-wide32 .before .before in
-    let start = at-aim .before .before .before .before .before .before .before .before .before .before .before .before .before in
-    (start .pre .0, (start .pre .1 .0, (start .pre .1 .1 .0 .view, (at-aim .aim .ensures, ((at-rise-of .rise-of .ensures ∙ ap (λ x. at-aim .aim .result .figure - x) (at-wide32 .wide32 .ensures .0)), start .pre .1 .1 .1)))))
+    let start = start-of at-aim in (
+      start .pre .0,
+      (
+        start .pre .1 .0,
+        (
+          start .pre .1 .1 .0 .view,
+          (
+            at-aim .aim .ensures,
+            ((at-rise-of .rise-of .ensures ∙ ap (λ x. at-aim .aim .result .figure - x) (at-wide32 .wide32 .ensures .0)), start .pre .1 .1 .1),
+          ),
+        ),
+      ),
+    )
 
 returns-2 : tie.Need-returns-2
 returns-2 c =
     let after-path = c .before .before .before .before .before in
-    let after-forward = after-path .before .before .before in
-    let at-forward = after-forward in
-    let at-if2 = at-forward .before .before .before .before .before .before .before in
+    let at-forward = after-path .before .before .before in
+    let after-forward-arg = at-forward .before .before .before .before .before .before in
+    let at-if2 = after-forward-arg .before in
     let at-rise-of = at-if2 .before .before .before in
     let at-if1 = at-rise-of .before in
     let at-too-high = at-if1 .before in
     let at-wide32 = at-too-high .before in
     let at-aim = at-wide32 .before .before in
-    let start = at-aim .before .before .before .before .before .before .before .before .before .before .before .before .before in
+    let start = start-of at-aim in
     let low = sym (at-too-high .too-high .ensures) ∙ at-if1 .if1 .left in
     let risen = at-rise-of .rise-of .ensures ∙ ap (λ x. at-aim .aim .result .figure - x) (at-wide32 .wide32 .ensures .0) in (
       acts-as _ _ (learns-forward _ _ _ _ _ _ (at-aim .aim .ensures) _ (at-wide32 .wide32 .ensures .0) low _ risen (at-if2 .if2 .taken)) (at-forward .forward .ensures .0),
@@ -94,25 +105,24 @@ returns-2 c =
 go-back-requires : tie.Need-go-back-requires
 go-back-requires c κs =
     let else2 = c .before .before .before .before .before .before in
-    let after-rise-of = else2 .before .before .before in
-    let at-rise-of = after-rise-of in
+    let at-rise-of = else2 .before .before .before in
     let at-wide32 = at-rise-of .before .before .before in
     let at-aim = at-wide32 .before .before in
-    let start = at-aim .before .before .before .before .before .before .before .before .before .before .before .before .before in
+    let start = start-of at-aim in
     (start .pre .0, (window-used (start .pre .1 .1 .0), (at-aim .aim .ensures .high, (at-rise-of .rise-of .ensures ∙ ap (λ x. at-aim .aim .result .figure - x) (at-wide32 .wide32 .ensures .0)))))
 
 returns-3 : tie.Need-returns-3
 returns-3 c =
     let after-mark = c .before .before .before .before .before in
-    let after-go-back = after-mark .before .before .before .before .before in
-    let at-go-back = after-go-back in
-    let at-if2 = at-go-back .before .before .before .before .before .before .before in
+    let at-go-back = after-mark .before .before .before .before .before in
+    let after-go-back-arg = at-go-back .before .before .before .before .before .before in
+    let at-if2 = after-go-back-arg .before in
     let at-rise-of = at-if2 .before .before .before in
     let at-if1 = at-rise-of .before in
     let at-too-high = at-if1 .before in
     let at-wide32 = at-too-high .before in
     let at-aim = at-wide32 .before .before in
-    let start = at-aim .before .before .before .before .before .before .before .before .before .before .before .before .before in
+    let start = start-of at-aim in
     let low = sym (at-too-high .too-high .ensures) ∙ at-if1 .if1 .left in
     let risen = at-rise-of .rise-of .ensures ∙ ap (λ x. at-aim .aim .result .figure - x) (at-wide32 .wide32 .ensures .0) in (
       acts-as _ _ (learns-back _ _ _ _ _ _ (at-aim .aim .ensures) _ (at-wide32 .wide32 .ensures .0) low _ risen (at-if2 .if2 .left)) (at-go-back .go-back .ensures .0),

@@ -25,7 +25,13 @@ add-result : tie.Need-add-result
 add-result c = search needs
 
 returns-4 : tie.Need-returns-4
-returns-4 c = λ e. record { west = omega (arith, c .before .before .if1 .left); east = omega (arith, c .if3 .left); north = omega (arith, c .before .if2 .left); south = omega (arith, ltb-true (c .before .before .before .args .row + 1) (c .before .before .before .args .height) e) }
+returns-4 c e =
+    let a = c .before .before .before .args in record {
+      west = omega (arith, c .before .before .if1 .left);
+      east = omega (arith, c .if3 .left);
+      north = omega (arith, c .before .if2 .left);
+      south = omega (arith, ltb-true (a .row + 1) (a .height) e);
+    }
 
 pub is-inner-spec : {M : Type 1} → statement M
 is-inner-spec = tie.close (tie.spec returns returns-2 add-if3 returns-3 add-result returns-4)

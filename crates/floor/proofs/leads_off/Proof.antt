@@ -47,7 +47,20 @@ returns-4 : tie.Need-returns-4
 returns-4 c = record { on = λ e. absurd (true≢false e); off = λ e s. omega (arith, c .if4 .taken, s .north, c .before .before .before .before .south .ensures) }
 
 returns-5 : tie.Need-returns-5
-returns-5 c = record { on = λ e. record { west = omega (arith, c .before .before .if2 .left, c .before .before .before .before .before .before .east .ensures); east = omega (arith, c .before .if3 .left, c .before .before .before .before .before .before .east .ensures); north = omega (arith, c .if4 .left, c .before .before .before .before .south .ensures); south = omega (arith, ltb-false (c .before .before .before .before .before .before .before .before .args .height) (c .before .before .before .before .before .before .before .before .args .at .row + c .before .before .before .before .south .result) e, c .before .before .before .before .south .ensures) }; off = λ e s. omega (arith, ltb-true (c .before .before .before .before .before .before .before .before .args .height) (c .before .before .before .before .before .before .before .before .args .at .row + c .before .before .before .before .south .result) e, s .south, c .before .before .before .before .south .ensures) }
+returns-5 c =
+    let at-south = c .before .before .before .before in
+    let at-east = at-south .before .before in
+    let a = at-east .before .before .args in
+    let y = a .at .row + at-south .south .result in
+    record {
+      on = λ e. record {
+        west = omega (arith, c .before .before .if2 .left, at-east .east .ensures);
+        east = omega (arith, c .before .if3 .left, at-east .east .ensures);
+        north = omega (arith, c .if4 .left, at-south .south .ensures);
+        south = omega (arith, ltb-false (a .height) y e, at-south .south .ensures);
+      };
+      off = λ e s. omega (arith, ltb-true (a .height) y e, s .south, at-south .south .ensures);
+    }
 
 pub leads-off-spec : {M : Type 1} → statement M
 leads-off-spec =

@@ -12,10 +12,10 @@ weigh-all-requires c κs =
 
 returns : tie.Need-returns
 returns c =
-    let after-best = c .before .before .before .before .before .before in
-    let start = after-best .before .before .before .before .before .before in
-    let a = start in
-    aimed _ _ _ (a .pre .0) _ (a .pre .1 .1) _ _ _ _ _ _ (a .pre .1 .0) _ _ (c .before .before .before .before .before .weigh-all .ensures) (c .before .before .greatest .ensures) _ (c .wide16 .ensures .0)
+    let weighed = c .before .before .before .before .before in
+    let best = weighed .before in
+    let a = best .before .before .before .before .before .before in
+    aimed _ _ _ (a .pre .0) _ (a .pre .1 .1) _ _ _ _ _ _ (a .pre .1 .0) _ _ (weighed .weigh-all .ensures) (c .before .before .greatest .ensures) _ (c .wide16 .ensures .0)
 
 pub aim-spec : {M : Type 1} → statement M
 aim-spec =

@@ -17,7 +17,7 @@ mul-wide16 c = omega (arith, few (c .before .before .before))
 shared-slice-read-wide16 : tie.Need-shared-slice-read-wide16
 shared-slice-read-wide16 c =
     let start = c .before .before .before .before in
-    omega (arith, few (start), start .pre .1 .0 .size)
+    omega (arith, few start, start .pre .1 .0 .size)
 
 returns : tie.Need-returns
 returns c =

@@ -36,15 +36,13 @@ framed c =
 rings-requires : tie.Need-rings-requires
 rings-requires c κs =
     let after-shared-slice-known = c .before .before .before .before .before .before in
-    let start = after-shared-slice-known .before in
-    let a = start in
+    let a = after-shared-slice-known .before in
     let q = a .pre .0 in
     (q .sized, (q .start, ((free-few (floorOf (a .args .job) (a .args .floor .now)) (a .args .job .goal) (q .sized) (q .bench), q .apart), ((q .shallow, q .deep), a .pre .1))))
 
 relax-requires : tie.Need-relax-requires
 relax-requires c κs =
-    let start = to-start (to-rings (c .before .before .before .before)) in
-    let a = start in
+    let a = to-start (to-rings (c .before .before .before .before)) in
     let F = framed (c .before .before .before .before) in
     let g = floorOf (a .args .job) (a .args .floor .now) in (
       a .pre .0 .sized,
@@ -61,16 +59,14 @@ returns : tie.Need-returns
 returns c =
     let after-relax = c .before .before .before .before in
     let after-last = after-relax .before .before .before .before .before in
-    let start = to-start (to-rings after-last) in
-    let a = start in
-    looked _ _ _ (a .pre .0) _ _ _ _ _ _ (framed (after-last)) (a .pre .1 .marks .room) _ _ (c .before .before .before .before .relax .ensures)
+    let a = to-start (to-rings after-last) in
+    looked _ _ _ (a .pre .0) _ _ _ _ _ _ (framed after-last) (a .pre .1 .marks .room) _ _ (after-relax .relax .ensures)
 
 returns-2 : tie.Need-returns-2
 returns-2 c =
     let after-cost = c .before .before .before .before .before in
     let after-rings = after-cost .before .before .before in
-    let start = to-start after-rings in
-    let a = start in
+    let a = to-start after-rings in
     let B = rw (c .enum-told .given .1) at (after-rings .rings .ensures) in
     blocked _ _ _ (a .pre .0) _ (B .0) (B .1) _ _ _ (B .2) (a .pre .1 .marks .room)
 

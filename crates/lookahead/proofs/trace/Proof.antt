@@ -9,8 +9,7 @@ use Rattle.lookahead.proofs.trace.Tie as tie
 returns : tie.Need-returns
 returns c =
     let after-collect = c .before .before .before .before .before .before in
-    let start = after-collect .before .before .before .before .before .before in
-    let a = start in
+    let a = after-collect .before .before .before .before .before .before in
     traced _ _ _ (a .pre .0) _ _ _ (a .pre .1 .0) _ (after-collect .collect .result) _ _ _ _ (after-collect .collect .ensures) refl (c .before .before .copy .ensures)
 
 pub trace-spec : {M : Type 1} → statement M

@@ -24,29 +24,29 @@ lay-back-requires c κs =
     let at-if1 = c .before in
     let at-on-last = at-if1 .before in
     let start = at-on-last .before .before .before .before .before .before in
-    (start .pre .0, (start .pre .1 .0, (last-near (start .args .job) (start .args .floor .now) (start .args .l) (start .args .state .current) (sym (at-on-last .on-last .ensures) ∙ not-false _ (at-if1 .if1 .left)), start .pre .1 .1 .1 .4)))
+    let near = last-near (start .args .job) (start .args .floor .now) (start .args .l) (start .args .state .current) (sym (at-on-last .on-last .ensures) ∙ not-false _ (at-if1 .if1 .left)) in
+    (start .pre .0, (start .pre .1 .0, (near, start .pre .1 .1 .1 .4)))
 
 leg-requires : tie.Need-leg-requires
 leg-requires c κs =
     let at-if1 = c .before .before .before .before in
     let at-on-last = at-if1 .before in
     let start = at-on-last .before .before .before .before .before .before in
-    (start .pre .0, (start .pre .1 .0, last-near (start .args .job) (start .args .floor .now) (start .args .l) (start .args .state .current) (sym (at-on-last .on-last .ensures) ∙ not-false _ (at-if1 .if1 .left))))
+    let near = last-near (start .args .job) (start .args .floor .now) (start .args .l) (start .args .state .current) (sym (at-on-last .on-last .ensures) ∙ not-false _ (at-if1 .if1 .left)) in
+    (start .pre .0, (start .pre .1 .0, near))
 
 store-requires : tie.Need-store-requires
 store-requires c κs =
     let else1 = c .before .before .before .before .before .before in
     let after-shared-slice-known = else1 .before .before .before .before .before .before in
-    let start-here = after-shared-slice-known .before in
-    let start = start-here in
+    let start = after-shared-slice-known .before in
     (start .pre .1 .1 .1 .2, start .pre .1 .1 .1 .5)
 
 sub-t25 : tie.Need-sub-t25
 sub-t25 c =
     let after-leg = c .before .before .before .before .before in
     let after-on-last = after-leg .before .before .before .before .before .before in
-    let start-here = after-on-last .before .before .before .before .before .before in
-    let start = start-here in
+    let start = after-on-last .before .before .before .before .before .before in
     omega (arith, start .pre .1 .1 .1 .1)
 
 returns-2 : tie.Need-returns-2

@@ -9,44 +9,62 @@ use Rattle.decision.proofs.Acting.{current-in, table-short, asked-last,
 use Rattle.decision.proofs.back.go_back.Statement.{statement}
 use Rattle.decision.proofs.back.go_back.Tie as tie
 
+-- the call's start
+abbrev start-of : tie.After-wide16 → tie.Start
+start-of c =
+    let half = c .before .before .before .before .before .before in
+    half .before .before .before .before
+
+-- the lookahead; and the path's last cell
+abbrev looked : tie.After-last → tie.After-look
+looked c =
+    let half = c .before .before .before .before in
+    half .before .before .before .before
+
+abbrev last : tie.After-look → tie.After-wide16
+last c =
+    let half = c .before .before .before .before .before .before in
+    half .before .before
+
 store-requires : tie.Need-store-requires
 store-requires c κs =
     let after-shared-slice-known2 = c .before .before .before .before .before .before in
-    let start-here = after-shared-slice-known2 .before .before .before in
-    let start = start-here in
+    let start = after-shared-slice-known2 .before .before .before in
     (current-in (start .pre .0), start .pre .1 .1 .0)
 
 returns : tie.Need-returns
 returns c =
     let at-store = c .before .before in
     let at-if1 = at-store .before .before in
-    let start = at-if1 .before .before .before .before .before .before .before .before in
+    let half = at-if1 .before .before .before .before in
+    let start = half .before .before .before .before in
     (acts-stays _ _ _ _ _ _ _ _ _ (start .pre .1 .1 .1) _ (at-store .store .ensures) _ (at-if1 .if1 .taken), (start .pre .1 .0, omega arith))
 
 look-requires : tie.Need-look-requires
 look-requires c κs =
     let at-renew = c .before .before .before .before .before in
     let at-wide16 = at-renew .before .before in
-    let start = at-wide16 .before .before .before .before .before .before .before .before .before .before in
+    let start = start-of at-wide16 in
     (asked-last (start .pre .0) (at-wide16 .wide16 .ensures .0) (omega arith), renewed (start .pre .1 .0) (at-renew .renew .ensures))
 
 back-to-requires : tie.Need-back-to-requires
 back-to-requires c κs =
     let at-last = c .before .before .before .before .before in
-    let at-look = at-last .before .before .before .before .before .before .before .before in
-    let at-wide16 = at-look .before .before .before .before .before .before .before .before in
-    let start = at-wide16 .before .before .before .before .before .before .before .before .before .before in
+    let at-look = looked at-last in
+    let at-wide16 = last at-look in
+    let start = start-of at-wide16 in
     let r = start .pre .0 in
-    let v = looked-window _ _ _ _ _ _ _ (at-look .look .ensures) (at-last .last .given .1) in
-    (asked-last (start .pre .0) (at-wide16 .wide16 .ensures .0) (omega arith), (v .view, (v .last-is, (omega (arith, v .depth, r .settings .shallow), omega arith, current-in r, table-short r, r .room, start .pre .1 .1 .0, start .pre .1 .1 .1))))
+    let v = looked-window _ _ _ _ _ _ _ (at-look .look .ensures) (at-last .last .given .1) in (
+      asked-last (start .pre .0) (at-wide16 .wide16 .ensures .0) (omega arith),
+      (v .view, (v .last-is, (omega (arith, v .depth, r .settings .shallow), omega arith, current-in r, table-short r, r .room, start .pre .1 .1 .0, start .pre .1 .1 .1))),
+    )
 
 same-length-4 : tie.Need-same-length-4
 same-length-4 c =
     let after-back-to = c .before .before .before .before in
     let after-last = after-back-to .before .before .before .before .before .before in
     let after-cost = after-last .before .before .before .before .before in
-    let after-mark2 = after-cost .before .before in
-    let at-mark2 = after-mark2 in
+    let at-mark2 = after-cost .before .before in
     let at-mark = at-mark2 .before .before .before .before .before .before in
     at-mark2 .mark2 .given ∙ at-mark .mark .given
 
@@ -54,20 +72,22 @@ returns-2 : tie.Need-returns-2
 returns-2 c =
     let at-back-to = c .before .before .before .before in
     let at-last = at-back-to .before .before .before .before .before .before in
-    let at-look = at-last .before .before .before .before .before .before .before .before in
-    let at-wide16 = at-look .before .before .before .before .before .before .before .before in
+    let at-look = looked at-last in
+    let at-wide16 = last at-look in
     let v = looked-window _ _ _ _ _ _ _ (at-look .look .ensures) (at-last .last .given .1) in
     (at-back-to .back-to .ensures .0 _ (at-wide16 .wide16 .ensures .0), (used-at (at-back-to .back-to .ensures .1 .0) (window-used v), at-back-to .back-to .ensures .1 .1))
 
 returns-3 : tie.Need-returns-3
 returns-3 c =
     let at-enum-told = c .before in
-    let at-look = at-enum-told .before .before .before .before .before .before .before .before in
-    let at-wide16 = at-look .before .before .before .before .before .before .before .before in
-    let start = at-wide16 .before .before .before .before .before .before .before .before .before .before in
+    let told = at-enum-told .before .before .before .before in
+    let at-look = told .before .before .before .before in
+    let at-wide16 = last at-look in
+    let start = start-of at-wide16 in
     let v = looked-empty _ _ _ _ _ _ _ (at-look .look .ensures) (at-enum-told .enum-told .given .1) in
     let q = c .refuse .ensures in (
-      acts-lost _ _ _ _ _ _ _ _ _ (start .pre .1 .1 .1) _ refl 0 _ (at-wide16 .wide16 .ensures .0) (omega arith) (lost _ (asked-last (start .pre .0) (at-wide16 .wide16 .ensures .0) (omega arith)) (v .1)) q,
+      acts-lost _ _ _ _ _ _ _ _ _ (start .pre .1 .1 .1) _ refl 0 _ (at-wide16 .wide16 .ensures .0)
+          (omega arith) (lost _ (asked-last (start .pre .0) (at-wide16 .wide16 .ensures .0) (omega arith)) (v .1)) q,
       (used-at (ap (λ (r : Acted). r .base) q) (v .0), omega (arith, ap (λ (r : Acted). r .state .length) q)),
     )
 

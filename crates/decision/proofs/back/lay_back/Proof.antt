@@ -17,7 +17,8 @@ turn-requires : tie.Need-turn-requires
 turn-requires c κs =
     let at-trace = c .before .before .before in
     let start = at-trace .before .before .before .before .before .before in
-    ((omega (arith, at-trace .trace .ensures .few), omega (arith, at-trace .trace .ensures .few, part-long (start .args .moves .now) (start .args .from) (start .pre .1 .1 .1))), traced-moves (at-trace .trace .ensures))
+    let traced = at-trace .trace .ensures in
+    ((omega (arith, traced .few), omega (arith, traced .few, part-long (start .args .moves .now) (start .args .from) (start .pre .1 .1 .1))), traced-moves traced)
 
 returns : tie.Need-returns
 returns c =

@@ -30,7 +30,8 @@ noted-requires c κs =
 returns-4 : tie.Need-returns-4
 returns-4 c =
     let at-noted = c .before in
-    let at-wide16 = at-noted .before .before .before .before .before .before .before in
+    let after-is-free = at-noted .before .before .before .before .before .before in
+    let at-wide16 = after-is-free .before in
     stands-again _ _ (at-wide16 .wide16 .ensures .0) (sym (at-noted .noted .ensures) ∙ c .if4 .taken)
 
 slice-write-place : tie.Need-slice-write-place

@@ -10,8 +10,10 @@ use Rattle.decision.proofs.steps.extend.Tie as tie
 
 noted-requires : tie.Need-noted-requires
 noted-requires c κs =
-    let start = c .before .before .before .before in
-    (omega (arith, start .pre .0 .room, length-set (start .args .path .now) (start .args .n) (start .args .current)), omega (arith, start .pre .1, start .pre .0 .places .size, length-set (start .args .place .now) (start .args .current) (start .args .n)))
+    let start = c .before .before .before .before in (
+      omega (arith, start .pre .0 .room, length-set (start .args .path .now) (start .args .n) (start .args .current)),
+      omega (arith, start .pre .1, start .pre .0 .places .size, length-set (start .args .place .now) (start .args .current) (start .args .n)),
+    )
 
 returns : tie.Need-returns
 returns c =

@@ -17,15 +17,16 @@ Inv-loop table p base mark cost list n best₀ i₀ best i = (i ≤ n) × Bests 
 abbrev μ-loop : tie.MeasureT-loop
 μ-loop table p base mark cost list n best₀ i₀ best i = n - i
 
--- from a place to one before it
 abbrev to-start : tie.At-loop Inv-loop μ-loop → tie.Start Inv-loop μ-loop
 to-start c = c .before .before .before .before .before .before
 
 -- the cell at i is of the window
-listed : (c : tie.After-wide16 Inv-loop μ-loop) → In (c .before .before .before .before .before .before .before .before .before .args .base) (c .before .before .before .before .before .before .before .before .before .args .mark .now) (c .wide16 .result)
-listed c = let a =
-    let start = to-start (c .before .before .before) in
-    start in subst (In (a .args .base) (a .args .mark .now)) (sym (c .wide16 .ensures .0)) (a .pre .1 .0 .early (c .before .before .before .loop .i) (omega arith))
+listed : (c : tie.After-wide16 Inv-loop μ-loop) →
+    let a = to-start (c .before .before .before) .args in
+    In (a .base) (a .mark .now) (c .wide16 .result)
+listed c =
+    let a = to-start (c .before .before .before) in
+    subst (In (a .args .base) (a .args .mark .now)) (sym (c .wide16 .ensures .0)) (a .pre .1 .0 .early (c .before .before .before .loop .i) (omega arith))
 
 loop-holds : tie.Need-loop-holds Inv-loop μ-loop
 loop-holds c = (omega arith, c .before .before .before .before .before .pre .1 .1)
@@ -44,8 +45,7 @@ loop-again : tie.Need-loop-again Inv-loop μ-loop
 loop-again c =
     let after-wide16 = c .before .before .before .before in
     let at-loop = after-wide16 .before .before .before in
-    let start = at-loop .before .before .before .before .before .before in
-    let a = start in
+    let a = at-loop .before .before .before .before .before .before in
     let l = at-loop .loop in
     let x = after-wide16 .wide16 .result in
     let near = in-ring (a .args .base) (a .args .mark .now) x deepest (listed after-wide16) (a .pre .0 .top x) in (

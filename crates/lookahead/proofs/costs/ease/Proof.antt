@@ -10,20 +10,24 @@ use Rattle.lookahead.proofs.Lowering.{eased, eased-out, eased-wall}
 use Rattle.lookahead.proofs.costs.ease.Statement.{statement}
 use Rattle.lookahead.proofs.costs.ease.Tie as tie
 
+-- the call's start
+abbrev to-start : tie.After-cell → tie.Start
+to-start c = c .before .before .before .before .before .before
+
 -- the step leads to the cell
-to-cell : (c : tie.After-cell) → let a = c .before .before .before .before .before .before .args in stepOf (flat (a .width) (a .height) (a .floor .now)) (a .c) (a .m) ≡ To (c .cell .given .0 .0) (c .cell .given .0 .1 .0)
+to-cell : (c : tie.After-cell) →
+    let a = to-start c .args in
+    stepOf (flat (a .width) (a .height) (a .floor .now)) (a .c) (a .m) ≡ To (c .cell .given .0 .0) (c .cell .given .0 .1 .0)
 to-cell c = sym (c .before .before .step-from .ensures) ∙ c .cell .given .1
 
 -- what that says of it
-at-cell : (c : tie.After-cell) → let a = c .before .before .before .before .before .before .args in Stepped (flat (a .width) (a .height) (a .floor .now)) (a .c) (a .m) (c .cell .given .0 .0) (c .cell .given .0 .1 .0)
-at-cell c = let a = c .before .before .before .before .before .before in stepped _ (a .pre .0) _ _ _ _ (to-cell c)
+at-cell : (c : tie.After-cell) →
+    let a = to-start c .args in
+    Stepped (flat (a .width) (a .height) (a .floor .now)) (a .c) (a .m) (c .cell .given .0 .0) (c .cell .given .0 .1 .0)
+at-cell c = stepped _ (to-start c .pre .0) _ _ _ _ (to-cell c)
 
 mul-if1 : tie.Need-mul-if1
 mul-if1 c = omega (arith, at-cell (c .before) .few)
-
--- from a place to one before it
-abbrev to-start : tie.After-cell → tie.Start
-to-start c = c .before .before .before .before .before .before
 
 shared-slice-read-if1 : tie.Need-shared-slice-read-if1
 shared-slice-read-if1 c =
@@ -32,13 +36,12 @@ shared-slice-read-if1 c =
 
 returns : tie.Need-returns
 returns c =
-    let start = to-start (c .before .before .before) in
-    let a = start in
+    let a = to-start (c .before .before .before) in
     eased-out _ _ _ _ _ _ _ (a .pre .1 .0) (a .pre .1 .1 .1 .1) _ _ _ (to-cell (c .before .before .before)) (c .if1 .taken)
 
 add-sum : tie.Need-add-sum
 add-sum c =
-    let a = c .before .before .before .before .before .before .before .before .before in
+    let a = to-start (c .before .before .before) in
     omega (arith, a .pre .1 .0 .small (a .args .c) (a .pre .1 .1 .0 .marked), a .pre .1 .1 .1 .1, at-cell (c .before .before .before) .most)
 
 lower-requires : tie.Need-lower-requires
@@ -50,9 +53,8 @@ returns-2 : tie.Need-returns-2
 returns-2 c =
     let after-known-told = c .before .before .before .before .before .before in
     let after-cell = after-known-told .before in
-    let start = after-cell .before .before .before .before .before .before in
-    let a = start in
-    eased _ _ _ _ _ _ _ (a .pre .1 .0) (a .pre .1 .1 .1 .1) (a .pre .0) _ _ (to-cell (after-cell))
+    let a = after-cell .before .before .before .before .before .before in
+    eased _ _ _ _ _ _ _ (a .pre .1 .0) (a .pre .1 .1 .1 .1) (a .pre .0) _ _ (to-cell after-cell)
     (a .pre .1 .1 .0 .marked) (omega (arith, c .before .before .before .before .if1 .left)) _ _ _ (c .before .before .lower .ensures)
 
 returns-3 : tie.Need-returns-3

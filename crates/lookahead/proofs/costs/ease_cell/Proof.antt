@@ -23,19 +23,19 @@ spot-of-requires c κs = let a = c .before .before .before in (a .pre .0 .wide, 
 loop-holds : tie.Need-loop-holds Inv-loop μ-loop
 loop-holds c =
     let a = c .before .before .before .before in
-    (omega arith, lowered-none _ _ _ (Easing (flat (a .args .width) (a .args .height) (a .args .floor .now)) (a .args .base) (a .args .mark .now) (a .args .c) 0 (a .args .w)) _ _ (a .pre .1 .0) (a .pre .1 .1 .1, λ i l. absurd (omega arith)))
+    let g = flat (a .args .width) (a .args .height) (a .args .floor .now) in
+    (omega arith, lowered-none _ _ _ (Easing g (a .args .base) (a .args .mark .now) (a .args .c) 0 (a .args .w)) _ _ (a .pre .1 .0) (a .pre .1 .1 .1, λ i l. absurd (omega arith)))
 
 ease-requires : tie.Need-ease-requires Inv-loop μ-loop
 ease-requires c κs =
-    let a = c .before .before .before .before .before .before .before in
-    let l = c .before .before .loop .inv .1 in
-    (a .pre .0, (l .costs, (record { marked = a .pre .1 .1 .0; placed = record { free = a .pre .1 .0 .free (a .args .c) (a .pre .1 .1 .0); spot = c .before .before .before .spot-of .ensures _ } }, (omega arith, l .so .0))))
+    let at-loop = c .before .before in
+    let p = at-loop .before .before .before .before .before .pre in
+    let l = at-loop .loop .inv .1 in
+    let free = p .1 .0 .free _ (p .1 .1 .0) in
+    (p .0, (l .costs, (record { marked = p .1 .1 .0; placed = record { free = free; spot = at-loop .before .spot-of .ensures _ } }, (omega arith, l .so .0))))
 
 loop-again : tie.Need-loop-again Inv-loop μ-loop
 loop-again c =
-    let after-spot-of = c .before .before .before .before .before .before in
-    let start = after-spot-of .before .before .before .before in
-    let a = start in
     let l = c .before .before .before .before .before .loop in
     (omega arith, eased-more _ _ _ _ _ _ _ _ _ _ _ _ (l .inv .1) (c .before .before .ease .ensures))
 
@@ -44,10 +44,11 @@ same-length c = c .before .loop .inv .1 .costs .costs ∙ sym (c .before .before
 
 returns : tie.Need-returns Inv-loop μ-loop
 returns c =
-    let a = c .before .before .before .before .before .before in
+    let a = c .before .before .before .before .before .before .args in
     let l = c .before .loop in
     let e : l .m ≡ 8 = omega arith in
-    subst (λ z. Lowered (flat (a .args .width) (a .args .height) (a .args .floor .now)) (a .args .base) (a .args .mark .now) (Easing (flat (a .args .width) (a .args .height) (a .args .floor .now)) (a .args .base) (a .args .mark .now) (a .args .c) z (a .args .w)) (a .args .cost .now) (a .args .changed) (l .cost) (l .any)) e (l .inv .1)
+    let g = flat (a .width) (a .height) (a .floor .now) in
+    subst (λ z. Lowered g (a .base) (a .mark .now) (Easing g (a .base) (a .mark .now) (a .c) z (a .w)) (a .cost .now) (a .changed) (l .cost) (l .any)) e (l .inv .1)
 
 pub ease-cell-spec : {M : Type 1} → statement M
 ease-cell-spec =

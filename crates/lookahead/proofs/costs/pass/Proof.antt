@@ -27,20 +27,26 @@ to-start c = c .before .before .before .before .before
 
 ease-again-requires : tie.Need-ease-again-requires Inv-loop μ-loop
 ease-again-requires c κs =
-    let start = to-start (c .before .before .before) in
-    let a = start in
+    let a = to-start (c .before .before .before) in
     let l = c .before .before .before .loop in
     let p = l .inv .1 in
-    (a .pre .0, (p .lowered .costs, ((p .listing .room, omega (arith, p .listing .fits), p .listing .early (l .i) (omega arith)), ((λ x h. omega (arith, a .pre .1 .1 .1 .1 x h, p .lowered .drop x)), p .lowered .so (l .i) (omega arith)))))
+    let L = p .listing in (
+      a .pre .0,
+      (
+        p .lowered .costs,
+        (
+          (L .room, omega (arith, L .fits), L .early (l .i) (omega arith)),
+          ((λ x h. omega (arith, a .pre .1 .1 .1 .1 x h, p .lowered .drop x)), p .lowered .so (l .i) (omega arith)),
+        ),
+      ),
+    )
 
 loop-again : tie.Need-loop-again Inv-loop μ-loop
 loop-again c =
     let after-ease-again = c .before .before .before .before in
     let at-loop = after-ease-again .before .before .before .before in
-    let start = at-loop .before .before .before .before .before in
-    let a = start in
     let l = at-loop .loop in
-    (omega arith, passed-more _ _ _ _ _ _ _ _ _ _ _ _ (omega arith) (l .inv .1) (c .before .before .before .before .ease-again .ensures))
+    (omega arith, passed-more _ _ _ _ _ _ _ _ _ _ _ _ (omega arith) (l .inv .1) (after-ease-again .ease-again .ensures))
 
 same-length : tie.Need-same-length Inv-loop μ-loop
 same-length c = c .before .loop .inv .1 .lowered .costs .costs ∙ sym (c .before .before .before .before .before .before .pre .1 .0 .costs)
@@ -50,10 +56,10 @@ same-length-2 c = c .before .loop .inv .1 .listing .room ∙ sym (c .before .bef
 
 returns : tie.Need-returns Inv-loop μ-loop
 returns c =
-    let a = c .before .before .before .before .before .before in
+    let a = c .before .before .before .before .before .before .args in
     let l = c .before .loop in
-    let e : l .i ≡ a .args .n = omega arith in
-    subst (λ z. Passed (flat (a .args .width) (a .args .height) (a .args .floor .now)) (a .args .base) (a .args .mark .now) (a .args .n) z (a .args .cost .now) (l .cost) (l .list) (l .any)) e (l .inv .1)
+    let e : l .i ≡ a .n = omega arith in
+    subst (λ z. Passed (flat (a .width) (a .height) (a .floor .now)) (a .base) (a .mark .now) (a .n) z (a .cost .now) (l .cost) (l .list) (l .any)) e (l .inv .1)
 
 pub pass-spec : {M : Type 1} → statement M
 pass-spec =

@@ -60,22 +60,21 @@ same-length : tie.Need-same-length Inv-loop μ-loop
 same-length c =
     let after-pass = c .before .before .before .before .before in
     let start = to-start (after-pass .before .before .before) in
-    c .before .before .before .before .before .pass .ensures .lowered .costs .costs ∙ sym (start .pre .1 .0 .costs)
+    after-pass .pass .ensures .lowered .costs .costs ∙ sym (start .pre .1 .0 .costs)
 
 same-length-2 : tie.Need-same-length-2 Inv-loop μ-loop
 same-length-2 c =
     let after-pass = c .before .before .before .before .before in
     let start = to-start (after-pass .before .before .before) in
-    c .before .before .before .before .before .pass .ensures .listing .room ∙ sym (start .pre .1 .1 .0 .room)
+    after-pass .pass .ensures .listing .room ∙ sym (start .pre .1 .1 .0 .room)
 
 returns : tie.Need-returns Inv-loop μ-loop
 returns c =
     let after-pass = c .before .before .before .before .before in
     let at-loop = after-pass .before .before .before in
-    let start = to-start at-loop in
-    let a = start in
+    let a = to-start at-loop in
     let i = at-loop .loop .inv in
-    relaxed _ _ _ (a .pre .0) _ _ _ _ _ _ (i .1) (i .2) (c .before .before .before .before .before .pass .ensures) (c .if1 .left)
+    relaxed _ _ _ (a .pre .0) _ _ _ _ _ _ (i .1) (i .2) (after-pass .pass .ensures) (c .if1 .left)
 
 pub relax-spec : {M : Type 1} → statement M
 relax-spec =

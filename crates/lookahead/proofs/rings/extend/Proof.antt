@@ -10,25 +10,27 @@ use Rattle.lookahead.proofs.Grow.{extended-to, extended-wall}
 use Rattle.lookahead.proofs.rings.extend.Statement.{statement}
 use Rattle.lookahead.proofs.rings.extend.Tie as tie
 
--- the step leads to the cell
-to-cell : (c : tie.After-cell) → let a = c .before .before .before .before .before .before .before .args in stepOf (flat (a .width) (a .height) (a .floor .now)) (a .c) (a .m) ≡ To (c .cell .given .0 .0) (c .cell .given .0 .1 .0)
-to-cell c = sym (c .before .before .step-from .ensures) ∙ c .cell .given .1
-
--- from a place to one before it
+-- the call's start
 abbrev to-start : tie.After-cell → tie.Start
 to-start c =
-    let after-shared-slice-known = c .before .before .before .before .before .before in
-    after-shared-slice-known .before
+    let half = c .before .before .before in
+    half .before .before .before .before
+
+-- the step leads to the cell
+to-cell : (c : tie.After-cell) →
+    let a = to-start c .args in
+    stepOf (flat (a .width) (a .height) (a .floor .now)) (a .c) (a .m) ≡ To (c .cell .given .0 .0) (c .cell .given .0 .1 .0)
+to-cell c = sym (c .before .before .step-from .ensures) ∙ c .cell .given .1
 
 -- what that says of it
-at-cell : (c : tie.After-cell) → let a = c .before .before .before .before .before .before .before .args in Stepped (flat (a .width) (a .height) (a .floor .now)) (a .c) (a .m) (c .cell .given .0 .0) (c .cell .given .0 .1 .0)
-at-cell c = let a =
-    let start = to-start c in
-    start in stepped _ (a .pre .0) _ _ _ _ (to-cell c)
+at-cell : (c : tie.After-cell) →
+    let a = to-start c .args in
+    Stepped (flat (a .width) (a .height) (a .floor .now)) (a .c) (a .m) (c .cell .given .0 .0) (c .cell .given .0 .1 .0)
+at-cell c = stepped _ (to-start c .pre .0) _ _ _ _ (to-cell c)
 
 add-sum : tie.Need-add-sum
 add-sum c =
-    let a = c .before .before .before .before .before .before .before .before in
+    let a = to-start (c .before) in
     let l = a .pre .1 .1 .0 in
     omega (arith, a .pre .1 .0 .cheap (a .args .c) (omega (arith, l .marked, l .ring .first)), l .marked, l .ring .last, l .costs, at-cell (c .before) .most)
 
@@ -41,16 +43,14 @@ returns : tie.Need-returns
 returns c =
     let after-reach = c .before .before .before .before .before .before in
     let after-cell = after-reach .before .before .before .before .before in
-    let start = to-start after-cell in
-    let a = start in
+    let a = to-start after-cell in
     let l = a .pre .1 .1 .0 in
     extended-to _ (a .pre .0) _ _ _ _ _ _ _ _ _ (a .pre .1 .0) (l .marked) (l .costs) (l .ring .first) (to-cell after-cell) (after-reach .reach .ensures)
 
 returns-2 : tie.Need-returns-2
 returns-2 c =
     let after-shared-slice-known = c .before .before .before .before .before .before in
-    let start = after-shared-slice-known .before in
-    let a = start in
+    let a = after-shared-slice-known .before in
     extended-wall _ _ _ _ _ _ _ (a .pre .1 .0) (a .pre .1 .1 .0 .costs) (sym (c .before .before .step-from .ensures) ∙ c .enum-told .given .1)
 
 pub extend-spec : {M : Type 1} → statement M

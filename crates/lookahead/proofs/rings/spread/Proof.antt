@@ -4,7 +4,7 @@ use Prim.Native.Nat.{_-_, _≤_}
 use mathlib.Core.Path.{_≡_, refl, sym, _∙_, subst}
 use native.Mathlib.Omega.{arith}
 use borrow.Author.Needs.{needs}
-use lib.ListN.{getD}
+use lib.ListN.{length, getD}
 use Rattle.model.proofs.Moves.{free-few}
 use Rattle.floor.specs.Moves.{flat}
 use Rattle.lookahead.proofs.Grow.{swept-none, swept-more}
@@ -37,75 +37,56 @@ inside : (c : tie.After-wide16 Inv-loop μ-loop) → let a = to-start (to-loop c
 inside c = omega (arith, marked c, to-start (to-loop c) .pre .1 .1 .ring .first)
 
 loop-holds : tie.Need-loop-holds Inv-loop μ-loop
-loop-holds c =
-    let a = c .before .before .before .before in
-    (a .pre .1 .1 .order, omega arith, swept-none _ _ _ _ _ (a .pre .1 .0))
+loop-holds c = let a = c .before .before .before .before in (a .pre .1 .1 .order, omega arith, swept-none _ _ _ _ _ (a .pre .1 .0))
 
 slice-read-wide16 : tie.Need-slice-read-wide16 Inv-loop μ-loop
 slice-read-wide16 c =
-    let start = to-start (c .before .before) in
-    omega (arith, c .before .before .loop .inv .2 .grew .room .sizes .cells, start .pre .1 .0 .sizes .count)
+    let at-loop = c .before .before in
+    omega (arith, at-loop .loop .inv .2 .grew .room .sizes .cells, to-start at-loop .pre .1 .0 .sizes .count)
 
 slice-read-w : tie.Need-slice-read-w Inv-loop μ-loop
 slice-read-w c =
-    let start = to-start (to-loop (c .before)) in
-    let a = start in
-    omega (arith, free-few _ (c .before .wide16 .result) (a .pre .0) (a .pre .1 .0 .free _ (inside (c .before))), c .before .before .before .before .loop .inv .2 .grew .room .sizes .costs)
+    let p = to-start (to-loop (c .before)) .pre in
+    let few = free-few _ (c .before .wide16 .result) (p .0) (p .1 .0 .free _ (inside (c .before))) in
+    omega (arith, few, to-loop (c .before) .loop .inv .2 .grew .room .sizes .costs)
 
 visit-requires : tie.Need-visit-requires Inv-loop μ-loop
 visit-requires c κs =
-    let after-wide16 = c .before .before .before .before in
-    let at-loop = after-wide16 .before .before .before in
-    let start = at-loop .before .before .before .before .before in
-    let a = start in
-    let g = at-loop .loop .inv .2 .grew in
-    let x = after-wide16 .wide16 .result in
-    let p = inside (after-wide16) in
-    (a .pre .0, (g .room, record { free = a .pre .1 .0 .free x p; ring = a .pre .1 .1 .ring; marked = g .kept .marks x p ∙ marked (after-wide16); costs = refl }))
+    let cell = c .before .before .before .before in
+    let q = to-start (to-loop cell) .pre in
+    let g = to-loop cell .loop .inv .2 .grew in
+    let x = cell .wide16 .result in
+    let p = inside cell in
+    (q .0, (g .room, record { free = q .1 .0 .free x p; ring = q .1 .1 .ring; marked = g .kept .marks x p ∙ marked cell; costs = refl }))
 
-add-list : tie.Need-add-list Inv-loop μ-loop
-add-list c =
-    let after-visit = c .before .before .before .before .before .before in
-    let start = to-start (to-loop (after-visit .before .before .before .before .before)) in
-    omega (arith, start .pre .1 .0 .sizes .count)
-
-mul-list : tie.Need-mul-list Inv-loop μ-loop
-mul-list c =
-    let after-visit = c .before .before .before .before .before .before in
-    let start = to-start (to-loop (after-visit .before .before .before .before .before)) in
-    omega (arith, start .pre .1 .0 .sizes .count)
-
-slice-write-list : tie.Need-slice-write-list Inv-loop μ-loop
-slice-write-list c =
-    let after-visit = c .before .before .before .before .before .before in
-    let start = to-start (to-loop (after-visit .before .before .before .before .before)) in
-    omega (arith, start .pre .1 .0 .sizes .count, c .before .before .before .before .before .before .visit .ensures .grew .room .sizes .cells)
+-- no place is past the list, once a cell's moves are followed
+short : (c : tie.After-visit Inv-loop μ-loop) → let a = to-start (to-loop (c .before .before .before .before .before)) .args in a .to ≤ 4096
+short c = omega (arith, to-start (to-loop (c .before .before .before .before .before)) .pre .1 .0 .sizes .count)
 
 loop-again : tie.Need-loop-again Inv-loop μ-loop
 loop-again c =
-    let after-visit = c .before .before .before .before .before .before in
-    let after-wide16 = after-visit .before .before .before .before .before in
-    let at-loop = after-wide16 .before .before .before in
-    let start = at-loop .before .before .before .before .before in
-    let a = start in
-    let l = at-loop .loop in
-    (omega arith, omega arith, swept-more _ _ _ _ _ _ _ _ _ _ (omega arith) (cell-eq (after-wide16)) (l .inv .2) (c .before .before .before .before .before .before .visit .ensures))
+    let left = c .before .before .before .before .before .before in
+    let cell = left .before .before .before .before .before in
+    (omega arith, omega arith, swept-more _ _ _ _ _ _ _ _ _ _ (omega arith) (cell-eq cell) (to-loop cell .loop .inv .2) (left .visit .ensures))
 
-same-length : tie.Need-same-length Inv-loop μ-loop
-same-length c = c .before .loop .inv .2 .grew .room .sizes .marks ∙ sym (c .before .before .before .before .before .before .pre .1 .0 .sizes .marks)
-
-same-length-2 : tie.Need-same-length-2 Inv-loop μ-loop
-same-length-2 c = c .before .loop .inv .2 .grew .room .sizes .costs ∙ sym (c .before .before .before .before .before .before .pre .1 .0 .sizes .costs)
-
-same-length-3 : tie.Need-same-length-3 Inv-loop μ-loop
-same-length-3 c = c .before .loop .inv .2 .grew .room .sizes .cells ∙ sym (c .before .before .before .before .before .before .pre .1 .0 .sizes .cells)
+-- the lists keep their lengths
+kept : (c : tie.After-loop Inv-loop μ-loop) →
+    let a = to-start (c .before) .args in
+    let l = c .before .loop in
+    (length (l .mark) ≡ length (a .mark .now)) × (length (l .cost) ≡ length (a .cost .now)) × (length (l .list) ≡ length (a .list .now))
+kept c =
+    let n = c .before .loop .inv .2 .grew .room .sizes in
+    let o = to-start (c .before) .pre .1 .0 .sizes in
+    (n .marks ∙ sym (o .marks), n .costs ∙ sym (o .costs), n .cells ∙ sym (o .cells))
 
 returns : tie.Need-returns Inv-loop μ-loop
 returns c =
-    let a = c .before .before .before .before .before .before .args in
+    let a = to-start (c .before) .args in
     let l = c .before .loop in
     let e : l .i ≡ a .to = omega arith in
-    subst (λ z. Swept (flat (a .width) (a .height) (a .floor .now)) (a .base) (a .k) (a .from) z (state (a .mark .now) (a .cost .now) (a .list .now) (a .to)) (state (l .mark) (l .cost) (l .list) (l .end))) e (l .inv .2)
+    let from = state (a .mark .now) (a .cost .now) (a .list .now) (a .to) in
+    let to = state (l .mark) (l .cost) (l .list) (l .end) in
+    subst (λ z. Swept (flat (a .width) (a .height) (a .floor .now)) (a .base) (a .k) (a .from) z from to) e (l .inv .2)
 
 pub spread-spec : {M : Type 1} → statement M
 spread-spec =
@@ -120,13 +101,13 @@ spread-spec =
     (λ c. search needs)
     slice-read-w
     visit-requires
-    add-list
-    mul-list
-    slice-write-list
+    (λ c. omega (arith, short (c .before .before .before .before .before .before)))
+    (λ c. omega (arith, short (c .before .before .before .before .before .before)))
+    (λ c. let left = c .before .before .before .before .before .before in omega (arith, short left, left .visit .ensures .grew .room .sizes .cells))
     (λ c. omega arith)
     (λ c. omega arith)
     loop-again
-    same-length
-    same-length-2
-    same-length-3
+    (λ c. kept c .0)
+    (λ c. kept c .1)
+    (λ c. kept c .2)
     returns)

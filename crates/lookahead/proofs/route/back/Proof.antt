@@ -39,7 +39,9 @@ returns c =
     let l = c .before .loop in
     let e : l .j ≡ 8 = omega arith in
     let B = a .pre .1 .1 .1 in
-    linked-prior _ (a .pre .0) _ _ _ _ _ (a .pre .1 .0) (subst (λ k. Linked (flat (a .args .width) (a .args .height) (a .args .floor .now)) (a .args .base) (a .args .mark .now) (a .args .cost .now) (a .args .x) k (l .b)) e (l .inv .1)) (B .0) (B .1)
+    let g = flat (a .args .width) (a .args .height) (a .args .floor .now) in
+    let L = subst (λ k. Linked g (a .args .base) (a .args .mark .now) (a .args .cost .now) (a .args .x) k (l .b)) e (l .inv .1) in
+    linked-prior _ (a .pre .0) _ _ _ _ _ (a .pre .1 .0) L (B .0) (B .1)
 
 pub back-spec : {M : Type 1} → statement M
 back-spec =

@@ -18,14 +18,28 @@ abbrev μ-loop : tie.MeasureT-loop
 loop-holds : tie.Need-loop-holds Inv-loop μ-loop
 loop-holds c = let a = c .before .before .before .before in collects-none _ _ _ (a .pre .0) _ _ _ (a .pre .1 .0) _ _ (a .pre .1 .1 .0) (a .pre .1 .1 .1)
 
+abbrev start : tie.At-loop Inv-loop μ-loop → tie.Start Inv-loop μ-loop
+start c = c .before .before .before .before .before
+
 back-requires : tie.Need-back-requires Inv-loop μ-loop
 back-requires c κs =
-    let a = c .before .before .before .before .before .before in
-    let l = c .before .loop in
-    (a .pre .0 .sized, (costs-of _ _ _ (a .pre .0) _ _ _ (a .pre .1 .0), (in-of _ _ _ (a .pre .0) _ _ _ (a .pre .1 .0) _ (l .inv .near), some-prior _ _ _ (a .pre .0) _ _ _ (a .pre .1 .0) _ (l .inv .near) (c .loop-test .taken))))
+    let p = start (c .before) .pre in
+    let l = c .before .loop in (
+      p .0 .sized,
+      (
+        costs-of _ _ _ (p .0) _ _ _ (p .1 .0),
+        (
+          in-of _ _ _ (p .0) _ _ _ (p .1 .0) _ (l .inv .near),
+          some-prior _ _ _ (p .0) _ _ _ (p .1 .0) _ (l .inv .near) (c .loop-test .taken),
+        ),
+      ),
+    )
 
 sub-k : tie.Need-sub-k Inv-loop μ-loop
-sub-k c = let a = c .before .before .before .before .before .before .before in collects-more _ _ _ (a .pre .0) _ _ _ (a .pre .1 .0) (c .before .before .loop .cell) (c .before .before .loop .inv .near) (c .before .loop-test .taken) _ (c .back .ensures) _ (c .before .before .loop .k) (c .before .before .loop .way) (c .before .before .loop .inv) .0
+sub-k c =
+    let p = start (c .before .before) .pre in
+    let l = c .before .before .loop in
+    collects-more _ _ _ (p .0) _ _ _ (p .1 .0) (l .cell) (l .inv .near) (c .before .loop-test .taken) _ (c .back .ensures) _ (l .k) (l .way) (l .inv) .0
 
 cast-way : tie.Need-cast-way Inv-loop μ-loop
 cast-way c = omega (arith, c .before .back .ensures .from .one)
@@ -35,25 +49,24 @@ slice-write-way c = let l = c .before .before .before .loop .inv in omega (arith
 
 loop-less : tie.Need-loop-less Inv-loop μ-loop
 loop-less c =
-    let at-loop = c .before .before .before in
-    let start = at-loop .before .before .before .before .before in
-    let a = start in
+    let a = start (c .before .before .before) in
     let l = c .before .before .before .loop in
     omega (arith, prior-cheap _ _ _ (a .pre .0) _ _ _ (a .pre .1 .0) _ (l .inv .near) (c .before .before .loop-test .taken) _ (c .before .back .ensures))
 
 loop-again : tie.Need-loop-again Inv-loop μ-loop
 loop-again c =
-    let at-loop = c .before .before .before in
-    let start = at-loop .before .before .before .before .before in
-    let a = start in
+    let a = start (c .before .before .before) in
     let l = c .before .before .before .loop in
     collects-more _ _ _ (a .pre .0) _ _ _ (a .pre .1 .0) _ (l .inv .near) (c .before .before .loop-test .taken) _ (c .before .back .ensures) _ _ _ (l .inv) .1
 
 same-length : tie.Need-same-length Inv-loop μ-loop
-same-length c = c .before .loop .inv .size ∙ sym (c .before .before .before .before .before .before .pre .1 .1 .1)
+same-length c = c .before .loop .inv .size ∙ sym (start (c .before) .pre .1 .1 .1)
 
 returns : tie.Need-returns Inv-loop μ-loop
-returns c = let a = c .before .before .before .before .before .before in let l = c .before .loop in collected _ _ _ (a .pre .0) _ _ _ (a .pre .1 .0) _ _ _ _ (c .loop-test .left) (l .inv)
+returns c =
+    let a = start (c .before) in
+    let l = c .before .loop in
+    collected _ _ _ (a .pre .0) _ _ _ (a .pre .1 .0) _ _ _ _ (c .loop-test .left) (l .inv)
 
 pub collect-spec : {M : Type 1} → statement M
 collect-spec =

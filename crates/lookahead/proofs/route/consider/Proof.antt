@@ -15,20 +15,24 @@ use Rattle.lookahead.proofs.route.consider.Tie as tie
 few : (c : tie.Start) → c .args .x < 4096
 few c = free-few _ _ (c .pre .0) (c .pre .1 .1 .0 .placed .free)
 
+-- the call's start
+abbrev to-start : tie.After-cell → tie.Start
+to-start c = c .before .before .before .before .before .before
+
 -- the step leads to the cell
-to-cell : (c : tie.After-cell) → let a = c .before .before .before .before .before .before .args in stepOf (flat (a .width) (a .height) (a .floor .now)) (a .x) (a .j) ≡ To (c .cell .given .0 .0) (c .cell .given .0 .1 .0)
+to-cell : (c : tie.After-cell) →
+    let a = to-start c .args in
+    stepOf (flat (a .width) (a .height) (a .floor .now)) (a .x) (a .j) ≡ To (c .cell .given .0 .0) (c .cell .given .0 .1 .0)
 to-cell c = sym (c .before .before .step-from .ensures) ∙ c .cell .given .1
 
 -- what that says of it
-at-cell : (c : tie.After-cell) → let a = c .before .before .before .before .before .before .args in Stepped (flat (a .width) (a .height) (a .floor .now)) (a .x) (a .j) (c .cell .given .0 .0) (c .cell .given .0 .1 .0)
-at-cell c = let a = c .before .before .before .before .before .before in stepped _ (a .pre .0) _ _ _ _ (to-cell c)
+at-cell : (c : tie.After-cell) →
+    let a = to-start c .args in
+    Stepped (flat (a .width) (a .height) (a .floor .now)) (a .x) (a .j) (c .cell .given .0 .0) (c .cell .given .0 .1 .0)
+at-cell c = stepped _ (to-start c .pre .0) _ _ _ _ (to-cell c)
 
 mul-if1 : tie.Need-mul-if1
 mul-if1 c = omega (arith, at-cell (c .before) .few)
-
--- from a place to one before it
-abbrev to-start : tie.After-cell → tie.Start
-to-start c = c .before .before .before .before .before .before
 
 shared-slice-read-if1 : tie.Need-shared-slice-read-if1
 shared-slice-read-if1 c =
@@ -37,8 +41,7 @@ shared-slice-read-if1 c =
 
 returns : tie.Need-returns
 returns c =
-    let start = to-start (c .before .before .before) in
-    let a = start in
+    let a = to-start (c .before .before .before) in
     linked-out _ (a .pre .0) _ _ _ _ _ _ _ _ (a .pre .1 .1 .1 .1) (to-cell (c .before .before .before)) (c .if1 .taken)
 
 mul-sum : tie.Need-mul-sum
@@ -52,42 +55,38 @@ shared-slice-read-sum c =
 add-sum : tie.Need-add-sum
 add-sum c =
     let after-cell = c .before .before .before .before in
-    let start = after-cell .before .before .before .before .before .before in
-    let a = start in
+    let a = after-cell .before .before .before .before .before .before in
     omega (arith, a .pre .1 .0 .small (after-cell .cell .given .0 .0) (omega (arith, c .before .if1 .left)), at-cell (after-cell) .most)
 
 mul-if2 : tie.Need-mul-if2
 mul-if2 c =
     let start = to-start (c .before .before .before .before) in
-    omega (arith, few (start))
+    omega (arith, few start)
 
 shared-slice-read-if2 : tie.Need-shared-slice-read-if2
 shared-slice-read-if2 c =
     let start = to-start (c .before .before .before .before .before) in
-    omega (arith, few (start), start .pre .1 .0 .costs)
+    omega (arith, few start, start .pre .1 .0 .costs)
 
 returns-2 : tie.Need-returns-2
 returns-2 c =
-    let start = to-start (c .before .before .before .before .before .before) in
-    let a = start in
+    let a = to-start (c .before .before .before .before .before .before) in
     linked-slack _ (a .pre .0) _ _ _ _ _ _ _ _ (a .pre .1 .1 .1 .1) (to-cell (c .before .before .before .before .before .before)) (c .if2 .taken)
 
 returns-3 : tie.Need-returns-3
 returns-3 c =
     let else1 = c .before .before .before .before .before in
     let after-cell = else1 .before .before .before in
-    let start = after-cell .before .before .before .before .before .before in
-    let a = start in
-    linked-high _ (a .pre .0) _ _ _ _ _ _ _ _ (a .pre .1 .1 .1 .1) (to-cell (after-cell)) (c .if3 .taken)
+    let a = after-cell .before .before .before .before .before .before in
+    linked-high _ (a .pre .0) _ _ _ _ _ _ _ _ (a .pre .1 .1 .1 .1) (to-cell after-cell) (c .if3 .taken)
 
 returns-4 : tie.Need-returns-4
 returns-4 c =
     let else1 = c .before .before .before .before .before in
     let after-cell = else1 .before .before .before in
-    let start = after-cell .before .before .before .before .before .before in
-    let a = start in
-    linked-new _ (a .pre .0) _ _ _ _ _ _ _ _ (a .pre .1 .1 .1 .1) (to-cell (after-cell)) (a .pre .1 .1 .1 .0)
-    (omega (arith, c .before .before .before .before .before .if1 .left)) (c .before .before .if2 .left) (omega (arith, c .if3 .left))
+    let a = after-cell .before .before .before .before .before .before in
+    linked-new _ (a .pre .0) _ _ _ _ _ _ _ _ (a .pre .1 .1 .1 .1) (to-cell after-cell) (a .pre .1 .1 .1 .0)
+    (omega (arith, else1 .if1 .left)) (c .before .before .if2 .left) (omega (arith, c .if3 .left))
 
 returns-5 : tie.Need-returns-5
 returns-5 c =
