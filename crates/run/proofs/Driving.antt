@@ -229,6 +229,8 @@ module _ (j : Job) (bytes : List ℕ) (start : ℕ) (table₀ path₀ : List ℕ
           decisions = omega (arith, few);
           learned = omega (arith, few);
           travel = omega (arith, few);
+          rise = omega (arith, few);
+          leg = omega (arith, few);
         }
 
 -- the scratch lists that a trial starts with

@@ -27,13 +27,15 @@ setOut start = record { state = record { current = start; learned = 0; length = 
 abbrev pub talliedOf : Stand → List ℕ → Report
 talliedOf w along = record { decisions = w .decisions; learned = w .learned; kept = getD along (w .state .length) 0; travel = w .travel }
 
--- a decision can be made, its leg noted, and the counts fit in 64 bits
+-- a decision can be made and its leg noted, and each count and what is added to it is below 2^63, so that the sums fit in 64 bits
 pub record Onward (j : Job) (bytes : List ℕ) (w : Stand) (table path moves along : List ℕ) : Type 0 where
   pub ready : Ready j bytes (w .state) table path (length moves) 0
   pub fits : Fits along (w .state .length) (act j bytes (w .state) table path .state .length) (act j bytes (w .state) table path .cost)
-  pub decisions : w .decisions + 1 < 18446744073709551616
-  pub learned : w .learned + act j bytes (w .state) table path .rise < 18446744073709551616
-  pub travel : w .travel + act j bytes (w .state) table path .cost < 18446744073709551616
+  pub decisions : w .decisions < 9223372036854775808
+  pub learned : w .learned < 9223372036854775808
+  pub travel : w .travel < 9223372036854775808
+  pub rise : act j bytes (w .state) table path .rise < 9223372036854775808
+  pub leg : act j bytes (w .state) table path .cost < 9223372036854775808
 
 -- the deed d is done: the lent lists are as it leaves them, its leg is noted, and it is counted
 pub record Went (d : Deed) (w : Stand) (lent along : List ℕ) (r : Stand) (table′ path′ moves′ along′ : List ℕ) : Type 0 where

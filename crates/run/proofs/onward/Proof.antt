@@ -1,6 +1,6 @@
 -- `run::onward` meets its contract: `act` does the deed, `note_leg` notes its leg, and the sums fit.
 -- Assumes nothing.
-use Prim.Native.Nat.{ℕ, _+_}
+use Prim.Native.Nat.{ℕ, _+_, _<_}
 use mathlib.Core.Path.{refl, ap, _∙_}
 use native.Mathlib.Omega.{arith}
 use borrow.Author.Needs.{needs}
@@ -31,14 +31,25 @@ note-leg-requires c κs =
     let s = start a in
     coe 1 0 (i. Fits (s .args .along .now) (s .args .w .state .length) (did .state i .length) (did .cost i)) (s .pre .0 .fits)
 
+-- the counts are low, and so is what is added to them
+low : (e : tie.After-struct-known) →
+    let r = acted (noting e .before) .act .result in
+    let w = start (acted (noting e .before)) .args .w in
+    (w .decisions < 9223372036854775808) × (w .learned < 9223372036854775808) × (w .travel < 9223372036854775808) × (r .rise < 9223372036854775808) × (r .cost < 9223372036854775808)
+low e =
+    let a = acted (noting e .before) in
+    let may = start a .pre .0 in
+    let did = a .act .ensures .0 in
+    omega (arith, may .decisions, may .learned, may .travel, may .rise, may .leg, did .rise, did .cost)
+
 add-t34 : tie.Need-add-t34
-add-t34 c = omega (arith, start (acted (noting c .before)) .pre .0 .decisions)
+add-t34 c = omega (arith, low c)
 
 add-t36 : tie.Need-add-t36
-add-t36 c = let a = acted (noting (c .before) .before) in omega (arith, start a .pre .0 .learned, a .act .ensures .0 .rise)
+add-t36 c = omega (arith, low (c .before))
 
 add-t38 : tie.Need-add-t38
-add-t38 c = let a = acted (noting (c .before .before) .before) in omega (arith, start a .pre .0 .travel, a .act .ensures .0 .cost)
+add-t38 c = omega (arith, low (c .before .before))
 
 returns : tie.Need-returns
 returns c =

@@ -19,27 +19,24 @@ abbrev μ-loop : tie.MeasureT-loop
 loop-holds : tie.Need-loop-holds Inv-loop μ-loop
 loop-holds c = (omega arith, refl, sym (written-none _ (c .before .args .t3)))
 
-mul-r : tie.Need-mul-r Inv-loop μ-loop
-mul-r c = omega (arith, c .before .before .before .pre .few)
-
-array-copy-out-r : tie.Need-array-copy-out-r Inv-loop μ-loop
-array-copy-out-r c = omega (arith, c .before .before .before .pre .few)
+abbrev start : tie.At-loop Inv-loop μ-loop → tie.Start Inv-loop μ-loop
+start e = e .before .before
 
 put-counts-requires : tie.Need-put-counts-requires Inv-loop μ-loop
-put-counts-requires c κs = (omega (arith, c .before .before .before .loop .inv .1, c .before .before .before .before .before .pre .enough), omega (arith, c .before .before .before .before .before .pre .few))
+put-counts-requires c κs =
+    let e = c .before .before .before in
+    (omega (arith, e .loop .inv .1, start e .pre .enough), omega (arith, start e .pre .few))
 
 add-i : tie.Need-add-i Inv-loop μ-loop
-add-i c = omega (arith, c .before .before .before .before .before .before .before .before .pre .few)
-
-loop-less : tie.Need-loop-less Inv-loop μ-loop
-loop-less c = omega arith
+add-i c = omega (arith, start (c .before .before .before .before .before .before) .pre .few)
 
 loop-again : tie.Need-loop-again Inv-loop μ-loop
 loop-again c =
-    let g = c .before .before .before .before .before .before .loop .inv in
-    let e = c .before .before .put-counts .ensures in
-    let l : length (c .before .before .before .before .before .before .before .before .args .t3) ≡ 1001 = c .before .before .before .before .before .before .before .before .good .1 .1 .0 .1 .0 .1 in
-    (omega arith, ap length e ∙ simp length-set (g .1), write-more _ (c .before .before .before .before .before .before .before .before .args .t3) _ (g .2) e refl (omega (arith, l, c .before .before .before .before .before .before .before .before .pre .few)) (omega (arith, c .before .before .before .before .before .before .before .before .pre .enough)))
+    let e = c .before .before .before .before .before .before in
+    let s = start e in
+    let put = c .before .before .put-counts .ensures in
+    let size : length (s .args .t3) ≡ 1001 = s .good .1 .1 .0 .1 .0 .1 in
+    (omega arith, ap length put ∙ simp length-set (e .loop .inv .1), write-more _ (s .args .t3) _ (e .loop .inv .2) put refl (omega (arith, size, s .pre .few)) (omega (arith, s .pre .enough)))
 
 same-length : tie.Need-same-length Inv-loop μ-loop
 same-length c = c .before .loop .inv .1
@@ -54,11 +51,11 @@ put-all-spec =
     Inv-loop
     μ-loop
     loop-holds
-    mul-r
-    array-copy-out-r
+    (λ c. omega (arith, start (c .before) .pre .few))
+    (λ c. omega (arith, start (c .before) .pre .few))
     put-counts-requires
     add-i
-    loop-less
+    (λ c. omega arith)
     loop-again
     same-length
     returns)
