@@ -6,14 +6,8 @@ use borrow.Author.Needs.{needs}
 use Rattle.drawing.proofs.number.Statement.{statement}
 use Rattle.drawing.proofs.number.Tie as tie
 
-room-requires : tie.Need-room-requires
-room-requires c κs = search needs
-
 decimal-requires : tie.Need-decimal-requires
 decimal-requires c κs = omega (arith, digits-few (c .before .before .before .args .n))
 
-returns : tie.Need-returns
-returns c = search needs
-
 pub number-spec : {M : Type 1} → statement M
-number-spec = tie.close (tie.spec room-requires decimal-requires returns)
+number-spec = tie.close (tie.spec (λ c κs. search needs) decimal-requires (λ c. search needs))

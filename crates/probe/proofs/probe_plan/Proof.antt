@@ -26,12 +26,6 @@ window c =
     let matched = c .before .before .before .before in
     rw (c .last .given .1) at (matched .before .before .before .before .look .ensures)
 
-look-requires : tie.Need-look-requires
-look-requires c κs = search needs
-
-enum-known-last : tie.Need-enum-known-last
-enum-known-last c = search needs
-
 aim-requires : tie.Need-aim-requires
 aim-requires c κs =
     let last = c .before .before .before .before in
@@ -45,55 +39,22 @@ trace-requires c κs =
     let p = known last .before .before .before .before .before .before .pre in
     (p .0, (window last .view, (omega (arith, aimed .aim .ensures .on-last), p .1 .1 .1)))
 
-packed-requires : tie.Need-packed-requires
-packed-requires c κs = search needs
-
-enum-told : tie.Need-enum-told
-enum-told c = search needs
-
-same-length : tie.Need-same-length
-same-length c = search needs
-
-same-length-2 : tie.Need-same-length-2
-same-length-2 c = search needs
-
-same-length-3 : tie.Need-same-length-3
-same-length-3 c = search needs
-
-same-length-4 : tie.Need-same-length-4
-same-length-4 c = search needs
-
-returns : tie.Need-returns
-returns c = search needs
-
-same-length-5 : tie.Need-same-length-5
-same-length-5 c = search needs
-
-same-length-6 : tie.Need-same-length-6
-same-length-6 c = search needs
-
-same-length-7 : tie.Need-same-length-7
-same-length-7 c = search needs
-
-returns-2 : tie.Need-returns-2
-returns-2 c = search needs
-
 pub probe-plan-spec : {M : Type 1} → statement M
 probe-plan-spec =
     tie.close
     (tie.spec
-    look-requires
-    enum-known-last
+    (λ c κs. search needs)
+    (λ c. search needs)
     aim-requires
     trace-requires
-    packed-requires
-    enum-told
-    same-length
-    same-length-2
-    same-length-3
-    same-length-4
-    returns
-    same-length-5
-    same-length-6
-    same-length-7
-    returns-2)
+    (λ c κs. search needs)
+    (λ c. search needs)
+    (λ c. search needs)
+    (λ c. search needs)
+    (λ c. search needs)
+    (λ c. search needs)
+    (λ c. search needs)
+    (λ c. search needs)
+    (λ c. search needs)
+    (λ c. search needs)
+    (λ c. search needs))

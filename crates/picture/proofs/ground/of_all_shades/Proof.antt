@@ -11,25 +11,7 @@ Inv-loop page₀ from columns shade n at₀ which₀ page at which = which ≤ 8
 abbrev μ-loop : tie.MeasureT-loop
 μ-loop page₀ from columns shade n at₀ which₀ page at which = 8 - which
 
-loop-holds : tie.Need-loop-holds Inv-loop μ-loop
-loop-holds c = search needs
-
-of-shade-requires : tie.Need-of-shade-requires Inv-loop μ-loop
-of-shade-requires c κs = search needs
-
-add-which : tie.Need-add-which Inv-loop μ-loop
-add-which c = search needs
-
-loop-less : tie.Need-loop-less Inv-loop μ-loop
-loop-less c = search needs
-
-loop-again : tie.Need-loop-again Inv-loop μ-loop
-loop-again c = search needs
-
-returns : tie.Need-returns Inv-loop μ-loop
-returns c = search needs
-
 pub of-all-shades-spec : {M : Type 1} → statement M
 of-all-shades-spec =
     tie.close
-    (tie.spec Inv-loop μ-loop loop-holds of-shade-requires add-which loop-less loop-again returns)
+    (tie.spec Inv-loop μ-loop (λ c. search needs) (λ c κs. search needs) (λ c. search needs) (λ c. search needs) (λ c. search needs) (λ c. search needs))

@@ -12,37 +12,16 @@ Inv-loop table first most₀ x₀ most x = (x ≤ length table) × (most < 42949
 abbrev μ-loop : tie.MeasureT-loop
 μ-loop table first most₀ x₀ most x = length table - x
 
-loop-holds : tie.Need-loop-holds Inv-loop μ-loop
-loop-holds c = search needs
-
-rise-requires : tie.Need-rise-requires Inv-loop μ-loop
-rise-requires c κs = search needs
-
-larger-requires : tie.Need-larger-requires Inv-loop μ-loop
-larger-requires c κs = search needs
-
-add-x : tie.Need-add-x Inv-loop μ-loop
-add-x c = search needs
-
-loop-less : tie.Need-loop-less Inv-loop μ-loop
-loop-less c = search needs
-
-loop-again : tie.Need-loop-again Inv-loop μ-loop
-loop-again c = search needs
-
-returns : tie.Need-returns Inv-loop μ-loop
-returns c = search needs
-
 pub largest-spec : {M : Type 1} → statement M
 largest-spec =
     tie.close
     (tie.spec
     Inv-loop
     μ-loop
-    loop-holds
-    rise-requires
-    larger-requires
-    add-x
-    loop-less
-    loop-again
-    returns)
+    (λ c. search needs)
+    (λ c κs. search needs)
+    (λ c κs. search needs)
+    (λ c. search needs)
+    (λ c. search needs)
+    (λ c. search needs)
+    (λ c. search needs))

@@ -7,12 +7,6 @@ use native.Mathlib.Omega.{arith}
 use Rattle.picture.proofs.sheet.cells.Statement.{statement}
 use Rattle.picture.proofs.sheet.cells.Tie as tie
 
-returns : tie.Need-returns
-returns c = search needs
-
-returns-2 : tie.Need-returns-2
-returns-2 c = search needs
-
 mul-result : tie.Need-mul-result
 mul-result c = record { fits = lt-of-le-of-lt (mul-le-mul {n₂ = 64} {m₂ = 64} (omega arith) (omega arith)) (lit< tt) }
 
@@ -20,4 +14,4 @@ returns-3 : tie.Need-returns-3
 returns-3 c = mul-le-mul {n₂ = 64} {m₂ = 64} (omega arith) (omega arith)
 
 pub cells-spec : {M : Type 1} → statement M
-cells-spec = tie.close (tie.spec returns returns-2 mul-result returns-3)
+cells-spec = tie.close (tie.spec (λ c. search needs) (λ c. search needs) mul-result returns-3)

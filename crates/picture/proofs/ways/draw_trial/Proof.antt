@@ -13,41 +13,17 @@ Inv-loop job floor start decisions table₀ path₀ legs₀ page₀ at under₀ 
 abbrev μ-loop : tie.MeasureT-loop
 μ-loop job floor start decisions table₀ path₀ legs₀ page₀ at under₀ made₀ table path legs page under made = decisions - made
 
-loop-holds : tie.Need-loop-holds Inv-loop μ-loop
-loop-holds c = search needs
-
-go-on-requires : tie.Need-go-on-requires Inv-loop μ-loop
-go-on-requires c κs = search needs
-
-add-made : tie.Need-add-made Inv-loop μ-loop
-add-made c = search needs
-
-loop-less : tie.Need-loop-less Inv-loop μ-loop
-loop-less c = search needs
-
-loop-again : tie.Need-loop-again Inv-loop μ-loop
-loop-again c = search needs
-
-same-length : tie.Need-same-length Inv-loop μ-loop
-same-length c = search needs
-
-same-length-2 : tie.Need-same-length-2 Inv-loop μ-loop
-same-length-2 c = search needs
-
-returns : tie.Need-returns Inv-loop μ-loop
-returns c = search needs
-
 pub draw-trial-spec : {M : Type 1} → statement M
 draw-trial-spec =
     tie.close
     (tie.spec
     Inv-loop
     μ-loop
-    loop-holds
-    go-on-requires
-    add-made
-    loop-less
-    loop-again
-    same-length
-    same-length-2
-    returns)
+    (λ c. search needs)
+    (λ c κs. search needs)
+    (λ c. search needs)
+    (λ c. search needs)
+    (λ c. search needs)
+    (λ c. search needs)
+    (λ c. search needs)
+    (λ c. search needs))
