@@ -6,17 +6,11 @@ use borrow.Author.Needs.{needs}
 use Rattle.checks.proofs.bench.Statement.{statement}
 use Rattle.checks.proofs.bench.Tie as tie
 
-is-free-requires : tie.Need-is-free-requires
-is-free-requires c κs = search needs
-
 returns : tie.Need-returns
 returns c = sym (bench-judges _ _ .done (sym (c .before .is-free .ensures) ∙ c .if1 .taken))
-
-refuse-requires : tie.Need-refuse-requires
-refuse-requires c κs = search needs
 
 returns-2 : tie.Need-returns-2
 returns-2 c = c .refuse .ensures ∙ sym (bench-judges _ _ .refused (λ h. never h (sym (c .before .before .is-free .ensures) ∙ c .before .if1 .left)))
 
 pub bench-spec : {M : Type 1} → statement M
-bench-spec = tie.close (tie.spec is-free-requires returns refuse-requires returns-2)
+bench-spec = tie.close (tie.spec (λ c κs. search needs) returns (λ c κs. search needs) returns-2)

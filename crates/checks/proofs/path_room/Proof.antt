@@ -7,9 +7,6 @@ use borrow.Author.Needs.{needs}
 use Rattle.checks.proofs.path_room.Statement.{statement}
 use Rattle.checks.proofs.path_room.Tie as tie
 
-refuse-requires : tie.Need-refuse-requires
-refuse-requires c κs = search needs
-
 returns : tie.Need-returns
 returns c = λ f e. c .refuse .ensures ∙ sym (path-judges f _ .refused (λ h. omega arith))
 
@@ -17,4 +14,4 @@ returns-2 : tie.Need-returns-2
 returns-2 c = λ f e. sym (path-judges f _ .done (omega arith))
 
 pub path-room-spec : {M : Type 1} → statement M
-path-room-spec = tie.close (tie.spec refuse-requires returns returns-2)
+path-room-spec = tie.close (tie.spec (λ c κs. search needs) returns returns-2)

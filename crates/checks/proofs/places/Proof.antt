@@ -6,21 +6,12 @@ use borrow.Author.Needs.{needs}
 use Rattle.checks.proofs.places.Statement.{statement}
 use Rattle.checks.proofs.places.Tie as tie
 
-is-free-requires : tie.Need-is-free-requires
-is-free-requires c κs = search needs
-
-bench-requires : tie.Need-bench-requires
-bench-requires c κs = search needs
-
 returns : tie.Need-returns
 returns c = c .bench .ensures ∙ sym (places-next _ _ _ (sym (c .before .before .is-free .ensures) ∙ c .before .if1 .taken))
-
-refuse-requires : tie.Need-refuse-requires
-refuse-requires c κs = search needs
 
 returns-2 : tie.Need-returns-2
 returns-2 c = c .refuse .ensures ∙ sym (places-judges _ _ _ .refused (λ h. never (h .0) (sym (c .before .before .is-free .ensures) ∙ c .before .if1 .left)))
 
 pub places-spec : {M : Type 1} → statement M
 places-spec =
-    tie.close (tie.spec is-free-requires bench-requires returns refuse-requires returns-2)
+    tie.close (tie.spec (λ c κs. search needs) (λ c κs. search needs) returns (λ c κs. search needs) returns-2)

@@ -7,14 +7,8 @@ use borrow.Author.Needs.{needs}
 use Rattle.checks.proofs.scale.Statement.{statement}
 use Rattle.checks.proofs.scale.Tie as tie
 
-refuse-requires : tie.Need-refuse-requires
-refuse-requires c κs = search needs
-
 returns : tie.Need-returns
 returns c = c .refuse .ensures ∙ sym (scale-judges _ .refused (λ h. omega arith))
-
-refuse-requires-2 : tie.Need-refuse-requires-2
-refuse-requires-2 c κs = search needs
 
 returns-2 : tie.Need-returns-2
 returns-2 c = c .refuse2 .ensures ∙ sym (scale-judges _ .refused (λ h. omega arith))
@@ -23,4 +17,4 @@ returns-3 : tie.Need-returns-3
 returns-3 c = sym (scale-judges _ .done (omega arith))
 
 pub scale-spec : {M : Type 1} → statement M
-scale-spec = tie.close (tie.spec refuse-requires returns refuse-requires-2 returns-2 returns-3)
+scale-spec = tie.close (tie.spec (λ c κs. search needs) returns (λ c κs. search needs) returns-2 returns-3)

@@ -10,26 +10,14 @@ use borrow.Author.Needs.{needs}
 use Rattle.checks.proofs.sizes.Statement.{statement}
 use Rattle.checks.proofs.sizes.Tie as tie
 
-refuse-requires : tie.Need-refuse-requires
-refuse-requires c κs = search needs
-
 returns : tie.Need-returns
 returns c = c .refuse .ensures ∙ sym (sizes-judges _ _ .refused (λ h. omega arith))
-
-refuse-requires-2 : tie.Need-refuse-requires-2
-refuse-requires-2 c κs = search needs
 
 returns-2 : tie.Need-returns-2
 returns-2 c = c .refuse2 .ensures ∙ sym (sizes-judges _ _ .refused (λ h. omega arith))
 
-refuse-requires-3 : tie.Need-refuse-requires-3
-refuse-requires-3 c κs = search needs
-
 returns-3 : tie.Need-returns-3
 returns-3 c = c .refuse3 .ensures ∙ sym (sizes-judges _ _ .refused (λ h. omega arith))
-
-refuse-requires-4 : tie.Need-refuse-requires-4
-refuse-requires-4 c κs = search needs
 
 returns-4 : tie.Need-returns-4
 returns-4 c = c .refuse4 .ensures ∙ sym (sizes-judges _ _ .refused (λ h. omega arith))
@@ -37,17 +25,8 @@ returns-4 c = c .refuse4 .ensures ∙ sym (sizes-judges _ _ .refused (λ h. omeg
 mul-if5 : tie.Need-mul-if5
 mul-if5 c = record { fits = lt-of-le-of-lt (cells-le _ _ (omega arith) (omega arith)) (lit< tt) }
 
-refuse-requires-5 : tie.Need-refuse-requires-5
-refuse-requires-5 c κs = search needs
-
 returns-5 : tie.Need-returns-5
 returns-5 c = c .refuse5 .ensures ∙ sym (sizes-judges _ _ .refused (λ h. omega arith))
-
-mul-if6 : tie.Need-mul-if6
-mul-if6 c = search needs
-
-refuse-requires-6 : tie.Need-refuse-requires-6
-refuse-requires-6 c κs = search needs
 
 returns-6 : tie.Need-returns-6
 returns-6 c = c .refuse6 .ensures ∙ sym (sizes-judges _ _ .refused (λ h. omega arith))
@@ -59,18 +38,18 @@ pub sizes-spec : {M : Type 1} → statement M
 sizes-spec =
     tie.close
     (tie.spec
-    refuse-requires
+    (λ c κs. search needs)
     returns
-    refuse-requires-2
+    (λ c κs. search needs)
     returns-2
-    refuse-requires-3
+    (λ c κs. search needs)
     returns-3
-    refuse-requires-4
+    (λ c κs. search needs)
     returns-4
     mul-if5
-    refuse-requires-5
+    (λ c κs. search needs)
     returns-5
-    mul-if6
-    refuse-requires-6
+    (λ c. search needs)
+    (λ c κs. search needs)
     returns-6
     returns-7)

@@ -17,9 +17,6 @@ returns c =
     let a = c .before .args in
     sym (ap (λ t. t && eqb (getD (a .floor .now) (a .cell) 0) 0) (le-ltb (a .cell) _ (omega (arith, c .before .pre .cells))))
 
-shared-slice-read-result : tie.Need-shared-slice-read-result
-shared-slice-read-result c = search needs
-
 returns-2 : tie.Need-returns-2
 unfolding free
 returns-2 c =
@@ -27,4 +24,4 @@ returns-2 c =
     sym (ap (λ t. t && eqb (getD (a .floor .now) (a .cell) 0) 0) (lt-ltb (a .cell) _ (omega (arith, c .before .before .pre .cells))))
 
 pub is-free-spec : {M : Type 1} → statement M
-is-free-spec = tie.close (tie.spec returns shared-slice-read-result returns-2)
+is-free-spec = tie.close (tie.spec returns (λ c. search needs) returns-2)

@@ -15,14 +15,8 @@ returns c = λ e. absurd (true≢false (sym e))
 returns-2 : tie.Need-returns-2
 returns-2 c = λ e. absurd (true≢false (sym e))
 
-add-if3 : tie.Need-add-if3
-add-if3 c = search needs
-
 returns-3 : tie.Need-returns-3
 returns-3 c = λ e. absurd (true≢false (sym e))
-
-add-result : tie.Need-add-result
-add-result c = search needs
 
 returns-4 : tie.Need-returns-4
 returns-4 c e =
@@ -34,4 +28,4 @@ returns-4 c e =
     }
 
 pub is-inner-spec : {M : Type 1} → statement M
-is-inner-spec = tie.close (tie.spec returns returns-2 add-if3 returns-3 add-result returns-4)
+is-inner-spec = tie.close (tie.spec returns returns-2 (λ c. search needs) returns-3 (λ c. search needs) returns-4)

@@ -25,14 +25,8 @@ returns c =
       off = λ e. absurd (true≢false (sym e));
     }
 
-east-requires : tie.Need-east-requires
-east-requires c κs = search needs
-
 add-x : tie.Need-add-x
 add-x c = let a = c .before .before .before in omega (arith, a .pre .1 .0, east-le (a .args .m) (a .pre .1 .2), c .before .east .ensures)
-
-south-requires : tie.Need-south-requires
-south-requires c κs = search needs
 
 add-y : tie.Need-add-y
 add-y c = let a = c .before .before .before .before .before in omega (arith, a .pre .1 .1, south-le (a .args .m) (a .pre .1 .2), c .before .south .ensures)
@@ -67,9 +61,9 @@ leads-off-spec =
     tie.close
     (tie.spec
     returns
-    east-requires
+    (λ c κs. search needs)
     add-x
-    south-requires
+    (λ c κs. search needs)
     add-y
     returns-2
     returns-3

@@ -40,32 +40,8 @@ gap3-lt c =
     rw (c .gap3 .ensures)
     (gap-lt 64 (c .before .before .before .gap .result) (c .before .before .gap2 .result) (dx-lt (c .before .before)) (dy-lt (c .before .before)))
 
-rem-gap : tie.Need-rem-gap
-rem-gap c = search needs
-
-rem-gap-2 : tie.Need-rem-gap-2
-rem-gap-2 c = search needs
-
-gap-requires : tie.Need-gap-requires
-gap-requires c κs = search needs
-
-div-gap : tie.Need-div-gap
-div-gap c = search needs
-
-div-gap-2 : tie.Need-div-gap-2
-div-gap-2 c = search needs
-
-gap-requires-2 : tie.Need-gap-requires-2
-gap-requires-2 c κs = search needs
-
-smaller-requires : tie.Need-smaller-requires
-smaller-requires c κs = search needs
-
 mul-result : tie.Need-mul-result
 mul-result c = omega (arith, smaller-lt c)
-
-gap-requires-3 : tie.Need-gap-requires-3
-gap-requires-3 c κs = search needs
 
 mul-result-2 : tie.Need-mul-result-2
 mul-result-2 c = omega (arith, gap3-lt c)
@@ -87,15 +63,15 @@ pub opening-spec : {M : Type 1} → statement M
 opening-spec =
     tie.close
     (tie.spec
-    rem-gap
-    rem-gap-2
-    gap-requires
-    div-gap
-    div-gap-2
-    gap-requires-2
-    smaller-requires
+    (λ c. search needs)
+    (λ c. search needs)
+    (λ c κs. search needs)
+    (λ c. search needs)
+    (λ c. search needs)
+    (λ c κs. search needs)
+    (λ c κs. search needs)
     mul-result
-    gap-requires-3
+    (λ c κs. search needs)
     mul-result-2
     add-result
     mul-result-3

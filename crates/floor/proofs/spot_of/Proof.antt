@@ -6,17 +6,8 @@ use borrow.Author.Needs.{needs}
 use Rattle.floor.proofs.spot_of.Statement.{statement}
 use Rattle.floor.proofs.spot_of.Tie as tie
 
-rem-col : tie.Need-rem-col
-rem-col c = search needs
-
-div-row : tie.Need-div-row
-div-row c = search needs
-
 is-inner-requires : tie.Need-is-inner-requires
 is-inner-requires c κs = let a = c .args in (omega (arith, mod-le (a .cell) (a .width), c .pre .1), omega (arith, div-le-self (a .cell) (a .width), c .pre .1))
 
-returns : tie.Need-returns
-returns c = search needs
-
 pub spot-of-spec : {M : Type 1} → statement M
-spot-of-spec = tie.close (tie.spec rem-col div-row is-inner-requires returns)
+spot-of-spec = tie.close (tie.spec (λ c. search needs) (λ c. search needs) is-inner-requires (λ c. search needs))
