@@ -140,7 +140,9 @@ either false x y h k = k
 module _ (j : Job) (bytes : List ℕ) (s : State) (table path : List ℕ) where
   back-counted : (new : ℕ) → Counted (goBack j bytes s table path new)
   unfolding goBack stay backOut
-  back-counted new = either (eqb (s .length) 0) _ _ refl (either (eqb (ring j bytes (seen j bytes (getD path (s .length - 1) 0)) (s .current)) (seen j bytes (getD path (s .length - 1) 0) .last)) _ _ refl refl)
+  back-counted new =
+      either (eqb (s .length) 0) _ _ refl
+      (either (eqb (ring j bytes (seen j bytes (getD path (s .length - 1) 0)) (s .current)) (seen j bytes (getD path (s .length - 1) 0) .last)) _ _ refl refl)
 
   learn-counted : (v : View) (new t : ℕ) → Counted (learn j bytes s v table path new t)
   unfolding learn forward

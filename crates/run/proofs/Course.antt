@@ -191,7 +191,8 @@ module _ (j : Job) (bytes : List ℕ) (start : ℕ) where
   module _ (o : RunOutcome) (made limit : ℕ) (table path : List ℕ) (reports : List Report) where
     -- one trial more, of a run that is opened
     turned : Running o Vd.Done made limit table path reports → made < limit
-        → Running o Vd.Done (made + 1) (limitAfter limit (report j bytes (this 0 made table path reports))) (this 0 made table path reports .table) (this 0 made table path reports .path) (filed 0 made table path reports)
+        → Running o Vd.Done (made + 1) (limitAfter limit (report j bytes (this 0 made table path reports)))
+        (this 0 made table path reports .table) (this 0 made table path reports .path) (filed 0 made table path reports)
     turned s h = by (eqb (ride j bytes start table path .learned) 0) refl
       where
         k : ℕ

@@ -34,7 +34,8 @@ use Rattle.model.proofs.Demand.{trial-is-made}
 use Rattle.model.proofs.Openings as openings
 use Rattle.model.proofs.Meaning.{goal-means, goal-is}
 use Rattle.model.proofs.Steps.{asState, short, size-high}
-use Rattle.model.proofs.Rides.{Riding, yet, rest, riding-begun, riding-next, does, falls, keeps, judges, room, rest-begun, rest-next, ride-there, kept-low, counts-fit, mostLearned, mostDecisions, dearestKept}
+use Rattle.model.proofs.Rides.{Riding, yet, rest, riding-begun, riding-next, does, falls, keeps, judges, room, rest-begun, rest-next, ride-there}
+use Rattle.model.proofs.Rides.{kept-low, counts-fit, mostLearned, mostDecisions, dearestKept}
 use Rattle.decision.specs.Ready.{Ready, Places}
 use Rattle.decision.proofs.Judging.{ready}
 use Rattle.lookahead.specs.Contract.{Fresh}

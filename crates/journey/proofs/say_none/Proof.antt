@@ -9,14 +9,8 @@ use Rattle.journey.proofs.say_none.Tie as tie
 returns : tie.Need-returns
 returns c = (rw (c .if1 .taken) (printed-none _ _), omega arith)
 
-byte-requires : tie.Need-byte-requires
-byte-requires c κs = search needs
-
-same-length : tie.Need-same-length
-same-length c = search needs
-
 returns-2 : tie.Need-returns-2
 returns-2 c = (rw (c .before .before .before .before .if1 .left) (c .before .before .byte .ensures), omega (arith, c .before .before .byte .ensures .next))
 
 pub say-none-spec : {M : Type 1} → statement M
-say-none-spec = tie.close (tie.spec returns byte-requires same-length returns-2)
+say-none-spec = tie.close (tie.spec returns (λ c κs. search needs) (λ c. search needs) returns-2)

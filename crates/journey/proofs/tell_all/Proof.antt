@@ -23,19 +23,42 @@ loop-holds c = let a = c .before .before .before .before .pre in (none-yet _ _ _
 tell-requires : tie.Need-tell-requires Inv-loop μ-loop
 tell-requires c κs = may-tell _ _ _ _ _ _ _ _ _ _ _ _ _ (c .before .before .before .before .loop .inv .0) (c .before .before .before .loop-test .taken)
 
-limit-after-requires : tie.Need-limit-after-requires Inv-loop μ-loop
-limit-after-requires c κs = search needs
+-- from a place to one before it
+abbrev to-in-loop : tie.After-tell Inv-loop μ-loop → tie.In-loop Inv-loop μ-loop
+to-in-loop c = c .before .before .before .before
 
 add-made : tie.Need-add-made Inv-loop μ-loop
-add-made c = omega (arith, c .before .before .before .before .before .before .before .before .before .before .before .before .before .loop .inv .0 .within)
+add-made c =
+    let after-path = c .before .before .before .before .before in
+    let at-loop = (to-in-loop (after-path .before .before .before)) .before in
+    omega (arith, at-loop .loop .inv .0 .within)
 
 loop-less : tie.Need-loop-less Inv-loop μ-loop
-loop-less c = omega (arith, c .limit-after .ensures, fewer (c .before .before .before .before .before .before .before .before .before .before .before .before .before .before .before .before .before .before .args .job) (c .before .before .before .before .before .before .before .before .before .before .before .before .before .before .before .before .before .before .args .floor .now) (c .before .before .before .before .before .before .before .before .before .before .before .before .before .before .before .before .before .before .args .start) (c .before .before .before .before .before .before .before .before .before .before .before .before .before .loop .made) (c .before .before .before .before .before .before .before .before .before .before .before .before .before .loop .limit) (c .before .before .before .before .before .before .before .before .tell .result .report) (c .before .before .before .before .before .before .before .before .before .before .before .before .loop-test .taken))
+loop-less c =
+    let after-path = c .before .before .before .before .before in
+    let after-tell = after-path .before .before .before in
+    let in-loop = after-tell .before .before .before .before in
+    let at-loop = in-loop .before in
+    let start = at-loop .before .before .before .before .before in
+    omega (
+      arith,
+      c .limit-after .ensures,
+      fewer (start .args .job) (start .args .floor .now) (start .args .start) (at-loop .loop .made) (at-loop .loop .limit) (after-tell .tell .result .report) (in-loop .loop-test .taken),
+    )
 
 loop-again : tie.Need-loop-again Inv-loop μ-loop
 loop-again c =
-    let i = c .before .before .before .before .before .before .before .before .before .before .before .before .before .loop .inv in
-    (rw (c .limit-after .ensures) (one-told _ _ _ _ _ _ _ _ _ _ _ _ _ (i .0) (c .before .before .before .before .before .before .before .before .before .before .before .before .loop-test .taken) _ _ _ _ (c .before .before .before .before .before .before .before .before .tell .ensures)), c .before .before .before .before .before .before .before .table .given ∙ i .1, c .before .before .before .before .before .path .given ∙ i .2, c .before .before .before .out .given ∙ i .3)
+    let after-path = c .before .before .before .before .before in
+    let after-table = after-path .before .before in
+    let after-tell = after-table .before in
+    let in-loop = after-tell .before .before .before .before in
+    let at-loop = in-loop .before in
+    let i = at-loop .loop .inv in (
+      rw (c .limit-after .ensures) (one-told _ _ _ _ _ _ _ _ _ _ _ _ _ (i .0) (in-loop .loop-test .taken) _ _ _ _ (after-tell .tell .ensures)),
+      after-table .table .given ∙ i .1,
+      c .before .before .before .before .before .path .given ∙ i .2,
+      c .before .before .before .out .given ∙ i .3,
+    )
 
 last-line-requires : tie.Need-last-line-requires Inv-loop μ-loop
 last-line-requires c κs = omega (arith, c .before .before .loop .inv .0 .told .room .size, c .before .before .loop .inv .0 .told .room .left)
@@ -60,7 +83,7 @@ tell-all-spec =
     μ-loop
     loop-holds
     tell-requires
-    limit-after-requires
+    (λ c κs. search needs)
     add-made
     loop-less
     loop-again

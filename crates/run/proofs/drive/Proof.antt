@@ -48,7 +48,8 @@ loop-again : tie.Need-loop-again Inv-loop μ-loop
 loop-again c =
     let o = went c in
     let t = turn (o .before) in
-    goes-on _ _ _ _ _ (opened (t .before) .pre .0) (t .before .before .loop .inv) (not-so (t .before .arrived .ensures) (t .if1 .taken)) (o .onward .ensures .0) (o .onward .ensures .1) (moves-after c .moves .given)
+    goes-on _ _ _ _ _ (opened (t .before) .pre .0) (t .before .before .loop .inv) (not-so (t .before .arrived .ensures) (t .if1 .taken)) (o .onward .ensures .0)
+    (o .onward .ensures .1) (moves-after c .moves .given)
 
 tally-requires : tie.Need-tally-requires Inv-loop μ-loop
 tally-requires c κs = let e = c .before .before in may-tally _ _ _ _ _ (opened e .pre .0) (e .before .loop .inv)

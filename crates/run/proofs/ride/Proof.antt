@@ -24,7 +24,9 @@ slice-aggregate-drive-6 : tie.Need-slice-aggregate-drive-6
 slice-aggregate-drive-6 c = search needs
 
 drive-requires : tie.Need-drive-requires
-drive-requires c κs = (c .before .before .before .before .before .before .before .before .before .before .before .pre, scratched)
+drive-requires c κs =
+    let lists = c .before .before .before .before .before .before in
+    (lists .before .before .before .before .before .pre, scratched)
 
 same-length : tie.Need-same-length
 same-length c = search needs

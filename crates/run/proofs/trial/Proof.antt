@@ -31,7 +31,10 @@ same-length-3 : tie.Need-same-length-3
 same-length-3 c = search needs
 
 returns-2 : tie.Need-returns-2
-returns-2 c = trial-made _ _ _ _ _ _ _ _ _ (c .before .before .before .before .before .before .before .before .before .open-trial .ensures _ refl) (c .before .before .before .before .before .before .before .enum-told .given .1) (c .before .before .before .before .ride .ensures)
+returns-2 c =
+    let rode = c .before .before .before .before in
+    let done = rode .before .before .before in
+    trial-made _ _ _ _ _ _ _ _ _ (done .before .before .open-trial .ensures _ refl) (done .enum-told .given .1) (rode .ride .ensures)
 
 pub trial-spec : {M : Type 1} → statement M
 trial-spec =

@@ -22,7 +22,10 @@ same-length-3 : tie.Need-same-length-3
 same-length-3 c = search needs
 
 returns : tie.Need-returns
-returns c = counted _ _ _ _ _ _ _ _ _ (c .before .before .before .before .before .before .before .before .before .run-filed .ensures) refl (c .before .before .put-all .ensures)
+returns c =
+    let put = c .before .before in
+    let filed = put .before .before .before .before .before .before in
+    counted _ _ _ _ _ _ _ _ _ (filed .before .run-filed .ensures) refl (put .put-all .ensures)
 
 pub run-counts-spec : {M : Type 1} → statement M
 run-counts-spec =
