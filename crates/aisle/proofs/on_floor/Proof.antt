@@ -9,41 +9,43 @@ use borrow.Author.Needs.{needs}
 use Rattle.aisle.proofs.on_floor.Statement.{statement}
 use Rattle.aisle.proofs.on_floor.Tie as tie
 
-mul-n : tie.Need-mul-n
-mul-n c = search needs
-
 array-borrow-prefix-table : tie.Need-array-borrow-prefix-table
 array-borrow-prefix-table c = omega (arith, sized-cells (c .before .before .pre .0 .sized))
 
 slice-aggregate-opened : tie.Need-slice-aggregate-opened
-slice-aggregate-opened c = sym (long-part (c .before .before .before .args .width * c .before .before .before .args .height) (sized-cells (c .before .before .before .pre .0 .sized)))
+slice-aggregate-opened c =
+    let start = c .before .before .before in
+    sym (long-part (start .args .width * start .args .height) (sized-cells (start .pre .0 .sized)))
 
 array-borrow-prefix-path : tie.Need-array-borrow-prefix-path
 array-borrow-prefix-path c = omega (arith, sized-cells (c .before .before .before .pre .0 .sized))
 
 slice-aggregate-opened-2 : tie.Need-slice-aggregate-opened-2
-slice-aggregate-opened-2 c = sym (long-part (c .before .before .before .before .args .width * c .before .before .before .before .args .height) (sized-cells (c .before .before .before .before .pre .0 .sized)))
+slice-aggregate-opened-2 c =
+    let start = c .before .before .before .before in
+    sym (long-part (start .args .width * start .args .height) (sized-cells (start .pre .0 .sized)))
 
 opened-requires : tie.Need-opened-requires
-opened-requires c κs = let n = c .before .before .before .before .before .args .width * c .before .before .before .before .before .args .height in
-    let long = long-part n (sized-cells (c .before .before .before .before .before .pre .0 .sized)) in
-    (c .before .before .before .before .before .pre .0, record { figures = long; places = long; room = c .before .before .before .before .before .pre .1 })
-
-same-length : tie.Need-same-length
-same-length c = search needs
+opened-requires c κs =
+    let start = c .before .before .before .before .before in
+    let long = long-part (start .args .width * start .args .height) (sized-cells (start .pre .0 .sized)) in
+    (start .pre .0, record { figures = long; places = long; room = start .pre .1 })
 
 returns : tie.Need-returns
-returns c = part-told (c .before .before .before .before .before .before .before .before .before .before .args .s) (c .before .before .before .before .before .before .before .before .before .before .args .width) (c .before .before .before .before .before .before .before .before .before .before .args .height) (c .before .before .before .before .before .before .before .before .before .before .args .floor .now) (sized-cells (c .before .before .before .before .before .before .before .before .before .before .pre .0 .sized)) (c .before .before .before .before .opened .ensures)
+returns c =
+    let after-path = c .before .before .before .before .before .before in
+    let start = after-path .before .before .before .before in
+    part-told (start .args .s) (start .args .width) (start .args .height) (start .args .floor .now) (sized-cells (start .pre .0 .sized)) (c .before .before .before .before .opened .ensures)
 
 pub on-floor-spec : {M : Type 1} → statement M
 on-floor-spec =
     tie.close
     (tie.spec
-    mul-n
+    (λ c. search needs)
     array-borrow-prefix-table
     slice-aggregate-opened
     array-borrow-prefix-path
     slice-aggregate-opened-2
     opened-requires
-    same-length
+    (λ c. search needs)
     returns)

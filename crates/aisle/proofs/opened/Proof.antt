@@ -6,83 +6,59 @@ use borrow.Author.Needs.{needs}
 use Rattle.aisle.proofs.opened.Statement.{statement}
 use Rattle.aisle.proofs.opened.Tie as tie
 
-fill-opening-requires : tie.Need-fill-opening-requires
-fill-opening-requires c κs = search needs
-
-enum-known-r : tie.Need-enum-known-r
-enum-known-r c = search needs
-
-refusal-line-requires : tie.Need-refusal-line-requires
-refusal-line-requires c κs = search needs
-
-enum-told : tie.Need-enum-told
-enum-told c = search needs
-
-open-trial-requires : tie.Need-open-trial-requires
-open-trial-requires c κs = search needs
-
-enum-known-r-2 : tie.Need-enum-known-r-2
-enum-known-r-2 c = search needs
-
-refusal-line-requires-2 : tie.Need-refusal-line-requires-2
-refusal-line-requires-2 c κs = search needs
-
-enum-told-2 : tie.Need-enum-told-2
-enum-told-2 c = search needs
-
 tell-all-requires : tie.Need-tell-all-requires
-tell-all-requires c κs = (open-done (c .before .before .before .before .before .before .before .before .before .before .before .before .before .before .before .before .before .args .job) (c .before .before .before .before .before .before .before .before .before .before .before .before .before .before .before .before .before .args .floor .now) (c .before .before .before .before .before .before .before .before .before .before .before .before .before .before .before .before .before .args .start) (c .before .before .before .before .before .before .before .before .before .before .before .before .before .before .before .before .before .args .trials) (c .before .before .before .before .before .before .before .before .before .before .before .before .before .before .before .before .before .args .path .now) (c .before .before .before .before .before .before .before .before .before .before .before .before .before .before .before .before .before .pre .0) (c .before .before .before .before .before .before .before .before .before .before .before .fill-opening .ensures) (c .before .before .before .before .before .before .before .before .before .before .before .before .before .before .before .before .before .pre .1 .figures) (c .before .before .before .before .before .before .before .enum-told .given .1) (c .before .before .before .before .before .before .before .before .before .before .before .before .before .before .before .before .before .pre .1 .places) (c .before .before .before .before .before .open-trial .ensures _ refl) (c .before .before .before .enum-told2 .given .1), (c .before .before .before .before .before .before .before .before .before .before .before .before .before .before .before .before .before .pre .0 .some, c .before .before .before .before .before .before .before .before .before .before .before .before .before .before .before .before .before .pre .0 .few, c .before .before .before .before .before .before .before .before .before .before .before .before .before .before .before .before .before .pre .1 .room))
-
-same-length : tie.Need-same-length
-same-length c = search needs
-
-same-length-2 : tie.Need-same-length-2
-same-length-2 c = search needs
+tell-all-requires c κs =
+    let after-enum-told = c .before .before .before .before .before .before .before in
+    let after-fill-opening = after-enum-told .before .before .before .before in
+    let start = after-fill-opening .before .before .before .before .before .before in
+    (open-done (start .args .job) (start .args .floor .now) (start .args .start) (start .args .trials) (start .args .path .now) (start .pre .0) (after-fill-opening .fill-opening .ensures) (start .pre .1 .figures) (after-enum-told .enum-told .given .1) (start .pre .1 .places) (c .before .before .before .before .before .open-trial .ensures _ refl) (c .before .before .before .enum-told2 .given .1), (start .pre .0 .some, start .pre .0 .few, start .pre .1 .room))
 
 returns : tie.Need-returns
-returns c = fill-refused (c .before .before .before .before .before .before .before .before .before .before .before .before .before .before .before .args .job) (c .before .before .before .before .before .before .before .before .before .before .before .before .before .before .before .args .floor .now) (c .before .before .before .before .before .before .before .before .before .before .before .before .before .before .before .args .start) (c .before .before .before .before .before .before .before .before .before .before .before .before .before .before .before .args .trials) (c .before .before .before .before .before .before .before .before .before .before .before .before .before .before .before .args .path .now) (c .before .before .before .before .before .before .before .before .before .before .before .before .before .before .before .pre .0) (c .before .before .before .before .before .before .before .before .before .fill-opening .ensures) (c .before .before .before .before .before .before .before .before .before .before .before .before .before .before .before .pre .1 .figures) (c .before .before .before .before .before .r .given .1) (refused _ (c .before .before .refusal-line .ensures) (c .before .before .before .before .before .before .before .before .before .before .before .before .before .before .before .pre .1 .room))
-
-same-length-3 : tie.Need-same-length-3
-same-length-3 c = search needs
-
-same-length-4 : tie.Need-same-length-4
-same-length-4 c = search needs
+returns c =
+    let at-match-keys1 = c .before .before .before .before .before .before in
+    let after-fill-opening = at-match-keys1 .before .before .before in
+    let start = after-fill-opening .before .before .before .before .before .before in
+    fill-refused (start .args .job) (start .args .floor .now) (start .args .start) (start .args .trials) (start .args .path .now) (start .pre .0) (after-fill-opening .fill-opening .ensures) (start .pre .1 .figures) (c .before .before .before .before .before .r .given .1) (refused _ (c .before .before .refusal-line .ensures) (start .pre .1 .room))
 
 returns-2 : tie.Need-returns-2
-returns-2 c = open-refused (c .before .before .before .before .before .before .before .before .before .before .before .before .before .before .before .before .before .before .before .args .job) (c .before .before .before .before .before .before .before .before .before .before .before .before .before .before .before .before .before .before .before .args .floor .now) (c .before .before .before .before .before .before .before .before .before .before .before .before .before .before .before .before .before .before .before .args .start) (c .before .before .before .before .before .before .before .before .before .before .before .before .before .before .before .before .before .before .before .args .trials) (c .before .before .before .before .before .before .before .before .before .before .before .before .before .before .before .before .before .before .before .args .path .now) (c .before .before .before .before .before .before .before .before .before .before .before .before .before .before .before .before .before .before .before .pre .0) (c .before .before .before .before .before .before .before .before .before .before .before .before .before .fill-opening .ensures) (c .before .before .before .before .before .before .before .before .before .before .before .before .before .before .before .before .before .before .before .pre .1 .figures) (c .before .before .before .before .before .before .before .before .before .enum-told .given .1) (c .before .before .before .before .before .before .before .before .before .before .before .before .before .before .before .before .before .before .before .pre .1 .places) (c .before .before .before .before .before .before .before .open-trial .ensures _ refl) (c .before .before .before .before .before .r2 .given .1) (refused _ (c .before .before .refusal-line2 .ensures) (c .before .before .before .before .before .before .before .before .before .before .before .before .before .before .before .before .before .before .before .pre .1 .room))
-
-same-length-5 : tie.Need-same-length-5
-same-length-5 c = search needs
-
-same-length-6 : tie.Need-same-length-6
-same-length-6 c = search needs
-
-same-length-7 : tie.Need-same-length-7
-same-length-7 c = search needs
+returns-2 c =
+    let at-match2-keys1 = c .before .before .before .before .before .before in
+    let after-open-trial = at-match2-keys1 .before in
+    let after-enum-told = after-open-trial .before .before in
+    let after-fill-opening = after-enum-told .before .before .before .before in
+    let start = after-fill-opening .before .before .before .before .before .before in
+    open-refused (start .args .job) (start .args .floor .now) (start .args .start) (start .args .trials) (start .args .path .now) (start .pre .0) (after-fill-opening .fill-opening .ensures) (start .pre .1 .figures) (after-enum-told .enum-told .given .1) (start .pre .1 .places) (after-open-trial .open-trial .ensures _ refl) (c .before .before .before .before .before .r2 .given .1) (refused _ (c .before .before .refusal-line2 .ensures) (start .pre .1 .room))
 
 returns-3 : tie.Need-returns-3
-returns-3 c = open-told (c .before .before .before .before .before .before .before .before .before .before .before .before .before .before .before .before .before .before .before .before .before .before .before .before .args .job) (c .before .before .before .before .before .before .before .before .before .before .before .before .before .before .before .before .before .before .before .before .before .before .before .before .args .floor .now) (c .before .before .before .before .before .before .before .before .before .before .before .before .before .before .before .before .before .before .before .before .before .before .before .before .args .start) (c .before .before .before .before .before .before .before .before .before .before .before .before .before .before .before .before .before .before .before .before .before .before .before .before .args .trials) (c .before .before .before .before .before .before .before .before .before .before .before .before .before .before .before .before .before .before .before .before .before .before .before .before .args .path .now) (c .before .before .before .before .before .before .before .before .before .before .before .before .before .before .before .before .before .before .before .before .before .before .before .before .pre .0) (c .before .before .before .before .before .before .before .before .before .before .before .before .before .before .before .before .before .before .fill-opening .ensures) (c .before .before .before .before .before .before .before .before .before .before .before .before .before .before .before .before .before .before .before .before .before .before .before .before .pre .1 .figures) (c .before .before .before .before .before .before .before .before .before .before .before .before .before .before .enum-told .given .1) (c .before .before .before .before .before .before .before .before .before .before .before .before .before .before .before .before .before .before .before .before .before .before .before .before .pre .1 .places) (c .before .before .before .before .before .before .before .before .before .before .before .before .open-trial .ensures _ refl) (c .before .before .before .before .before .before .before .before .before .before .enum-told2 .given .1) (c .before .before .before .before .before .before .tell-all .ensures)
+returns-3 c =
+    let after-tell-all = c .before .before .before .before .before .before in
+    let after-enum-told2 = after-tell-all .before .before .before .before in
+    let after-open-trial = after-enum-told2 .before .before in
+    let after-enum-told = after-open-trial .before .before in
+    let after-fill-opening = after-enum-told .before .before .before .before in
+    let start = after-fill-opening .before .before .before .before .before .before in
+    open-told (start .args .job) (start .args .floor .now) (start .args .start) (start .args .trials) (start .args .path .now) (start .pre .0) (after-fill-opening .fill-opening .ensures) (start .pre .1 .figures) (after-enum-told .enum-told .given .1) (start .pre .1 .places) (after-open-trial .open-trial .ensures _ refl) (after-enum-told2 .enum-told2 .given .1) (c .before .before .before .before .before .before .tell-all .ensures)
 
 pub opened-spec : {M : Type 1} → statement M
 opened-spec =
     tie.close
     (tie.spec
-    fill-opening-requires
-    enum-known-r
-    refusal-line-requires
-    enum-told
-    open-trial-requires
-    enum-known-r-2
-    refusal-line-requires-2
-    enum-told-2
+    (λ c κs. search needs)
+    (λ c. search needs)
+    (λ c κs. search needs)
+    (λ c. search needs)
+    (λ c κs. search needs)
+    (λ c. search needs)
+    (λ c κs. search needs)
+    (λ c. search needs)
     tell-all-requires
-    same-length
-    same-length-2
+    (λ c. search needs)
+    (λ c. search needs)
     returns
-    same-length-3
-    same-length-4
+    (λ c. search needs)
+    (λ c. search needs)
     returns-2
-    same-length-5
-    same-length-6
-    same-length-7
+    (λ c. search needs)
+    (λ c. search needs)
+    (λ c. search needs)
     returns-3)

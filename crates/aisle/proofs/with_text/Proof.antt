@@ -9,59 +9,73 @@ use borrow.Author.Needs.{needs}
 use Rattle.aisle.proofs.with_text.Statement.{statement}
 use Rattle.aisle.proofs.with_text.Tie as tie
 
-slice-aggregate-read-floor : tie.Need-slice-aggregate-read-floor
-slice-aggregate-read-floor c = search needs
-
-read-floor-requires : tie.Need-read-floor-requires
-read-floor-requires c κs = search needs
-
-enum-known-r : tie.Need-enum-known-r
-enum-known-r c = search needs
-
-refusal-line-requires : tie.Need-refusal-line-requires
-refusal-line-requires c κs = search needs
-
-enum-known-width : tie.Need-enum-known-width
-enum-known-width c = search needs
+-- from a place to one before it
+abbrev to-start : tie.After-read-floor → tie.Start
+to-start c = c .before .before .before .before
 
 mul-n : tie.Need-mul-n
-mul-n c = let r = read-done (c .before .before .before .before .before .before .before .before .args .text .now) (replicate 4096 0) _ _ (length-replicate {A = ℕ} 4096 0) (c .before .before .before .before .read-floor .ensures) _ _ (c .before .width .given .1) in omega (arith, r .few)
+mul-n c =
+    let w = c .before in
+    let f = w .before .before .before in
+    let s = to-start f in
+    let r = read-done (s .args .text .now) (replicate 4096 0) _ _ (length-replicate {A = ℕ} 4096 0) (f .read-floor .ensures) _ _ (w .width .given .1) in
+    omega (arith, r .few)
 
 array-share-prefix-floor : tie.Need-array-share-prefix-floor
-array-share-prefix-floor c = let r = read-done (c .before .before .before .before .before .before .before .before .args .text .now) (replicate 4096 0) _ _ (length-replicate {A = ℕ} 4096 0) (c .before .before .before .before .read-floor .ensures) _ _ (c .before .width .given .1) in omega (arith, r .few)
+array-share-prefix-floor c =
+    let w = c .before in
+    let f = w .before .before .before in
+    let s = to-start f in
+    let r = read-done (s .args .text .now) (replicate 4096 0) _ _ (length-replicate {A = ℕ} 4096 0) (f .read-floor .ensures) _ _ (w .width .given .1) in
+    omega (arith, r .few)
 
 slice-aggregate-on-floor : tie.Need-slice-aggregate-on-floor
-slice-aggregate-on-floor c = let r = read-done (c .before .before .before .before .before .before .before .before .before .args .text .now) (replicate 4096 0) _ _ (length-replicate {A = ℕ} 4096 0) (c .before .before .before .before .before .read-floor .ensures) _ _ (c .before .before .width .given .1) in sym (r .long)
+slice-aggregate-on-floor c =
+    let w = c .before .before in
+    let f = w .before .before .before in
+    let s = to-start f in
+    let r = read-done (s .args .text .now) (replicate 4096 0) _ _ (length-replicate {A = ℕ} 4096 0) (f .read-floor .ensures) _ _ (w .width .given .1) in
+    sym (r .long)
 
 on-floor-requires : tie.Need-on-floor-requires
-on-floor-requires c κs = let r = read-done (c .before .before .before .before .before .before .before .before .before .before .args .text .now) (replicate 4096 0) _ _ (length-replicate {A = ℕ} 4096 0) (c .before .before .before .before .before .before .read-floor .ensures) _ _ (c .before .before .before .width .given .1) in (readied (c .before .before .before .before .before .before .before .before .before .before .args .s) (c .before .before .before .before .before .before .before .before .before .before .args .text .now) (c .before .before .before .before .before .before .before .before .before .before .pre .0) _ _ _ r, c .before .before .before .before .before .before .before .before .before .before .pre .1)
-
-same-length : tie.Need-same-length
-same-length c = search needs
+on-floor-requires c κs =
+    let w = c .before .before .before in
+    let f = w .before .before .before in
+    let s = to-start f in
+    let r = read-done (s .args .text .now) (replicate 4096 0) _ _ (length-replicate {A = ℕ} 4096 0) (f .read-floor .ensures) _ _ (w .width .given .1) in
+    (readied (s .args .s) (s .args .text .now) (s .pre .0) _ _ _ r, s .pre .1)
 
 returns : tie.Need-returns
-returns c = text-told (c .before .before .before .before .before .before .before .before .before .before .before .before .args .s) (c .before .before .before .before .before .before .before .before .before .before .before .before .args .text .now) (c .before .before .before .before .before .before .before .before .before .before .before .before .pre .0) _ (read-refused _ (replicate 4096 0) _ _ (length-replicate {A = ℕ} 4096 0) (c .before .before .before .before .before .before .before .before .read-floor .ensures) _ (c .before .before .before .before .before .r .given .1)) (refused _ (c .before .before .refusal-line .ensures) (c .before .before .before .before .before .before .before .before .before .before .before .before .pre .1))
-
-same-length-2 : tie.Need-same-length-2
-same-length-2 c = search needs
+returns c =
+    let met = c .before .before .before .before .before in
+    let f = met .before .before .before in
+    let s = to-start f in
+    text-told (s .args .s) (s .args .text .now) (s .pre .0) _
+    (read-refused _ (replicate 4096 0) _ _ (length-replicate {A = ℕ} 4096 0) (f .read-floor .ensures) _ (met .r .given .1))
+    (refused _ (c .before .before .refusal-line .ensures) (s .pre .1))
 
 returns-2 : tie.Need-returns-2
-returns-2 c = let r = read-done (c .before .before .before .before .before .before .before .before .before .before .before .before .before .args .text .now) (replicate 4096 0) _ _ (length-replicate {A = ℕ} 4096 0) (c .before .before .before .before .before .before .before .before .before .read-floor .ensures) _ _ (c .before .before .before .before .before .before .width .given .1) in floor-told (c .before .before .before .before .before .before .before .before .before .before .before .before .before .args .s) (c .before .before .before .before .before .before .before .before .before .before .before .before .before .args .text .now) (c .before .before .before .before .before .before .before .before .before .before .before .before .before .pre .0) _ _ _ r (c .before .before .on-floor .ensures)
+returns-2 c =
+    let w = c .before .before .before .before .before .before in
+    let f = w .before .before .before in
+    let s = to-start f in
+    let r = read-done (s .args .text .now) (replicate 4096 0) _ _ (length-replicate {A = ℕ} 4096 0) (f .read-floor .ensures) _ _ (w .width .given .1) in
+    floor-told (s .args .s) (s .args .text .now) (s .pre .0) _ _ _ r (c .before .before .on-floor .ensures)
 
 pub with-text-spec : {M : Type 1} → statement M
 with-text-spec =
     tie.close
     (tie.spec
-    slice-aggregate-read-floor
-    read-floor-requires
-    enum-known-r
-    refusal-line-requires
-    enum-known-width
+    (λ c. search needs)
+    (λ c κs. search needs)
+    (λ c. search needs)
+    (λ c κs. search needs)
+    (λ c. search needs)
     mul-n
     array-share-prefix-floor
     slice-aggregate-on-floor
     on-floor-requires
-    same-length
+    (λ c. search needs)
     returns
-    same-length-2
+    (λ c. search needs)
     returns-2)
