@@ -19,13 +19,16 @@ to-start c = c .before .before .before
 returns : tie.Need-returns
 returns c =
     let start = to-start (c .before .before .before .before .before .before) in
-    malformed _ (line-none (c .before .before .before .before .before .before .read-line .ensures) (c .before .before .before .before .enum-told .given .1)) (refused _ (c .before .before .refusal-line .ensures) (start .pre))
+    malformed _
+    (line-none (c .before .before .before .before .before .before .read-line .ensures) (c .before .before .before .before .enum-told .given .1))
+    (refused _ (c .before .before .refusal-line .ensures) (start .pre))
 
 returns-2 : tie.Need-returns-2
 returns-2 c =
     let after-settings = c .before .before .before .before .before .before in
     let after-read-line = after-settings .before .before in
-    asked-told _ _ _ (line-some (after-read-line .read-line .ensures) (after-settings .settings .given .1)) (line-rest (after-read-line .read-line .ensures) (after-settings .settings .given .1)) (c .before .before .asked .ensures)
+    asked-told _ _ _ (line-some (after-read-line .read-line .ensures) (after-settings .settings .given .1))
+    (line-rest (after-read-line .read-line .ensures) (after-settings .settings .given .1)) (c .before .before .asked .ensures)
 
 pub answer-spec : {M : Type 1} → statement M
 answer-spec =

@@ -14,7 +14,9 @@ returns c =
     let at-match-keys1 = c .before .before .before .before .before .before in
     let after-settings-hold = at-match-keys1 .before in
     let start = after-settings-hold .before .before .before in
-    line-told (start .args .s) (start .args .text .now) _ (sym (after-settings-hold .settings-hold .ensures) ∙ c .before .before .before .before .before .r .given .1) (refused _ (c .before .before .refusal-line .ensures) (start .pre))
+    line-told (start .args .s) (start .args .text .now) _
+    (sym (after-settings-hold .settings-hold .ensures) ∙ c .before .before .before .before .before .r .given .1)
+    (refused _ (c .before .before .refusal-line .ensures) (start .pre))
 
 pub asked-spec : {M : Type 1} → statement M
 asked-spec =
