@@ -25,7 +25,8 @@ use Rattle.model.specs.Checks.{floorOf, goals, sizes, settings, scale, benches,
 use Rattle.model.specs.Opening.{accepts, openJob, openTrial, openTable, filled, trialsHold}
 use Rattle.model.specs.FloorText.{LF, typeAndHeight, andWidth, andMap, begins, widthIn, heightIn, afterHeight, afterWidth, rowsIn, header, cellsOf, floorVerdict, floorFrom, readFloor}
 use Rattle.model.specs.Line.{field, placeField, refusalLine, jobIn, readLine, afterLine, judgeAisle, printed, aisle}
-use Rattle.model.proofs.Accepted.{not-refused, then-next, then-refused, then-done, le-tells, is-tells, and-tells, unless-judges, sizes-judges, path-judges, settings-judges, trials-judges, scale-judges, bench-judges, places-judges}
+use Rattle.model.proofs.Accepted.{not-refused, then-next, then-refused, then-done, le-tells, is-tells, and-tells, unless-judges, sizes-judges, path-judges, settings-judges, trials-judges}
+use Rattle.model.proofs.Accepted.{scale-judges, bench-judges, places-judges}
 use Rattle.model.proofs.Parts.{rest}
 use Rattle.model.proofs.Cut.{size-most, malformed-is, asked-is, aisle-cut}
 use Rattle.floor_text.specs.Reads.{Reads}
@@ -128,7 +129,8 @@ module _ (j : Job) (bytes : List ℕ) (start trials : ℕ) (path : List ℕ) (R 
 
       pub open-told : {out out′ : List ℕ} {at : ℕ} → w ≡ Vd.Done → Ended out 0 (toldOf Vd.Done j bytes start trials after path) out′ at → Ended out 0 (openedLines j bytes start trials path) out′ at
       open-told e h =
-          told-as (ap (λ t. toldOf Vd.Done j bytes start trials t path) (fill-is done) ∙ ap (λ u. toldOf u j bytes start trials (openingTable (floorOf j bytes) (j .q) (goals j)) path) (sym (judged ∙ e))) h
+          told-as (ap (λ t. toldOf Vd.Done j bytes start trials t path) (fill-is done) ∙ ap (λ u. toldOf u j bytes start trials (openingTable (floorOf j bytes) (j .q) (goals j)) path)
+          (sym (judged ∙ e))) h
 
 -- ---- the settings
 
@@ -195,7 +197,8 @@ module _ (text buffer after : List ℕ) (r : FloorRead) (room : length buffer �
           let eq-h : k ≡ heightIn text = cc in
           let a = then-done _ _ z in
           let b = then-done _ _ (a .1) in
-          let t = unless-judges _ 11 (and-tells (and-tells (and-tells (and-tells (is-tells (begins typeAndHeight text)) (le-tells 1 (heightIn text))) (is-tells (begins andWidth (afterHeight text)))) (le-tells 1 (widthIn text))) (is-tells (begins andMap (afterWidth text)))) .gives (a .0) in
+          let t = unless-judges _ 11 (and-tells (and-tells (and-tells (and-tells (is-tells (begins typeAndHeight text)) (le-tells 1 (heightIn text)))
+          (is-tells (begins andWidth (afterHeight text)))) (le-tells 1 (widthIn text))) (is-tells (begins andMap (afterWidth text)))) .gives (a .0) in
           let room-there : widthIn text * heightIn text ≤ 4096 = unless-judges _ 2 (le-tells (widthIn text * heightIn text) 4096) .gives (b .0) in
           let cells-long : length (cellsOf (widthIn text) (heightIn text) (rowsIn text)) ≡ heightIn text * widthIn text =
           length-cells (widthIn text) (heightIn text) (rowsIn text) (rows-there (widthIn text) (heightIn text) 5 (rowsIn text) (b .1)) in

@@ -15,7 +15,8 @@ use base.Logic.{ent, sep, ex}
 use base.Fml.{Lft, GName, Fml, fsep, fat, fdead, flent}
 use prog.Wp.{Heap}
 use ghost.Atoms.{Atoms, sem}
-use types.Kit.{Given, ‵, _⊛_, some, later, _$_, _∵_, !, qed, by, drop, move, rewrite, use1, use2, use3, split, pick, fsplit, fjoin, fpick, fpack, feqL, feqI, await, updating, now as at-once, show, done}
+use types.Kit.{Given, ‵, _⊛_, some, later, _$_, _∵_, !, qed, by, drop, move, rewrite, use1, use2, use3, split, pick, fsplit, fjoin, fpick, fpack, feqL, feqI, await, updating, now as at-once}
+use types.Kit.{show, done}
 use types.SemTy.{cells, Arr}
 use types.Share.{arr-parts}
 use borrow.Table.Elements.{at, cut-app, join-app}

@@ -21,7 +21,8 @@ use Rattle.model.specs.Floor.{openingTable}
 use Rattle.model.specs.Checks.{floorOf, goals, settings}
 use Rattle.model.specs.Opening.{trialsHold, openJob}
 use Rattle.model.specs.Ride.{courseFrom}
-use Rattle.model.specs.FloorText.{LF, isDigit, typeAndHeight, andWidth, andMap, begins, sizeIn, sizeBytes, heightIn, afterHeight, widthIn, afterWidth, rowsIn, header, rowHolds, rows, cellsOf, floorVerdict}
+use Rattle.model.specs.FloorText.{LF, isDigit, typeAndHeight, andWidth, andMap, begins, sizeIn, sizeBytes, heightIn, afterHeight, widthIn, afterWidth, rowsIn, header, rowHolds, rows}
+use Rattle.model.specs.FloorText.{cellsOf, floorVerdict}
 use Rattle.model.specs.Line.{numbersIn, afterLine, settingsOf, readLine, jobIn, refusalLine, courseLines, judgeAisle, printed, aisle}
 use Rattle.model.proofs.Moves.{both}
 use Rattle.model.proofs.Accepted.{is-tells, le-tells, and-tells}
@@ -74,7 +75,8 @@ line-cut bs zero d v m n h k = record { says = none-few (take n bs) d v ∙ sym 
 line-cut bs (suc c) d v m zero h k = absurd (omega arith)
 line-cut [] (suc c) d v m (suc n) h k = record { says = refl; text = λ f. refl }
 line-cut (b ∷ bs) (suc c) d v m (suc n) h k =
-    by (eqb b LF) (isDigit b && leb d 6) (eqb b 32 && leb 1 d) refl refl refl (λ l. line-cut bs (suc c) (suc d) (10 * v + (b - 48)) m n (omega arith) l) (line-cut bs c 0 0 m n (omega arith) (omega arith))
+    by (eqb b LF) (isDigit b && leb d 6) (eqb b 32 && leb 1 d) refl refl refl (λ l. line-cut bs (suc c) (suc d) (10 * v + (b - 48)) m n (omega arith) l)
+    (line-cut bs c 0 0 m n (omega arith) (omega arith))
   where
     by : (lf digit space : Bool) → eqb b LF ≡ lf → (isDigit b && leb d 6) ≡ digit → (eqb b 32 && leb 1 d) ≡ space
         → (suc d ≤ 7 → Alike (suc c) m (numbersIn (suc d) (10 * v + (b - 48)) (take n bs)) (numbersIn (suc d) (10 * v + (b - 48)) bs) (afterLine (take n bs)) (afterLine bs))

@@ -15,7 +15,8 @@ use Rattle.model.specs.Basics.{choose, refuseAt, unless, naming}
 use Rattle.model.specs.Floor.{Floor, Sized, size, free, opening, goalsOf}
 use Rattle.model.specs.Checks.{ceiling, figures}
 use Rattle.model.specs.Opening.{openTable}
-use Rattle.model.specs.TableFile.{halfAt, trailer, countIn, backIn, isLetters, trailerHolds, checkTrailer, findRecords, sameJob, cellIn, figureIn, recordFault, judgeRecords, changed, readVerdict, recordsOf, trailerOf, fileOf, unlike, fileRoom, writeVerdict}
+use Rattle.model.specs.TableFile.{halfAt, trailer, countIn, backIn, isLetters, trailerHolds, checkTrailer, findRecords, sameJob, cellIn, figureIn, recordFault, judgeRecords, changed}
+use Rattle.model.specs.TableFile.{readVerdict, recordsOf, trailerOf, fileOf, unlike, fileRoom, writeVerdict}
 use Rattle.model.proofs.Moves.{both, both-of, free-below}
 use Rattle.model.proofs.Accepted.{then-done, fails, sizes-judges, scale-judges, bench-judges}
 
@@ -142,7 +143,14 @@ module _ (f : Floor) (q : ℕ) (gs : List ℕ) (low : ℕ) (part : List ℕ) whe
   pub no-fault : Lawful f q gs low part → recordFault f q gs low part ≡ 0
   unfolding recordFault
   no-fault l =
-      simp (lt-leb (size f) (cellIn part) (l .inside), l .open-cell, le-ltb (cellIn part) low (l .rising), lt-leb (figureIn part) (opening f q gs (cellIn part)) (l .above), le-ltb ceiling (figureIn part) (l .within))
+      simp (
+        lt-leb (size f) (cellIn part) (l .inside),
+        l .open-cell,
+        le-ltb (cellIn part) low (l .rising),
+        lt-leb (figureIn part) (opening f q gs (cellIn part)) (l .above),
+        le-ltb ceiling
+            (figureIn part) (l .within),
+      )
 
   pub lawful : recordFault f q gs low part ≡ 0 → Lawful f q gs low part
   unfolding recordFault
@@ -157,7 +165,8 @@ module _ (f : Floor) (q : ℕ) (gs : List ℕ) (low : ℕ) (part : List ℕ) whe
   pub fault : (Lawful f q gs low part → ⊥) → recordFault f q gs low part ≡ 15
   unfolding recordFault
   fault h = ⊎-elim (λ e. absurd (h (lawful e))) (λ e. e)
-      (two (leb (size f) (cellIn part)) (two (not (free f (cellIn part))) (two (ltb (cellIn part) low) (two (leb (figureIn part) (opening f q gs (cellIn part))) (two (ltb ceiling (figureIn part)) (inl refl))))))
+      (two (leb (size f) (cellIn part)) (two (not (free f (cellIn part))) (two (ltb (cellIn part) low)
+      (two (leb (figureIn part) (opening f q gs (cellIn part))) (two (ltb ceiling (figureIn part)) (inl refl))))))
 
   pub judge-more : (n i : ℕ) → recordFault f q gs low part ≡ 0 → judgeRecords f q gs (suc n) i low part ≡ judgeRecords f q gs n (suc i) (suc (cellIn part)) (drop 6 part)
   unfolding judgeRecords

@@ -112,7 +112,8 @@ module _ (j : Job) (bytes : List ℕ) (s : ℕ) (deep : 1 ≤ j .depth) (floor :
   -- "For each ring k from 1 to m, the ring's best is the least p × w(x) + figure(x) over its cells. The new figure is the greatest of the m bests.
   -- The target is the cell of ring m with the least p × w + figure; ties go to the lower cell number."
   pub ahead-means : (table : List ℕ) → emptyRing j bytes (seen j bytes s) (seen j bytes s .last) ≡ false
-      → Ahead (j .p) (seen j bytes s .last) (ring j bytes (seen j bytes s)) (w j bytes (seen j bytes s)) (λ x. getD table x 0) (newFigure j bytes (seen j bytes s) table) (target j bytes (seen j bytes s) table)
+      → Ahead (j .p) (seen j bytes s .last) (ring j bytes (seen j bytes s)) (w j bytes (seen j bytes s)) (λ x. getD table x 0) (newFigure j bytes (seen j bytes s) table)
+      (target j bytes (seen j bytes s) table)
   unfolding ringOf lastOf legOf
   ahead-means table e = answer-if (groundIn j bytes) (j .depth) (j .p) (j .q) (j .quota) deep s table floor off full
     where

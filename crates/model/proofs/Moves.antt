@@ -313,7 +313,8 @@ module _ (f : Floor) (z : Sized f) where
       let dx = way-apart (column f x) (column f y) (t .columns) in
       let dy = way-apart (row f x) (row f y) (t .rows) in
       let (m, l, p, q) =
-      moveFor (way (column f x) (column f y)) (way (row f x) (row f y)) (way-le (column f x) (column f y) (t .columns)) (way-le (row f x) (row f y) (t .rows)) (subst (λ k. 1 ≤ k) (sym (ap₂ _+_ dx dy)) (t .some)) in
+      moveFor (way (column f x) (column f y)) (way (row f x) (row f y)) (way-le (column f x) (column f y) (t .columns)) (way-le (row f x) (row f y) (t .rows))
+      (subst (λ k. 1 ≤ k) (sym (ap₂ _+_ dx dy)) (t .some)) in
       let p′ : column f x + east m ≡ column f y + 1 = ap (λ k. column f x + k) p ∙ way-to (column f x) (column f y) (t .columns) in
       let q′ : row f x + south m ≡ row f y + 1 = ap (λ k. row f x + k) q ∙ way-to (row f x) (row f y) (t .rows) in
       arrive x y m l h cx ry p′ q′

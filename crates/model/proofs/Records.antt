@@ -166,7 +166,8 @@ module _ (f : Floor) (q : ℕ) (gs : List ℕ) where
             let rest = recordsOf table cells in
             let v = getD table x 0 in
             rw (changed-more f q gs table m x d)
-            ((λ j. applied (length cells) rest (set t (cell-read x rest k j) (figure-read x rest k j))) ∙ r (set t x v) (made-next t (set t x v) x g (length-set t x v) (getD-set-same t x v 0 (omega (arith, g .same))) (λ j z. getD-set-other t x j v 0 z)))
+            ((λ j. applied (length cells) rest (set t (cell-read x rest k j) (figure-read x rest k j))) ∙ r (set t x v)
+            (made-next t (set t x v) x g (length-set t x v) (getD-set-same t x v 0 (omega (arith, g .same))) (λ j z. getD-set-other t x j v 0 z)))
 
   -- ---- what the reader accepts
 
@@ -219,7 +220,8 @@ module _ (f : Floor) (q : ℕ) (gs : List ℕ) where
       record { count = rw s (r .count); bytes = rw s (r .bytes) }
   again (suc m) x (suc n) i part t h a e l b o =
       by (decLe (suc x) (cellIn part)) (λ j p. again m (suc x) (suc n) i part t (omega arith) a j l b p)
-      (λ z u. again m (suc x) n (suc i) (drop 6 part) (set t (cellIn part) (figureIn part)) (omega arith) (length-set t (cellIn part) (figureIn part) ∙ a) z (length-drop 6 part ∙ omega arith) (bytes-drop 6 part b) u)
+      (λ z u. again m (suc x) n (suc i) (drop 6 part) (set t (cellIn part) (figureIn part)) (omega arith) (length-set t (cellIn part) (figureIn part) ∙ a) z (length-drop 6 part ∙ omega arith)
+      (bytes-drop 6 part b) u)
     where
       by : Dec (suc x ≤ cellIn part)
           → (judgeRecords f q gs (suc n) i (suc x) part ≡ Vd.Done → ((k : ℕ) → suc x ≤ k → k < size f → getD t k 0 ≡ opening f q gs k) → Again m (suc x) (suc n) part (applied (suc n) part t))
@@ -260,7 +262,8 @@ module _ (f : Floor) (q : ℕ) (gs : List ℕ) where
   unfolding applied
   applied-fine zero i low part t e a fine = fine
   applied-fine (suc n) i low part t e a fine =
-      applied-fine n (suc i) (suc (cellIn part)) (drop 6 part) (set t (cellIn part) (figureIn part)) (others n i low part e) (length-set t (cellIn part) (figureIn part) ∙ a) (λ x h. by x h (ℕ-discrete x (cellIn part)))
+      applied-fine n (suc i) (suc (cellIn part)) (drop 6 part) (set t (cellIn part) (figureIn part)) (others n i low part e) (length-set t (cellIn part) (figureIn part) ∙ a)
+      (λ x h. by x h (ℕ-discrete x (cellIn part)))
     where
       l : Lawful f q gs low part
       l = first n i low part e

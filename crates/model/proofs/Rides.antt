@@ -288,4 +288,5 @@ module _ (j : Job) (bytes : List ℕ) (start : ℕ) where
           → ((t p : List ℕ) → Ready j bytes start t p → Rides j bytes start t p (courseFrom j bytes start k t p .rides))
           → Rides j bytes start table path (courseFrom j bytes start (suc k) table path .rides)
       by true e more = subst (λ c. Rides j bytes start table path (c .rides)) (sym (course-settled k table path e)) (trip (accepted-trial j bytes start table path R) over)
-      by false e more = subst (λ c. Rides j bytes start table path (c .rides)) (sym (course-again k table path e)) (trip (accepted-trial j bytes start table path R) (more _ _ (ready-after j bytes start table path R)))
+      by false e more = subst (λ c. Rides j bytes start table path (c .rides)) (sym (course-again k table path e))
+          (trip (accepted-trial j bytes start table path R) (more _ _ (ready-after j bytes start table path R)))

@@ -47,7 +47,13 @@ module _ (j : Job) (bytes : List ℕ) (v : View) where
     where
       bare : leb (size (floorOf j bytes)) (lowest (size (floorOf j bytes)) (on (suc m))) ≡ true → Bare (suc m)
       bare t x l q =
-          omega (arith, l, leb-true (size (floorOf j bytes)) (lowest (size (floorOf j bytes)) (on (suc m))) t, lowest-low (size (floorOf j bytes)) (on (suc m)) x l (eqb-of (ring j bytes v x) (suc m) q))
+          omega (
+            arith,
+            l,
+            leb-true (size (floorOf j bytes)) (lowest (size (floorOf j bytes)) (on (suc m))) t,
+            lowest-low (size (floorOf j bytes)) (on (suc m)) x l
+                (eqb-of (ring j bytes v x) (suc m) q),
+          )
 
       by : (b : Bool) → emptyRing j bytes v m ≡ b → (emptyRing j bytes v m ≡ true → (k : ℕ) × (1 ≤ k) × (k ≤ m) × Bare k) → (k : ℕ) × (1 ≤ k) × (k ≤ suc m) × Bare k
       by true f below = let (k, h, i, none) = below f in (k, h, omega arith, none)

@@ -15,24 +15,29 @@ use Rattle.answers.specs.declared.Verdict.the-variants as Vd
 use Rattle.model.specs.Floor.{Floor, size, opening, openingTable, goalsOf}
 use Rattle.model.specs.Checks.{ceiling}
 use Rattle.model.specs.Opening.{openTable}
-use Rattle.model.specs.TableFile.{half, word, halfAt, wordAt, trailer, countIn, backIn, isLetters, findRecords, judgeRecords, applied, readVerdict, readOf, readTable, changed, recordsOf, trailerOf, fileOf, unlike, fileRoom, writeVerdict}
+use Rattle.model.specs.TableFile.{half, word, halfAt, wordAt, trailer, countIn, backIn, isLetters, findRecords, judgeRecords, applied, readVerdict, readOf, readTable, changed, recordsOf}
+use Rattle.model.specs.TableFile.{trailerOf, fileOf, unlike, fileRoom, writeVerdict}
 use Rattle.model.proofs.Cells.{cells-le}
 use Rattle.model.proofs.Moves.{both}
 use Rattle.model.proofs.Accepted.{then-next, figures-done, figures-accepted, naming-done, naming-none}
 use Rattle.model.proofs.OpeningSound.{opening-within}
-use Rattle.model.proofs.Files.{Openable, openable, Trailer, trailer-true, check-done, check-gives, found, Same, same-done, same-gives, changed-few, length-records, length-file, read-gives, write-gives}
-use Rattle.model.proofs.Records.{half-read, word-read, half-written, word-written, Bytes, bytes-drop, bytes-take, pair-at, Fine, written-judged, written-applied, applied-length, Again, again, fine-opening, applied-fine}
+use Rattle.model.proofs.Files.{Openable, openable, Trailer, trailer-true, check-done, check-gives, found, Same, same-done, same-gives, changed-few, length-records, length-file}
+use Rattle.model.proofs.Files.{read-gives, write-gives}
+use Rattle.model.proofs.Records.{half-read, word-read, half-written, word-written, Bytes, bytes-drop, bytes-take, pair-at, Fine, written-judged, written-applied, applied-length, Again}
+use Rattle.model.proofs.Records.{again, fine-opening, applied-fine}
 
 module _ (f : Floor) (q goal : ℕ) where
   abbrev gs : List ℕ
   gs = goalsOf goal
 
   -- the checks of the reader, and of the writer, all passed
-  read-all : (file : List ℕ) (n : ℕ) → openTable f q gs n ≡ Vd.Done → Trailer file → Same f q gs (trailer file) → judgeRecords f q gs (countIn file) 0 0 (findRecords file) ≡ Vd.Done → readVerdict f q gs file n ≡ Vd.Done
+  read-all : (file : List ℕ) (n : ℕ) → openTable f q gs n ≡ Vd.Done → Trailer file → Same f q gs (trailer file) → judgeRecords f q gs (countIn file) 0 0 (findRecords file) ≡ Vd.Done
+      → readVerdict f q gs file n ≡ Vd.Done
   unfolding readVerdict
   read-all file n o t s j = then-next _ o ∙ (then-next _ (check-done file (trailer-true file t)) ∙ (then-next _ (same-done f q gs file s) ∙ j))
 
-  write-all : (table : List ℕ) (room : ℕ) → openTable f q gs (length table) ≡ Vd.Done → ((x : ℕ) → x < size f → Fine f q gs x (getD table x 0)) → length (fileOf f q gs table) ≤ room → writeVerdict f q gs table room ≡ Vd.Done
+  write-all : (table : List ℕ) (room : ℕ) → openTable f q gs (length table) ≡ Vd.Done → ((x : ℕ) → x < size f → Fine f q gs x (getD table x 0)) → length (fileOf f q gs table) ≤ room
+      → writeVerdict f q gs table room ≡ Vd.Done
   unfolding writeVerdict fileRoom unlike
   write-all table room o fine l =
       then-next _ o
@@ -220,7 +225,8 @@ module _ (f : Floor) (q goal : ℕ) where
     accepted-writes-again =
         let r = written-again in
         let d : drop (6 * countIn file) from-first ≡ trailer file =
-        drop-drop (6 * countIn file) (length file - backIn file) file ∙ (let z : length file - backIn file + 6 * countIn file ≡ length file - 16 = omega (arith, held .even, held .within) in ap (λ (j : ℕ). drop j file) z) in
+        drop-drop (6 * countIn file) (length file - backIn file) file ∙ (let z : length file - backIn file + 6 * countIn file ≡ length file - 16 = omega (arith, held .even, held .within) in ap
+        (λ (j : ℕ). drop j file) z) in
         (λ i. r .bytes i ++ trailerOf f q gs (r .count i))
         ∙ ((λ i. part-is i ++ (trailer-again ∙ sym d) i) ∙ take-append-drop (6 * countIn file) from-first)
 

@@ -232,7 +232,8 @@ module _ (j : Job) (bytes : List ℕ) (H : Held j bytes) where
       back-does h i =
           let new = newHere j bytes s table in
           record {
-            step = subst (λ x. learning.Step J x (rise table (s .current) new) (legOf (groundIn j bytes) (j .depth) l (s .current)) (asState (record { current = l; learned = s .learned; length = s .length - 1 }) (stored table (s .current) new) path))
+            step = subst (λ x. learning.Step J x (rise table (s .current) new) (legOf (groundIn j bytes) (j .depth) l (s .current))
+                (asState (record { current = l; learned = s .learned; length = s .length - 1 }) (stored table (s .current) new) path))
                 (same (s .current) (s .learned) (sym (split i)) refl)
                 (subst (learning.Step J _ (rise table (s .current) new) (legOf (groundIn j bytes) (j .depth) l (s .current)))
                 (same l (s .learned) refl (sym (stored-raised table (s .current) new)))
@@ -264,7 +265,8 @@ module _ (j : Job) (bytes : List ℕ) (H : Held j bytes) where
           let new = newHere j bytes s table in
           let none : [] ≡ onPath s path = ap (λ (n : ℕ). take n path) (sym e) in
           record {
-            step = subst (λ p. learning.Step J (record { cell = s .current; used = s .learned; path = p; table = table }) (rise table (s .current) new) 0 (record { cell = s .current; used = s .learned; path = p; table = stored table (s .current) new })) none
+            step = subst (λ p. learning.Step J (record { cell = s .current; used = s .learned; path = p; table = table }) (rise table (s .current) new) 0
+                (record { cell = s .current; used = s .learned; path = p; table = stored table (s .current) new })) none
                 (subst (learning.Step J _ (rise table (s .current) new) 0) (same (s .current) (s .learned) refl (sym (stored-raised table (s .current) new))) (learning.stay off looked h));
             stores = refl;
             places = refl;

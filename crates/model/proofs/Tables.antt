@@ -87,7 +87,8 @@ module _ (j : Job) (bytes : List ℕ) (s : State) (table path : List ℕ) where
       past : {d : Deed} → act j bytes s table path ≡ d → Left j bytes s table (d .table) → Left j bytes s table (act j bytes s table path .table)
       past e h = subst (λ d. Left j bytes s table (d .table)) (sym e) h
 
-      back : atGoal j bytes (s .current) ≡ false → (ltb (getD table (s .current) 0) new && ltb ceiling new) ≡ false → (goBack j bytes s table path new .table ≡ table) ⊎ (goBack j bytes s table path new .table ≡ stored table (s .current) new)
+      back : atGoal j bytes (s .current) ≡ false → (ltb (getD table (s .current) 0) new && ltb ceiling new) ≡ false
+          → (goBack j bytes s table path new .table ≡ table) ⊎ (goBack j bytes s table path new .table ≡ stored table (s .current) new)
           → Left j bytes s table (goBack j bytes s table path new .table)
       back e c (inl h) = inl h
       back e c (inr h) = inr (e, c, h)
@@ -117,7 +118,8 @@ module _ (j : Job) (bytes : List ℕ) (s : State) (table path : List ℕ) where
       stay-low : ¬ CanReach (learningJob j bytes) (s .current) → Sound (learningJob j bytes) (stored table (s .current) (newHere j bytes s table))
       stay-low n = record {
         size = ap length (stored-raised table (s .current) (newHere j bytes s table)) ∙ length-set table (s .current) _ ∙ S .size;
-        low = λ x r. subst (λ k. k ≤ truth (learningJob j bytes) x) (sym (stored-other table (s .current) (newHere j bytes s table) x (λ e. n (subst (CanReach (learningJob j bytes)) e r)))) (S .low x r);
+        low = λ x r. subst (λ k. k ≤ truth (learningJob j bytes) x) (sym (stored-other table (s .current) (newHere j bytes s table) x (λ e. n (subst (CanReach (learningJob j bytes)) e r))))
+            (S .low x r);
       }
 
       here : atGoal j bytes (s .current) ≡ false → (b : Bool) → reachOf (groundIn j bytes) (s .current) ≡ b

@@ -10,7 +10,8 @@ use Rattle.model.specs.Lookahead.{emptyRing, movesAlong}
 use Rattle.model.specs.Decision.{movesRoom, stateHolds, judge, forward, backOut, stay, goBack, learn, act, decide}
 use Rattle.model.specs.Opening.{soundness, accepts, openJob, openTrial, reportsRoom, trialsHold, openRun, openTable}
 use Rattle.model.specs.Ride.{next, rideFrom, bound, ride, kept, trial, courseFrom, run}
-use Rattle.model.specs.TableFile.{trailerHolds, checkTrailer, findRecords, sameJob, recordFault, judgeRecords, applied, readVerdict, readTable, changed, recordsOf, trailerOf, fileOf, unlike, fileRoom, writeVerdict, writeTable}
+use Rattle.model.specs.TableFile.{trailerHolds, checkTrailer, findRecords, sameJob, recordFault, judgeRecords, applied, readVerdict, readTable, changed, recordsOf, trailerOf, fileOf}
+use Rattle.model.specs.TableFile.{unlike, fileRoom, writeVerdict, writeTable}
 use Rattle.model.specs.FloorText.{begins, sizeIn, header, rowHolds, rows, cellsOf, floorVerdict, readFloor}
 use Rattle.model.specs.Line.{numbersIn, afterLine, readLine, decimalIn, movesField, trialLine, trialLines, courseLines, refusalLine, judgeAisle, aisle}
 

@@ -57,7 +57,7 @@ fn all_figures(
     at
 }
 
-pub fn draw(
+pub(crate) fn draw(
     page: &mut Page,
     at: usize,
     s: Sheet,

@@ -110,7 +110,7 @@ fn frame(page: &mut Page, at: usize, s: Sheet) -> usize {
 }
 
 // The floor, each cell in the shade of what was learned of it.
-pub fn draw(
+pub(crate) fn draw(
     page: &mut Page,
     at: usize,
     s: Sheet,

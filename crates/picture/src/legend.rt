@@ -104,7 +104,7 @@ fn ranges(page: &mut Page, from: usize, x: usize, most: usize) -> usize
 }
 
 // Marks, ways, blocked cells, and the shades with their ranges.
-pub fn draw(
+pub(crate) fn draw(
     page: &mut Page,
     at: usize,
     s: Sheet,

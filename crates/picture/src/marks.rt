@@ -27,7 +27,7 @@ fn letters(page: &mut Page, at: usize, x: usize, y: usize, size: usize, s: &[u8]
 }
 
 // The start's mark around a place.
-pub fn circle(page: &mut Page, at: usize, x: usize, y: usize, half: usize) -> usize
+pub(crate) fn circle(page: &mut Page, at: usize, x: usize, y: usize, half: usize) -> usize
     requires { ⌜ (y ≤ 8000) × (half ≤ 20) ⌝ }
 {
     let at = drawing::circle(
@@ -42,7 +42,7 @@ pub fn circle(page: &mut Page, at: usize, x: usize, y: usize, half: usize) -> us
 }
 
 // The bench's mark around a place, with its letters.
-pub fn square(page: &mut Page, at: usize, x: usize, y: usize, half: usize, s: &[u8]) -> usize
+pub(crate) fn square(page: &mut Page, at: usize, x: usize, y: usize, half: usize, s: &[u8]) -> usize
     requires { ⌜ (half ≤ x) × (half ≤ y) × (y ≤ 8000) × (half ≤ 20) × (length (now s) ≤ 512) ⌝ }
 {
     let at = drawing::rectangle(
@@ -86,7 +86,7 @@ fn spot_of(s: Sheet, cell: usize) -> Spot
 }
 
 // Both marks: a start that is the bench has the two letters in one square.
-pub fn draw(page: &mut Page, at: usize, s: Sheet, start: usize, goal: usize) -> usize {
+pub(crate) fn draw(page: &mut Page, at: usize, s: Sheet, start: usize, goal: usize) -> usize {
     let b = spot_of(s, goal);
     if start == goal {
         return square(page, at, b.x, b.y, b.half, b"SB");

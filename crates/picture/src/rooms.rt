@@ -5,19 +5,19 @@ ghost use lib.ListN.{length};
 // A byte for each cell of the largest floor: whether it is free, or its shade.
 pub type Shades = [u8; 4096];
 
-pub fn floor() -> [u8; 4096]
+pub(crate) fn floor() -> [u8; 4096]
     ensures { λ r. ⌜ 4096 ≡ length r ⌝ }
 {
     [0; 4096]
 }
 
-pub fn table() -> [u32; 4096]
+pub(crate) fn table() -> [u32; 4096]
     ensures { λ r. ⌜ 4096 ≡ length r ⌝ }
 {
     [0; 4096]
 }
 
-pub fn path() -> [u16; 4096]
+pub(crate) fn path() -> [u16; 4096]
     ensures { λ r. ⌜ 4096 ≡ length r ⌝ }
 {
     [0; 4096]
@@ -26,7 +26,7 @@ pub fn path() -> [u16; 4096]
 // Four counts for each of the most trials that a run may have.
 pub type Counts = [u64; 4000];
 
-pub fn counts() -> Counts
+pub(crate) fn counts() -> Counts
     ensures { λ r. ⌜ 4000 ≡ length r ⌝ }
 {
     [0; 4000]
@@ -35,7 +35,7 @@ pub fn counts() -> Counts
 // The places for moves that a decision asks for.
 pub type Moves = [u8; 288];
 
-pub fn moves() -> Moves
+pub(crate) fn moves() -> Moves
     ensures { λ r. ⌜ 288 ≡ length r ⌝ }
 {
     [0; 288]
@@ -44,7 +44,7 @@ pub fn moves() -> Moves
 // For each place of the path twelve bytes: how many moves lead on from it, at most 11, and then those moves.
 pub type Legs = [u8; 49152];
 
-pub fn legs() -> Legs
+pub(crate) fn legs() -> Legs
     ensures { λ r. ⌜ 49152 ≡ length r ⌝ }
 {
     [0; 49152]

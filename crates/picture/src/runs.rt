@@ -17,12 +17,12 @@ pub struct Outcome {
 }
 
 // The table of opening figures.
-pub fn open(job: Job, floor: &[u8], table: &mut [u32]) -> Verdict {
+pub(crate) fn open(job: Job, floor: &[u8], table: &mut [u32]) -> Verdict {
     learner::fill_opening(job.width, job.height, job.goal, job.q, floor, table)
 }
 
 // A run from the opening figures on.
-pub fn run(
+pub(crate) fn run(
     job: Job,
     floor: &[u8],
     start: usize,
@@ -36,7 +36,7 @@ pub fn run(
 }
 
 // The table as it stands before the last of the trials that were made.
-pub fn before_last(
+pub(crate) fn before_last(
     job: Job,
     floor: &[u8],
     start: usize,
@@ -62,7 +62,7 @@ fn record(counts: &[u64], trial: usize) -> Report
     run::report_at(counts, 999)
 }
 
-pub fn outcome_of(counts: &Counts, made: usize, settled: bool) -> Outcome {
+pub(crate) fn outcome_of(counts: &Counts, made: usize, settled: bool) -> Outcome {
     let first = record(counts, 0);
     let last = record(counts, if made < 1 { 0 } else { made - 1 });
     Outcome {

@@ -27,7 +27,7 @@ fn rise(table: &[u32], first: &[u32], x: usize) -> usize
 }
 
 // The largest rise.
-pub fn largest(table: &[u32], first: &[u32]) -> usize
+pub(crate) fn largest(table: &[u32], first: &[u32]) -> usize
     ensures { λ r. ⌜ r < 4294967296 ⌝ }
 {
     let mut most = 0;
@@ -40,7 +40,7 @@ pub fn largest(table: &[u32], first: &[u32]) -> usize
 }
 
 // How many steps are told apart: six, or each rise where fewer are possible.
-pub fn steps(most: usize) -> usize
+pub(crate) fn steps(most: usize) -> usize
     ensures { λ r. ⌜ r ≤ 6 ⌝ }
 {
     if most < 6 { most } else { 6 }
@@ -55,7 +55,7 @@ fn times(rise: usize, n: usize) -> usize
 }
 
 // The largest rise that the step k of n has: k shares of the largest of all, of n.
-pub fn bound(most: usize, n: usize, k: usize) -> usize
+pub(crate) fn bound(most: usize, n: usize, k: usize) -> usize
     requires { ⌜ (most < 4294967296) × (k ≤ 6) ⌝ }
     ensures { λ r. ⌜ r < 25769803776 ⌝ }
 {
@@ -63,7 +63,7 @@ pub fn bound(most: usize, n: usize, k: usize) -> usize
 }
 
 // The shade of the step k of n: the last is always the darkest.
-pub fn shade_of(n: usize, k: usize) -> usize
+pub(crate) fn shade_of(n: usize, k: usize) -> usize
     requires { ⌜ (n ≤ 6) × (k ≤ 6) ⌝ }
     ensures { λ r. ⌜ r ≤ 6 ⌝ }
 {
@@ -87,7 +87,7 @@ fn step_of(rise: usize, most: usize) -> usize
 }
 
 // The shade of a cell.
-pub fn shade_at(floor: &[u8], table: &[u32], first: &[u32], x: usize, most: usize) -> u8
+pub(crate) fn shade_at(floor: &[u8], table: &[u32], first: &[u32], x: usize, most: usize) -> u8
     requires { ⌜ most < 4294967296 ⌝ }
 {
     if floor.len() <= x {
@@ -104,7 +104,7 @@ pub fn shade_at(floor: &[u8], table: &[u32], first: &[u32], x: usize, most: usiz
 }
 
 // The shade of each of n cells.
-pub fn fill(floor: &[u8], table: &[u32], first: &[u32], most: usize, shades: &mut Shades, n: usize)
+pub(crate) fn fill(floor: &[u8], table: &[u32], first: &[u32], most: usize, shades: &mut Shades, n: usize)
     requires { ⌜ (most < 4294967296) × (n ≤ 4096) ⌝ }
 {
     let mut x = 0;
@@ -115,7 +115,7 @@ pub fn fill(floor: &[u8], table: &[u32], first: &[u32], most: usize, shades: &mu
 }
 
 // The colour of a shade: light yellow to dark blue, which tell apart by lightness alone.
-pub fn colour(page: &mut Page, at: usize, shade: usize) -> usize {
+pub(crate) fn colour(page: &mut Page, at: usize, shade: usize) -> usize {
     match shade {
         0 => drawing::words(page, at, b"#ffffff"),
         1 => drawing::words(page, at, b"#ffffbf"),

@@ -10,7 +10,7 @@ pub struct Sheet {
     pub cell: usize,
 }
 
-pub fn larger(a: usize, b: usize) -> usize
+pub(crate) fn larger(a: usize, b: usize) -> usize
     ensures { λ r. ⌜ r ≡ max a b ⌝ }
 {
     if a < b { b } else { a }
@@ -27,7 +27,7 @@ fn held(n: usize) -> usize
 }
 
 // A floor's longer side gets 480 points, but a cell no fewer than 10 and no more than 96.
-pub fn sheet_of(columns: usize, rows: usize) -> Sheet {
+pub(crate) fn sheet_of(columns: usize, rows: usize) -> Sheet {
     let longest = larger(1, larger(columns, rows));
     Sheet {
         columns: columns,
@@ -37,7 +37,7 @@ pub fn sheet_of(columns: usize, rows: usize) -> Sheet {
 }
 
 // How far n cells reach: no floor has more than 64 in a row or a column.
-pub fn reach(cell: usize, n: usize) -> usize
+pub(crate) fn reach(cell: usize, n: usize) -> usize
     ensures { λ r. ⌜ r ≤ 6144 ⌝ }
 {
     if 96 < cell {
@@ -50,7 +50,7 @@ pub fn reach(cell: usize, n: usize) -> usize
 }
 
 // How many cells a floor has.
-pub fn cells(columns: usize, rows: usize) -> usize
+pub(crate) fn cells(columns: usize, rows: usize) -> usize
     ensures { λ r. ⌜ r ≤ 4096 ⌝ }
 {
     if 64 < columns {
@@ -63,14 +63,14 @@ pub fn cells(columns: usize, rows: usize) -> usize
 }
 
 // Where the legend begins.
-pub fn legend_x(s: Sheet) -> usize
+pub(crate) fn legend_x(s: Sheet) -> usize
     ensures { λ r. ⌜ r ≤ 6188 ⌝ }
 {
     44 + reach(s.cell, s.columns)
 }
 
 // The legend's rows stand 22 points apart, the first beside the floor's upper edge.
-pub fn legend_y(row: usize) -> usize
+pub(crate) fn legend_y(row: usize) -> usize
     requires { ⌜ row ≤ 13 ⌝ }
     ensures { λ r. ⌜ (60 ≤ r) × (r ≤ 346) ⌝ }
 {
@@ -78,7 +78,7 @@ pub fn legend_y(row: usize) -> usize
 }
 
 // Where the counts stand: below the floor and the legend's thirteen rows, whichever ends lower.
-pub fn counts_y(s: Sheet) -> usize
+pub(crate) fn counts_y(s: Sheet) -> usize
     ensures { λ r. ⌜ (366 ≤ r) × (r ≤ 6224) ⌝ }
 {
     80 + larger(286, reach(s.cell, s.rows))
@@ -94,7 +94,7 @@ fn height(s: Sheet) -> usize {
 }
 
 // So many points as a share of a cell's side, in thousandths: less than the whole, since no cell has fewer than 10.
-pub fn points(page: &mut Page, at: usize, s: Sheet, n: usize) -> usize
+pub(crate) fn points(page: &mut Page, at: usize, s: Sheet, n: usize) -> usize
     requires { ⌜ n ≤ 9 ⌝ }
 {
     let share = n * 1000 / larger(1, s.cell);
@@ -105,7 +105,7 @@ pub fn points(page: &mut Page, at: usize, s: Sheet, n: usize) -> usize
 }
 
 // The drawing's first lines: a white sheet.
-pub fn begin(page: &mut Page, at: usize, s: Sheet) -> usize {
+pub(crate) fn begin(page: &mut Page, at: usize, s: Sheet) -> usize {
     let at = drawing::words(
         page,
         at,
@@ -128,11 +128,11 @@ pub fn begin(page: &mut Page, at: usize, s: Sheet) -> usize {
 }
 
 // What follows is told in cells: the floor's upper left corner is 0 0, and a cell's side is 1.
-pub fn on_floor(page: &mut Page, at: usize, s: Sheet) -> usize {
+pub(crate) fn on_floor(page: &mut Page, at: usize, s: Sheet) -> usize {
     let at = drawing::said(page, at, b"<g transform='translate(20 50) scale(", s.cell);
     drawing::words(page, at, b")'>\n")
 }
 
-pub fn off_floor(page: &mut Page, at: usize) -> usize {
+pub(crate) fn off_floor(page: &mut Page, at: usize) -> usize {
     drawing::words(page, at, b"</g>\n")
 }

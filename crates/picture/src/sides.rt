@@ -7,7 +7,7 @@ use learner::Job;
 use learner::Report;
 
 // The job, above the floor.
-pub fn above(page: &mut Page, at: usize, j: Job, trials: usize) -> usize {
+pub(crate) fn above(page: &mut Page, at: usize, j: Job, trials: usize) -> usize {
     let at = drawing::words(page, at, b"<g font-size='15'>\n");
     let at = drawing::caption_from(page, at, 20, 32);
     let at = drawing::number(page, at, j.width);
@@ -38,7 +38,7 @@ fn settled_or_not(page: &mut Page, at: usize, settled: bool) -> usize {
 }
 
 // The counts of both trials, below the floor.
-pub fn below(page: &mut Page, at: usize, s: Sheet, o: Outcome) -> usize {
+pub(crate) fn below(page: &mut Page, at: usize, s: Sheet, o: Outcome) -> usize {
     let y = sheet::counts_y(s);
     let first = o.first;
     let last = o.last;

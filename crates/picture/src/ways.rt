@@ -154,7 +154,7 @@ fn way_from(page: &mut Page, at: usize, columns: usize, start: usize) -> usize {
 }
 
 // The last trial and what it keeps, to be drawn once the floor is.
-pub fn define(
+pub(crate) fn define(
     job: Job,
     floor: &[u8],
     start: usize,
@@ -197,7 +197,7 @@ fn stroke(page: &mut Page, at: usize, s: Sheet, n: usize, way: &[u8]) -> usize
 }
 
 // The kept way dark on white, and the last trial's thin on top of it.
-pub fn draw(page: &mut Page, at: usize, s: Sheet) -> usize {
+pub(crate) fn draw(page: &mut Page, at: usize, s: Sheet) -> usize {
     let at = drawing::words(
         page,
         at,

@@ -109,7 +109,8 @@ pub record PinsDecision : Type 0 where
   pub cut : on (job 1 1 1 1000) (state 7 3 3) (set (set figures 5 40) 6 40) (5 ∷ 8 ∷ 6 ∷ replicate 6 77)
       ≡ leaves (A.Forward 8 14 1) (state 8 17 1) (set (set (set figures 5 40) 6 40) 7 38) (5 ∷ 8 ∷ 6 ∷ 7 ∷ replicate 5 77) (2 ∷ replicate 289 9)
   -- entries beyond the length are no part of the path
-  pub beyond : on (job 1 1 1 1000) (state 6 0 0) figures (7 ∷ 7 ∷ 6 ∷ 0 ∷ 3 ∷ replicate 4 77) ≡ leaves (A.Forward 7 14 1) (state 7 14 1) (set figures 6 34) (6 ∷ 7 ∷ 6 ∷ 0 ∷ 3 ∷ replicate 4 77) (2 ∷ replicate 289 9)
+  pub beyond : on (job 1 1 1 1000) (state 6 0 0) figures (7 ∷ 7 ∷ 6 ∷ 0 ∷ 3 ∷ replicate 4 77) ≡ leaves (A.Forward 7 14 1) (state 7 14 1) (set figures 6 34) (6 ∷ 7 ∷ 6 ∷ 0 ∷ 3 ∷ replicate 4 77)
+      (2 ∷ replicate 289 9)
   -- At the goal: done, nothing changes
   pub arrived : on (job 1 1 1 1000) (state 0 7 1) (set figures 0 3) (path1 6) ≡ leaves A.Arrived (state 0 7 1) (set figures 0 3) (path1 6) buffer
 

@@ -4,12 +4,6 @@ use borrow.Author.Needs.{needs}
 use Rattle.run.proofs.answer.Statement.{statement}
 use Rattle.run.proofs.answer.Tie as tie
 
-enum-told : tie.Need-enum-told
-enum-told c = search needs
-
-enum-known-opened : tie.Need-enum-known-opened
-enum-known-opened c = search needs
-
 returns : tie.Need-returns
 returns c = rw (c .enum-told .given .1)
 
@@ -17,4 +11,4 @@ returns-2 : tie.Need-returns-2
 returns-2 c = rw (c .before .opened .given .1)
 
 pub answer-spec : {M : Type 1} → statement M
-answer-spec = tie.close (tie.spec enum-told enum-known-opened returns returns-2)
+answer-spec = tie.close (tie.spec (λ c. search needs) (λ c. search needs) returns returns-2)

@@ -5,14 +5,8 @@ use borrow.Author.Needs.{needs}
 use Rattle.run.proofs.judge.Statement.{statement}
 use Rattle.run.proofs.judge.Tie as tie
 
-open-run-requires : tie.Need-open-run-requires
-open-run-requires c κs = search needs
-
-same-length : tie.Need-same-length
-same-length c = search needs
-
 returns : tie.Need-returns
 returns c = (c .open-run .ensures _ refl, refl, refl)
 
 pub judge-spec : {M : Type 1} → statement M
-judge-spec = tie.close (tie.spec open-run-requires same-length returns)
+judge-spec = tie.close (tie.spec (λ c κs. search needs) (λ c. search needs) returns)

@@ -25,9 +25,6 @@ mul-along-2 c = omega (arith, c .before .before .pre .place (omega arith))
 slice-write-along : tie.Need-slice-write-along
 slice-write-along c = omega (arith, c .before .before .pre .size, c .before .before .pre .place (omega arith))
 
-same-length : tie.Need-same-length
-same-length c = search needs
-
 returns : tie.Need-returns
 returns c =
     let a = c .before .before .args in
@@ -46,6 +43,6 @@ note-leg-spec =
     add-along
     mul-along-2
     slice-write-along
-    same-length
+    (λ c. search needs)
     returns
     returns-2)

@@ -1,4 +1,5 @@
--- `run::run` meets its contract: a walk of its MIR, by hand, with a loop. The table and the path are lent on to `judge` and at each turn to `ride`, the reports to `store_report`, each for a lifetime of the call, and come back (`Whole` of lending).
+-- `run::run` meets its contract: a walk of its MIR, by hand, with a loop. The table and the path are lent on to `judge` and at each turn to `ride`, the
+-- reports to `store_report`, each for a lifetime of the call, and come back (`Whole` of lending).
 -- The invariant and all that it gives are laws of `Course.antt`; all that the walk knows of the callees is that each meets its contract. Assumes nothing.
 use mathlib.Core.Path.{_≡_, refl, sym, _∙_, ap, subst}
 use Prim.Native.Nat.{ℕ, _+_, _≤_, _<_, _^_}
@@ -23,9 +24,11 @@ use prog.Wp.{Heap, Out, Env, afterSeq, afterBlock, afterTurn, Calls, Loops, Wp, 
 use ghost.Atoms.{Atoms, sem}
 use contract.Monad.{Fun, fact}
 use contract.Running.{givenOf, tables, tablesOf}
-use types.Kit.{Given, Item, ‵, raw, mean, runs, anyQ, atRet, Sq, _⊛_, some, later, ⋆, _$_, _∵_, !, qed, by, move, keep, use0, use1, use2, use3, rewrite, drop, split, join, pick, fsplit, fjoin, feqL, suffices, frame, await, done}
+use types.Kit.{Given, Item, ‵, raw, mean, runs, anyQ, atRet, Sq, _⊛_, some, later, ⋆, _$_, _∵_, !, qed, by, move, keep, use0, use1, use2, use3, rewrite, drop, split, join, pick, fsplit, fjoin}
+use types.Kit.{feqL, suffices, frame, await, done}
 use types.Part.{agg, whole, sub, look-in}
-use types.Run.{look, store, init, forget, stop, hop, fld, from, load, lit, addr, of-opd, bin, and-then, no-more, assigns, assigns-last, first, blocks, stays, leaves-loop, land, returns, enter, alloc1, alloc0, params1, pass1, pass0, free1, free0, exec, Below, again, loops}
+use types.Run.{look, store, init, forget, stop, hop, fld, from, load, lit, addr, of-opd, bin, and-then, no-more, assigns, assigns-last, first, blocks, stays, leaves-loop, land, returns, enter}
+use types.Run.{alloc1, alloc0, params1, pass1, pass0, free1, free0, exec, Below, again, loops}
 use types.Tokens.{lft-new, lft-end}
 use sound.WpLaws.{FmC, fmOf, WpFn-mono}
 use denote.RattleType.{owns}
@@ -330,7 +333,8 @@ module _ {M : Type 1} (𝓤 : URA M) (H : Heap 𝓤) (A : Atoms 𝓤) (W : Given
       → ent 𝓤 (⋆ 𝓤 H A (‵ (R.the-row .own r (w ∷ [])) ∷ ‵ (Table t) ∷ ‵ (flft κ₁ q₁) ∷ ‵ (Path′ p) ∷ ‵ (flft κ₂ q₂) ∷ ‵ (Reports rs) ∷ ‵ (flft κ₃ q₃) ∷ ‵ Floor ∷ ‵ (flft κ₀ q₀) ∷ [])) (Post w)
   exits r w t p rs said lt lp lr =
       qed W (‵ (R.the-row .own r (w ∷ [])) ∷ ‵ (Table t) ∷ ‵ (flft κ₁ q₁) ∷ ‵ (Path′ p) ∷ ‵ (flft κ₂ q₂) ∷ ‵ (Reports rs) ∷ ‵ (flft κ₃ q₃) ∷ ‵ Floor ∷ ‵ (flft κ₀ q₀) ∷ []) ∵
-      suffices ! _ (ends-at 𝓤 H A f.ended stayed (f.clauses 𝓤 H A mem run) W (((κ₀, (κ₁, (κ₂, (κ₃, tt)))), (q₀, (q₁, (q₂, (q₃, tt)))), tt, a, vals), tt) w r (tt, (tt, (tt, (tt, (t, (p, (rs, tt))))))) (tt, (tt, (tt, (tt, (lt, (lp, (lr, tt)))))))) $ says ! said $
+      suffices ! _ (ends-at 𝓤 H A f.ended stayed (f.clauses 𝓤 H A mem run) W (((κ₀, (κ₁, (κ₂, (κ₃, tt)))), (q₀, (q₁, (q₂, (q₃, tt)))), tt, a, vals), tt) w r
+      (tt, (tt, (tt, (tt, (t, (p, (rs, tt))))))) (tt, (tt, (tt, (tt, (lt, (lp, (lr, tt)))))))) $ says ! said $
       nothing ! $ move ! (7 ∷ 0 ∷ []) $ join ! $ move ! (5 ∷ 0 ∷ []) $ join ! $ move ! (3 ∷ 0 ∷ []) $ join ! $ move ! (6 ∷ 0 ∷ []) $ join ! $ frame ! $
       -- [the result; the table; the path; the reports; the floor]
       nothing ! $ move ! (4 ∷ 0 ∷ []) $ fjoin ! $ move ! (3 ∷ 0 ∷ []) $ fjoin ! $ move ! (2 ∷ 0 ∷ []) $ fjoin ! $
@@ -397,7 +401,8 @@ module _ {M : Type 1} (𝓤 : URA M) (H : Heap 𝓤) (A : Atoms 𝓤) (W : Given
           ∷ ‵ (froom ref-p l₁₅ 0) ∷ ‵ (fdies ref-p l₁₅) ∷ ‵ (froom (sliceTy ref-t) l₁₄ 0) ∷ ‵ (fdies (sliceTy ref-t) l₁₄) ∷ ‵ (froom ref-t l₁₃ 0) ∷ ‵ (fdies ref-t l₁₃)
           ∷ ‵ (froom T′.mir l₁₂ 0) ∷ ‵ (fdies T′.mir l₁₂) ∷ i₁₁ ∷ ‵ (fdies word l₁₁) ∷ i₁₀ ∷ ‵ (fdies word l₁₀) ∷ i₉ ∷ ‵ (fdies O′.mir l₉) ∷ i₈ ∷ ‵ (fdies word l₈)
           ∷ ‵ (fat fullShare slice-r l₇ 0 sr) ∷ ‵ (fdies slice-r l₇) ∷ ‵ (fat fullShare slice-p l₆ 0 (sv pa)) ∷ ‵ (fdies slice-p l₆) ∷ ‵ (fat fullShare slice-t l₅ 0 (sv tb)) ∷ ‵ (fdies slice-t l₅)
-          ∷ ‵ (fat fullShare word l₄ 0 (vint w64 trials)) ∷ ‵ (fdies word l₄) ∷ ‵ (fat fullShare word l₃ 0 (vint w64 start)) ∷ ‵ (fdies word l₃) ∷ ‵ (fat fullShare slice-f l₂ 0 (sv fl)) ∷ ‵ (fdies slice-f l₂)
+          ∷ ‵ (fat fullShare word l₄ 0 (vint w64 trials)) ∷ ‵ (fdies word l₄) ∷ ‵ (fat fullShare word l₃ 0 (vint w64 start)) ∷ ‵ (fdies word l₃) ∷ ‵ (fat fullShare slice-f l₂ 0 (sv fl)) ∷ ‵
+          (fdies slice-f l₂)
           ∷ ‵ (fat fullShare J′.mir l₁ 0 sj) ∷ ‵ (fdies J′.mir l₁) ∷ ‵ (froom R′.mir l₀ 0) ∷ ‵ (fdies R′.mir l₀) ∷ more
 
       -- the context of a run whose lists stand so
@@ -419,82 +424,115 @@ module _ {M : Type 1} (𝓤 : URA M) (H : Heap 𝓤) (A : Atoms 𝓤) (W : Given
         ends : (i : Here v) → ltb (i .made) (i .limit) ≡ false → Sq W (At i) (runs C Λ En mir′.turn-1 (anyQ (Turned i)))
         unfolding afterTurn
         ends i over =
-            assigns ! (bin ! (load ! (from ! (stop !)) (look ! 34 refl)) (load ! (from ! (stop !)) (look ! 36 refl)) tt) (from ! (stop !)) (init ! 22 refl (tt, tt)) $ rewrite ! 22 (λ (t : Bool). ‵ (fat fullShare tyBool l₁₇ 0 (vbool t))) over refl $
+            assigns ! (bin ! (load ! (from ! (stop !)) (look ! 34 refl)) (load ! (from ! (stop !)) (look ! 36 refl)) tt) (from ! (stop !)) (init ! 22 refl (tt, tt)) $ rewrite ! 22
+            (λ (t : Bool). ‵ (fat fullShare tyBool l₁₇ 0 (vbool t))) over refl $
             leaves-loop ! (load ! (from ! (stop !)) (look ! 22 refl)) $ exec ! C Λ En mir′.t-10 (atRet En Post) $
             use0 W (raw (Answer 𝓤 H A mem run .pre (to-answer v wv (i .made) (i .limit)))) (goes-answer v wv is-v (i .made) (i .limit) (made-fits i) (limit-fits i)) $
             calls-at ! fm (Answer 𝓤 H A mem run) known-answer (to-answer v wv (i .made) (i .limit))
             (and-then ! (load ! (from ! (stop !)) (look ! 39 refl)) (and-then ! (load ! (from ! (stop !)) (look ! 35 refl)) (and-then ! (load ! (from ! (stop !)) (look ! 37 refl)) (no-more !)))) (λ u.
-            use1 W (later (some (λ (t : Ran). (‵ ftrue ⊛ ‵ (R.the-row .own t (u ∷ []))) ⊛ raw (ensured 𝓤 H A answer.ended (answer.clauses 𝓤 H A mem run) tt (v, (i .made, (i .limit, tt))) tt t)))) (id⊢ 𝓤 _) $ await ! tt $ pick ! (λ t. split ! $ move ! (1 ∷ []) $
+            use1 W (later (some (λ (t : Ran). (‵ ftrue ⊛ ‵ (R.the-row .own t (u ∷ []))) ⊛ raw (ensured 𝓤 H A answer.ended (answer.clauses 𝓤 H A mem run) tt (v, (i .made, (i .limit, tt))) tt t))))
+            (id⊢ 𝓤 _) $ await ! tt $ pick ! (λ t. split ! $ move ! (1 ∷ []) $
             use1 W (raw (fact 𝓤 (t ≡ answered v (i .made) (i .limit)))) (answer-said 𝓤 H A mem run v (i .made) (i .limit) t) $ heard ! (t ≡ answered v (i .made) (i .limit)) (λ told. split ! $ drop ! $
             peeks ! R.the-row (Is R.the-row) (shows 𝓤 H A R.the-row) t (u ∷ []) (λ is-t. land ! (from ! (stop !)) (init ! 57 refl (EL.lawful R.the-type R′.the-laws 𝓤 H A W tt .typed t _ is-t .0)) $
             returns ! (look ! 57 refl) $
-            forget ! 23 refl $ forget ! 35 refl $ forget ! 37 refl $ forget ! 39 refl $ forget ! 41 refl $ forget ! 43 refl $ forget ! 45 refl $ forget ! 47 refl $ forget ! 49 refl $ forget ! 51 refl $ forget ! 53 refl $ forget ! 55 refl $ forget ! 57 refl $
-            move ! (57 ∷ 58 ∷ []) $ free1 ! $ move ! (55 ∷ 56 ∷ []) $ free1 ! $ move ! (53 ∷ 54 ∷ []) $ free1 ! $ move ! (51 ∷ 52 ∷ []) $ free1 ! $ move ! (49 ∷ 50 ∷ []) $ free1 ! $ move ! (47 ∷ 48 ∷ []) $ free1 ! $ move ! (45 ∷ 46 ∷ []) $ free1 ! $ move ! (43 ∷ 44 ∷ []) $ free1 ! $ move ! (41 ∷ 42 ∷ []) $ free1 ! $ move ! (39 ∷ 40 ∷ []) $ free1 ! $ move ! (37 ∷ 38 ∷ []) $ free1 ! $ move ! (35 ∷ 36 ∷ []) $ free1 ! $ move ! (33 ∷ 34 ∷ []) $ free1 ! $ move ! (31 ∷ 32 ∷ []) $ free1 ! $ move ! (29 ∷ 30 ∷ []) $ free1 ! $ move ! (27 ∷ 28 ∷ []) $ free1 ! $ move ! (25 ∷ 26 ∷ []) $ free1 ! $ move ! (23 ∷ 24 ∷ []) $ free1 ! $ move ! (21 ∷ 22 ∷ []) $ free1 ! $ move ! (19 ∷ 20 ∷ []) $ free1 ! $ move ! (17 ∷ 18 ∷ []) $ free1 ! $ move ! (15 ∷ 16 ∷ []) $ free1 ! $ move ! (13 ∷ 14 ∷ []) $ free1 ! $ move ! (11 ∷ 12 ∷ []) $ free1 ! $ move ! (9 ∷ 10 ∷ []) $ free1 ! $ free0 ! $
+            forget ! 23 refl $ forget ! 35 refl $ forget ! 37 refl $ forget ! 39 refl $ forget ! 41 refl $ forget ! 43 refl $ forget ! 45 refl $ forget ! 47 refl $ forget ! 49 refl $ forget ! 51
+            refl $ forget ! 53 refl $ forget ! 55 refl $ forget ! 57 refl $
+            move ! (57 ∷ 58 ∷ []) $ free1 ! $ move ! (55 ∷ 56 ∷ []) $ free1 ! $ move ! (53 ∷ 54 ∷ []) $ free1 ! $ move ! (51 ∷ 52 ∷ []) $ free1 ! $ move ! (49 ∷ 50 ∷ []) $ free1 ! $ move !
+            (47 ∷ 48 ∷ []) $ free1 ! $ move ! (45 ∷ 46 ∷ []) $ free1 ! $ move ! (43 ∷ 44 ∷ []) $ free1 ! $ move ! (41 ∷ 42 ∷ []) $ free1 ! $ move ! (39 ∷ 40 ∷ []) $ free1 ! $ move !
+            (37 ∷ 38 ∷ []) $ free1 ! $ move ! (35 ∷ 36 ∷ []) $ free1 ! $ move ! (33 ∷ 34 ∷ []) $ free1 ! $ move ! (31 ∷ 32 ∷ []) $ free1 ! $ move ! (29 ∷ 30 ∷ []) $ free1 ! $ move !
+            (27 ∷ 28 ∷ []) $ free1 ! $ move ! (25 ∷ 26 ∷ []) $ free1 ! $ move ! (23 ∷ 24 ∷ []) $ free1 ! $ move ! (21 ∷ 22 ∷ []) $ free1 ! $ move ! (19 ∷ 20 ∷ []) $ free1 ! $ move !
+            (17 ∷ 18 ∷ []) $ free1 ! $ move ! (15 ∷ 16 ∷ []) $ free1 ! $ move ! (13 ∷ 14 ∷ []) $ free1 ! $ move ! (11 ∷ 12 ∷ []) $ free1 ! $ move ! (9 ∷ 10 ∷ []) $ free1 ! $ free0 ! $
             keep ! (0 ∷ 1 ∷ 2 ∷ 3 ∷ 4 ∷ 5 ∷ 6 ∷ 7 ∷ 8 ∷ []) $
-            by ! (exits t u (i .table) (i .path) (i .reports) (subst (λ (y : Ran). IsRun outcome y (i .table) (i .path) (i .reports)) (sym told) (C′.ends job (fl .now) start outcome v (i .made) (i .limit) (i .table) (i .path) (i .reports) (i .running) (ltb-false (i .made) (i .limit) over))) (i .table-long) (i .path-long) (i .reports-long))))))
+            by ! (exits t u (i .table) (i .path) (i .reports) (subst (λ (y : Ran). IsRun outcome y (i .table) (i .path) (i .reports)) (sym told)
+            (C′.ends job (fl .now) start outcome v (i .made) (i .limit) (i .table) (i .path) (i .reports) (i .running) (ltb-false (i .made) (i .limit) over))) (i .table-long) (i .path-long)
+            (i .reports-long))))))
 
         -- a turn that makes a trial
         more : (i : Here v) → ltb (i .made) (i .limit) ≡ true → Sq W (At i) (runs C Λ En mir′.turn-1 (anyQ (Turned i)))
         unfolding afterTurn
         more i test =
-            assigns ! (bin ! (load ! (from ! (stop !)) (look ! 34 refl)) (load ! (from ! (stop !)) (look ! 36 refl)) tt) (from ! (stop !)) (init ! 22 refl (tt, tt)) $ rewrite ! 22 (λ (t : Bool). ‵ (fat fullShare tyBool l₁₇ 0 (vbool t))) test refl $ stays ! (load ! (from ! (stop !)) (look ! 22 refl)) $
+            assigns ! (bin ! (load ! (from ! (stop !)) (look ! 34 refl)) (load ! (from ! (stop !)) (look ! 36 refl)) tt) (from ! (stop !)) (init ! 22 refl (tt, tt)) $ rewrite ! 22
+            (λ (t : Bool). ‵ (fat fullShare tyBool l₁₇ 0 (vbool t))) test refl $ stays ! (load ! (from ! (stop !)) (look ! 22 refl)) $
             -- `ride`, with the table and the path lent on
             assigns ! (addr ! (from ! (fld ! refl (hop ! (look-in ! 46 (sub ! 0 refl (whole !))) (stop !))))) (from ! (stop !)) (init ! 20 refl (tt, tt)) $
-            assigns ! (agg ! (and-then ! (load ! (from ! (stop !)) (look ! 20 refl)) (and-then ! (load ! (from ! (fld ! refl (stop !))) (look-in ! 46 (sub ! 1 refl (whole !)))) (no-more !)))) (from ! (stop !)) (init ! 18 refl (tt, (tt, (record { fits = room-t .0 }, tt)))) $
+            assigns ! (agg ! (and-then ! (load ! (from ! (stop !)) (look ! 20 refl)) (and-then ! (load ! (from ! (fld ! refl (stop !))) (look-in ! 46 (sub ! 1 refl (whole !)))) (no-more !))))
+            (from ! (stop !)) (init ! 18 refl (tt, (tt, (record { fits = room-t .0 }, tt)))) $
             assigns ! (addr ! (from ! (fld ! refl (hop ! (look-in ! 44 (sub ! 0 refl (whole !))) (stop !))))) (from ! (stop !)) (init ! 16 refl (tt, tt)) $
-            assigns ! (agg ! (and-then ! (load ! (from ! (stop !)) (look ! 16 refl)) (and-then ! (load ! (from ! (fld ! refl (stop !))) (look-in ! 44 (sub ! 1 refl (whole !)))) (no-more !)))) (from ! (stop !)) (init ! 14 refl (tt, (tt, (record { fits = room-p .0 }, tt)))) $
+            assigns ! (agg ! (and-then ! (load ! (from ! (stop !)) (look ! 16 refl)) (and-then ! (load ! (from ! (fld ! refl (stop !))) (look-in ! 44 (sub ! 1 refl (whole !)))) (no-more !))))
+            (from ! (stop !)) (init ! 14 refl (tt, (tt, (record { fits = room-p .0 }, tt)))) $
             lft-new ! tt (λ ν₁. lft-new ! tt (λ ν₂. move ! (2 ∷ 3 ∷ []) $
             use2 W (later (some (λ (δ : GName). ‵ (TableOn ν₁ δ (i .table)) ⊛ ‵ (Waits u32 κ₁ (ν₁ ∷ []) q₁ (tb .name) (tb .ptr .0) (tb .ptr .1) (length (tb .now)) δ (i .table)))))
-            (lends-on u32 κ₁ (ν₁ ∷ []) q₁ (tb .name) (tb .ptr .0) (tb .ptr .1) 𝓤 H A W (named 1) (named 1) (i .table) (length (tb .now)) (i .table-long)) $ await ! tt $ pick ! (λ δ₁. split ! $ move ! (4 ∷ 5 ∷ []) $
+            (lends-on u32 κ₁ (ν₁ ∷ []) q₁ (tb .name) (tb .ptr .0) (tb .ptr .1) 𝓤 H A W (named 1) (named 1) (i .table) (length (tb .now)) (i .table-long)) $ await ! tt $ pick !
+            (λ δ₁. split ! $ move ! (4 ∷ 5 ∷ []) $
             use2 W (later (some (λ (δ : GName). ‵ (PathOn ν₂ δ (i .path)) ⊛ ‵ (Waits u16 κ₂ (ν₂ ∷ []) q₂ (pa .name) (pa .ptr .0) (pa .ptr .1) (length (pa .now)) δ (i .path)))))
-            (lends-on u16 κ₂ (ν₂ ∷ []) q₂ (pa .name) (pa .ptr .0) (pa .ptr .1) 𝓤 H A W (named 2) (named 2) (i .path) (length (pa .now)) (i .path-long)) $ await ! tt $ pick ! (λ δ₂. split ! $ move ! (8 ∷ []) $
+            (lends-on u16 κ₂ (ν₂ ∷ []) q₂ (pa .name) (pa .ptr .0) (pa .ptr .1) 𝓤 H A W (named 2) (named 2) (i .path) (length (pa .now)) (i .path-long)) $ await ! tt $ pick !
+            (λ δ₂. split ! $ move ! (8 ∷ []) $
             use1 W (‵ Floor ⊛ ‵ Floor) (shr-slice-copy 𝓤 H A W (named 0) κ₀ u8 .twice fl (sv fl ∷ [])) $ split ! $ move ! (10 ∷ 7 ∷ 6 ∷ 0 ∷ 4 ∷ 2 ∷ []) $ join ! $ join ! $ join ! $ join ! $ join ! $
             use1 W (raw (RideOf 𝓤 H A mem run .pre (to-ride ν₁ ν₂ δ₁ δ₂ (i .table) (i .path)))) (goes-ride ν₁ ν₂ δ₁ δ₂ (i .table) (i .path) (C′.may-ride job (fl .now) start (i .running) less)) $
             calls-at ! fm (RideOf 𝓤 H A mem run) known-ride (to-ride ν₁ ν₂ δ₁ δ₂ (i .table) (i .path))
-            (and-then ! (load ! (from ! (stop !)) (look ! 52 refl)) (and-then ! (load ! (from ! (stop !)) (look ! 50 refl)) (and-then ! (load ! (from ! (stop !)) (look ! 48 refl)) (and-then ! (load ! (from ! (stop !)) (look ! 16 refl)) (and-then ! (load ! (from ! (stop !)) (look ! 12 refl)) (no-more !)))))) (λ w.
-            use1 W (later (some (λ (r : Report). (toks ν₁ ν₂ ⊛ ‵ (T.the-row .own r (w ∷ []))) ⊛ raw (ensured 𝓤 H A ride′.ended (ride′.clauses 𝓤 H A mem run) (κ₀, (ν₁ ∷ [], (ν₂ ∷ [], tt))) (ridden δ₁ δ₂ (i .table) (i .path)) tt r)))) (id⊢ 𝓤 _) $ await ! tt $ pick ! (λ r. split ! $ move ! (1 ∷ []) $
-            use1 W (some (λ (zs : Unit {0} × (Unit {0} × (Unit {0} × (List ℕ × (List ℕ × Unit {0}))))). ‵ (lasts ride′.ended (κ₀, (ν₁ ∷ [], (ν₂ ∷ [], tt))) (ridden δ₁ δ₂ (i .table) (i .path)) zs) ⊛ raw (fact 𝓤 (Rode job (fl .now) (ride job (fl .now) start (i .table) (i .path)) r (zs .1 .1 .1 .0) (zs .1 .1 .1 .1 .0))))) (id⊢ 𝓤 _) $ pick ! (λ zs. split ! $ move ! (1 ∷ []) $
+            (and-then ! (load ! (from ! (stop !)) (look ! 52 refl)) (and-then ! (load ! (from ! (stop !)) (look ! 50 refl))
+            (and-then ! (load ! (from ! (stop !)) (look ! 48 refl)) (and-then ! (load ! (from ! (stop !)) (look ! 16 refl))
+            (and-then ! (load ! (from ! (stop !)) (look ! 12 refl)) (no-more !)))))) (λ w.
+            use1 W (later (some (λ (r : Report). (toks ν₁ ν₂ ⊛ ‵ (T.the-row .own r (w ∷ []))) ⊛ raw
+            (ensured 𝓤 H A ride′.ended (ride′.clauses 𝓤 H A mem run) (κ₀, (ν₁ ∷ [], (ν₂ ∷ [], tt))) (ridden δ₁ δ₂ (i .table) (i .path)) tt r)))) (id⊢ 𝓤 _) $ await ! tt $ pick !
+            (λ r. split ! $ move ! (1 ∷ []) $
+            use1 W (some (λ (zs : Unit {0} × (Unit {0} × (Unit {0} × (List ℕ × (List ℕ × Unit {0}))))). ‵ (lasts ride′.ended (κ₀, (ν₁ ∷ [], (ν₂ ∷ [], tt))) (ridden δ₁ δ₂ (i .table) (i .path)) zs)
+            ⊛ raw (fact 𝓤 (Rode job (fl .now) (ride job (fl .now) start (i .table) (i .path)) r (zs .1 .1 .1 .0) (zs .1 .1 .1 .1 .0))))) (id⊢ 𝓤 _) $ pick ! (λ zs. split ! $ move ! (1 ∷ []) $
             heard ! (Rode job (fl .now) (ride job (fl .now) start (i .table) (i .path)) r (zs .1 .1 .1 .0) (zs .1 .1 .1 .1 .0)) (λ rode.
-            fsplit ! $ move ! (1 ∷ []) $ fsplit ! $ move ! (1 ∷ []) $ fsplit ! $ move ! (1 ∷ []) $ fsplit ! $ fsplit ! $ move ! (1 ∷ []) $ feqL ! (λ same-t. move ! (1 ∷ []) $ fsplit ! $ fsplit ! $ move ! (1 ∷ []) $ feqL ! (λ same-p.
+            fsplit ! $ move ! (1 ∷ []) $ fsplit ! $ move ! (1 ∷ []) $ fsplit ! $ move ! (1 ∷ []) $ fsplit ! $ fsplit ! $ move ! (1 ∷ []) $ feqL !
+            (λ same-t. move ! (1 ∷ []) $ fsplit ! $ fsplit ! $ move ! (1 ∷ []) $ feqL ! (λ same-p.
             move ! (6 ∷ []) $ split ! $ move ! (1 ∷ []) $
-            peeks ! T.the-row (Is T.the-row) (shows 𝓤 H A T.the-row) r (w ∷ []) (λ is-r. land ! (from ! (stop !)) (init ! 37 refl (LL.lawful T.the-type T′.the-laws 𝓤 H A W .typed r _ is-r .0)) $ drop ! $
+            peeks ! T.the-row (Is T.the-row) (shows 𝓤 H A T.the-row) r (w ∷ []) (λ is-r. land ! (from ! (stop !)) (init ! 37 refl (LL.lawful T.the-type T′.the-laws 𝓤 H A W .typed r _ is-r .0)) $
+            drop ! $
             split ! $ move ! (1 ∷ []) $ split ! $ move ! (1 ∷ []) $ split ! $
             lft-end ! tt $ move ! (0 ∷ 11 ∷ 4 ∷ []) $
             use3 W (later (‵ (Path′ (zs .1 .1 .1 .1 .0)) ⊛ ‵ (flft κ₂ q₂)))
-            (comes-back u16 κ₂ (ν₂ ∷ []) q₂ (pa .name) (pa .ptr .0) (pa .ptr .1) 𝓤 H A W (named 2) (named 2) (i .path) (length (pa .now)) (i .path-long) δ₂ (zs .1 .1 .1 .1 .0) room-p same-p) $ await ! tt $ split ! $
+            (comes-back u16 κ₂ (ν₂ ∷ []) q₂ (pa .name) (pa .ptr .0) (pa .ptr .1) 𝓤 H A W (named 2) (named 2) (i .path) (length (pa .now)) (i .path-long) δ₂ (zs .1 .1 .1 .1 .0) room-p same-p) $
+            await ! tt $ split ! $
             move ! (3 ∷ []) $ lft-end ! tt $ move ! (0 ∷ 11 ∷ 6 ∷ []) $
             use3 W (later (‵ (Table (zs .1 .1 .1 .0)) ⊛ ‵ (flft κ₁ q₁)))
-            (comes-back u32 κ₁ (ν₁ ∷ []) q₁ (tb .name) (tb .ptr .0) (tb .ptr .1) 𝓤 H A W (named 1) (named 1) (i .table) (length (tb .now)) (i .table-long) δ₁ (zs .1 .1 .1 .0) room-t same-t) $ await ! tt $ split ! $
+            (comes-back u32 κ₁ (ν₁ ∷ []) q₁ (tb .name) (tb .ptr .0) (tb .ptr .1) 𝓤 H A W (named 1) (named 1) (i .table) (length (tb .now)) (i .table-long) δ₁ (zs .1 .1 .1 .0) room-t same-t) $
+            await ! tt $ split ! $
             -- `store_report`, with the reports lent on
             assigns ! (addr ! (from ! (fld ! refl (hop ! (look-in ! 47 (sub ! 0 refl (whole !))) (stop !))))) (from ! (stop !)) (init ! 15 refl (tt, tt)) $
-            assigns ! (agg ! (and-then ! (load ! (from ! (stop !)) (look ! 15 refl)) (and-then ! (load ! (from ! (fld ! refl (stop !))) (look-in ! 47 (sub ! 1 refl (whole !)))) (no-more !)))) (from ! (stop !)) (init ! 13 refl (tt, (tt, (record { fits = room .0 }, tt)))) $
+            assigns ! (agg ! (and-then ! (load ! (from ! (stop !)) (look ! 15 refl)) (and-then ! (load ! (from ! (fld ! refl (stop !))) (look-in ! 47 (sub ! 1 refl (whole !)))) (no-more !))))
+            (from ! (stop !)) (init ! 13 refl (tt, (tt, (record { fits = room .0 }, tt)))) $
             lft-new ! tt (λ ν₃. move ! (12 ∷ 13 ∷ []) $
             use2 W (later (some (λ (δ : GName). ‵ (ReportsOn ν₃ δ (i .reports)) ⊛ ‵ (Waits T.the-row κ₃ (ν₃ ∷ []) q₃ (re .name) (re .ptr .0) (re .ptr .1) (length (re .now)) δ (i .reports)))))
-            (lends-on T.the-row κ₃ (ν₃ ∷ []) q₃ (re .name) (re .ptr .0) (re .ptr .1) 𝓤 H A W (named 3) (named 0) (i .reports) (length (re .now)) (i .reports-long)) $ await ! tt $ pick ! (λ δ₃. split ! $ move ! (2 ∷ 0 ∷ []) $
-            use2 W (raw (StoreReport 𝓤 H A mem run .pre (to-store ν₃ δ₃ (i .reports) (i .made) r w))) (goes-store ν₃ δ₃ (i .reports) (i .made) r w is-r (made-fits i) (C′.has-room job (fl .now) start (i .running) less)) $
+            (lends-on T.the-row κ₃ (ν₃ ∷ []) q₃ (re .name) (re .ptr .0) (re .ptr .1) 𝓤 H A W (named 3) (named 0) (i .reports) (length (re .now)) (i .reports-long)) $ await ! tt $ pick !
+            (λ δ₃. split ! $ move ! (2 ∷ 0 ∷ []) $
+            use2 W (raw (StoreReport 𝓤 H A mem run .pre (to-store ν₃ δ₃ (i .reports) (i .made) r w)))
+            (goes-store ν₃ δ₃ (i .reports) (i .made) r w is-r (made-fits i) (C′.has-room job (fl .now) start (i .running) less)) $
             calls-at ! fm (StoreReport 𝓤 H A mem run) known-store (to-store ν₃ δ₃ (i .reports) (i .made) r w)
             (and-then ! (load ! (from ! (stop !)) (look ! 13 refl)) (and-then ! (load ! (from ! (stop !)) (look ! 39 refl)) (and-then ! (load ! (from ! (stop !)) (look ! 37 refl)) (no-more !)))) (λ u.
-            use1 W (later (some (λ (t : Unit {0}). ((‵ (flft (ν₃ ∷ []) fullShare) ⊛ ‵ ftrue) ⊛ ‵ (Nothing .own t (u ∷ []))) ⊛ raw (ensured 𝓤 H A store-report.ended (store-report.clauses 𝓤 H A mem run) (ν₃ ∷ [], tt) (stored δ₃ (i .reports) (i .made) r) tt t)))) (id⊢ 𝓤 _) $ await ! tt $ pick ! (λ t. split ! $ move ! (1 ∷ []) $
-            use1 W (some (λ (ys : List Report × (Unit {0} × (Unit {0} × Unit {0}))). ‵ (lasts store-report.ended (ν₃ ∷ [], tt) (stored δ₃ (i .reports) (i .made) r) ys) ⊛ raw (fact 𝓤 (ys .0 ≡ set (i .reports) (i .made) r)))) (id⊢ 𝓤 _) $ pick ! (λ ys. split ! $ move ! (1 ∷ []) $
+            use1 W (later (some (λ (t : Unit {0}). ((‵ (flft (ν₃ ∷ []) fullShare) ⊛ ‵ ftrue) ⊛ ‵ (Nothing .own t (u ∷ []))) ⊛ raw
+            (ensured 𝓤 H A store-report.ended (store-report.clauses 𝓤 H A mem run) (ν₃ ∷ [], tt) (stored δ₃ (i .reports) (i .made) r) tt t)))) (id⊢ 𝓤 _) $ await ! tt $ pick !
+            (λ t. split ! $ move ! (1 ∷ []) $
+            use1 W (some (λ (ys : List Report × (Unit {0} × (Unit {0} × Unit {0}))). ‵ (lasts store-report.ended (ν₃ ∷ [], tt) (stored δ₃ (i .reports) (i .made) r) ys) ⊛ raw
+            (fact 𝓤 (ys .0 ≡ set (i .reports) (i .made) r)))) (id⊢ 𝓤 _) $ pick ! (λ ys. split ! $ move ! (1 ∷ []) $
             heard ! (ys .0 ≡ set (i .reports) (i .made) r) (λ put. fsplit ! $ fsplit ! $ move ! (1 ∷ []) $ feqL ! (λ same-r.
             move ! (2 ∷ []) $ split ! $ move ! (1 ∷ []) $
             peeks ! Nothing (Is Nothing) (shows 𝓤 H A Nothing) t (u ∷ []) (λ is-u. land ! (from ! (stop !)) (init ! 20 refl (nothing-lawful 𝓤 H A W .typed t _ is-u .0)) $ drop ! $ split ! $
             lft-end ! tt $ move ! (0 ∷ 4 ∷ 2 ∷ []) $
             use3 W (later (‵ (Reports (ys .0)) ⊛ ‵ (flft κ₃ q₃)))
-            (comes-back T.the-row κ₃ (ν₃ ∷ []) q₃ (re .name) (re .ptr .0) (re .ptr .1) 𝓤 H A W (named 3) (named 0) (i .reports) (length (re .now)) (i .reports-long) δ₃ (ys .0) room same-r) $ await ! tt $ split ! $
+            (comes-back T.the-row κ₃ (ν₃ ∷ []) q₃ (re .name) (re .ptr .0) (re .ptr .1) 𝓤 H A W (named 3) (named 0) (i .reports) (length (re .now)) (i .reports-long) δ₃ (ys .0) room same-r) $
+            await ! tt $ split ! $
             rewrite ! 0 (λ (l : List Report). ‵ (Reports l)) put refl $
             -- `limit_after`, and one more is made
             use0 W (raw (LimitAfter 𝓤 H A mem run .pre (to-limit (i .limit) r w))) (goes-limit (i .limit) r w is-r (limit-fits i)) $
             calls-at ! fm (LimitAfter 𝓤 H A mem run) known-limit (to-limit (i .limit) r w)
             (and-then ! (load ! (from ! (stop !)) (look ! 44 refl)) (and-then ! (load ! (from ! (stop !)) (look ! 40 refl)) (no-more !))) (λ y.
-            use1 W (later (some (λ (n : ℕ). (‵ ftrue ⊛ ‵ (usize .own n (y ∷ []))) ⊛ raw (ensured 𝓤 H A limit-after.ended (limit-after.clauses 𝓤 H A mem run) tt (i .limit, (r, tt)) tt n)))) (id⊢ 𝓤 _) $ await ! tt $ pick ! (λ n. split ! $ move ! (1 ∷ []) $
+            use1 W (later (some (λ (n : ℕ). (‵ ftrue ⊛ ‵ (usize .own n (y ∷ []))) ⊛ raw (ensured 𝓤 H A limit-after.ended (limit-after.clauses 𝓤 H A mem run) tt (i .limit, (r, tt)) tt n))))
+            (id⊢ 𝓤 _) $ await ! tt $ pick ! (λ n. split ! $ move ! (1 ∷ []) $
             use1 W (raw (fact 𝓤 (n ≡ limitAfter (i .limit) r))) (limit-said 𝓤 H A mem run (i .limit) r n) $ heard ! (n ≡ limitAfter (i .limit) r) (λ told. split ! $ drop ! $
             peeks ! usize (Is usize) (shows 𝓤 H A usize) n (y ∷ []) (λ is-n. land ! (from ! (stop !)) (store ! 44 refl (word-typed n y is-n)) $ drop ! $
             rewrite ! 43 (λ (y : Val). ‵ (fat fullShare word l₁₀ 0 y)) (word-is n y is-n ∙ ap (λ (k : ℕ). vint w64 k) told) refl $
             assigns-last ! (bin ! (load ! (from ! (stop !)) (look ! 41 refl)) (lit ! tt) (record { fits = next-fits })) (from ! (stop !)) (store ! 41 refl (tt, record { fits = next-fits })) $
             forget ! 15 refl $ forget ! 17 refl $ forget ! 19 refl $ forget ! 21 refl $ forget ! 23 refl $ forget ! 25 refl $ forget ! 27 refl $ forget ! 29 refl $ forget ! 39 refl $
-            keep ! (4 ∷ 5 ∷ 6 ∷ 7 ∷ 0 ∷ 1 ∷ 14 ∷ 9 ∷ 15 ∷ 16 ∷ 17 ∷ 18 ∷ 19 ∷ 20 ∷ 21 ∷ 22 ∷ 23 ∷ 24 ∷ 25 ∷ 26 ∷ 27 ∷ 28 ∷ 29 ∷ 30 ∷ 31 ∷ 32 ∷ 33 ∷ 34 ∷ 35 ∷ 36 ∷ 37 ∷ 38 ∷ 39 ∷ 40 ∷ 41 ∷ 42 ∷ 43 ∷ 44 ∷ 45 ∷ 46 ∷ 47 ∷ 48 ∷ 49 ∷ 50 ∷ 51 ∷ 52 ∷ 53 ∷ 54 ∷ 55 ∷ 56 ∷ 57 ∷ 58 ∷ 59 ∷ 60 ∷ 61 ∷ 62 ∷ 63 ∷ 64 ∷ []) $
-            again ! (Nearer v) At i (C′.after job (fl .now) start outcome v (length (tb .now)) (length (pa .now)) (length (re .now)) i less r (zs .1 .1 .1 .0) (zs .1 .1 .1 .1 .0) rode same-t same-p) (C′.fewer job (fl .now) start (i .made) (i .limit) r less))))))))))))))))))))))))
+            keep ! (4 ∷ 5 ∷ 6 ∷ 7 ∷ 0 ∷ 1 ∷ 14 ∷ 9 ∷ 15 ∷ 16 ∷ 17 ∷ 18 ∷ 19 ∷ 20 ∷ 21 ∷ 22 ∷ 23 ∷ 24 ∷ 25 ∷ 26 ∷ 27 ∷ 28 ∷ 29 ∷ 30 ∷ 31 ∷ 32 ∷ 33 ∷ 34 ∷ 35 ∷ 36 ∷ 37 ∷ 38 ∷ 39 ∷ 40 ∷ 41 ∷ 42 ∷ 43
+            ∷ 44 ∷ 45 ∷ 46 ∷ 47 ∷ 48 ∷ 49 ∷ 50 ∷ 51 ∷ 52 ∷ 53 ∷ 54 ∷ 55 ∷ 56 ∷ 57 ∷ 58 ∷ 59 ∷ 60 ∷ 61 ∷ 62 ∷ 63 ∷ 64 ∷ []) $
+            again ! (Nearer v) At i (C′.after job (fl .now) start outcome v (length (tb .now)) (length (pa .now)) (length (re .now)) i less r (zs .1 .1 .1 .0) (zs .1 .1 .1 .1 .0) rode same-t
+            same-p) (C′.fewer job (fl .now) start (i .made) (i .limit) r less))))))))))))))))))))))))
           where
             less : i .made < i .limit
             less = ltb-true (i .made) (i .limit) test
@@ -515,7 +553,8 @@ module _ {M : Type 1} (𝓤 : URA M) (H : Heap 𝓤) (A : Atoms 𝓤) (W : Given
             use0 W (raw (Allowed 𝓤 H A mem run .pre (to-allowed v wv))) (goes-allowed v wv is-v) $
             calls-at ! fm (Allowed 𝓤 H A mem run) known-allowed (to-allowed v wv)
             (and-then ! (load ! (from ! (stop !)) (look ! 39 refl)) (and-then ! (load ! (from ! (stop !)) (look ! 49 refl)) (no-more !))) (λ u.
-            use1 W (later (some (λ (n : ℕ). (‵ ftrue ⊛ ‵ (usize .own n (u ∷ []))) ⊛ raw (ensured 𝓤 H A allowed.ended (allowed.clauses 𝓤 H A mem run) tt (v, (trials, tt)) tt n)))) (id⊢ 𝓤 _) $ await ! tt $ pick ! (λ n. split ! $ move ! (1 ∷ []) $
+            use1 W (later (some (λ (n : ℕ). (‵ ftrue ⊛ ‵ (usize .own n (u ∷ []))) ⊛ raw (ensured 𝓤 H A allowed.ended (allowed.clauses 𝓤 H A mem run) tt (v, (trials, tt)) tt n)))) (id⊢ 𝓤 _) $
+            await ! tt $ pick ! (λ n. split ! $ move ! (1 ∷ []) $
             use1 W (raw (fact 𝓤 (n ≡ allowedBy v trials))) (allowed-said 𝓤 H A mem run v trials n) $ heard ! (n ≡ allowedBy v trials) (λ told. split ! $ drop ! $
             peeks ! usize (Is usize) (shows 𝓤 H A usize) n (u ∷ []) (λ is-n. land ! (from ! (stop !)) (init ! 37 refl (word-typed n u is-n)) $ drop ! $
             rewrite ! 36 (λ (y : Val). ‵ (fat fullShare word l₁₀ 0 y)) (word-is n u is-n ∙ ap (λ (k : ℕ). vint w64 k) told) refl $
@@ -530,11 +569,14 @@ module _ {M : Type 1} (𝓤 : URA M) (H : Heap 𝓤) (A : Atoms 𝓤) (W : Given
       opens =
           assigns ! (of-opd ! (load ! (from ! (fld ! refl (stop !))) (look-in ! 34 (sub ! 1 refl (whole !))))) (from ! (stop !)) (init ! 32 refl (tt, record { fits = room .0 })) $
           assigns ! (addr ! (from ! (fld ! refl (hop ! (look-in ! 38 (sub ! 0 refl (whole !))) (stop !))))) (from ! (stop !)) (init ! 22 refl (tt, tt)) $
-          assigns ! (agg ! (and-then ! (load ! (from ! (stop !)) (look ! 22 refl)) (and-then ! (load ! (from ! (fld ! refl (stop !))) (look-in ! 38 (sub ! 1 refl (whole !)))) (no-more !)))) (from ! (stop !)) (init ! 20 refl (tt, (tt, (record { fits = room-t .0 }, tt)))) $
+          assigns ! (agg ! (and-then ! (load ! (from ! (stop !)) (look ! 22 refl)) (and-then ! (load ! (from ! (fld ! refl (stop !))) (look-in ! 38 (sub ! 1 refl (whole !)))) (no-more !))))
+          (from ! (stop !)) (init ! 20 refl (tt, (tt, (record { fits = room-t .0 }, tt)))) $
           assigns ! (addr ! (from ! (fld ! refl (hop ! (look-in ! 36 (sub ! 0 refl (whole !))) (stop !))))) (from ! (stop !)) (init ! 18 refl (tt, tt)) $
-          assigns ! (agg ! (and-then ! (load ! (from ! (stop !)) (look ! 18 refl)) (and-then ! (load ! (from ! (fld ! refl (stop !))) (look-in ! 36 (sub ! 1 refl (whole !)))) (no-more !)))) (from ! (stop !)) (init ! 16 refl (tt, (tt, (record { fits = room-p .0 }, tt)))) $
+          assigns ! (agg ! (and-then ! (load ! (from ! (stop !)) (look ! 18 refl)) (and-then ! (load ! (from ! (fld ! refl (stop !))) (look-in ! 36 (sub ! 1 refl (whole !)))) (no-more !))))
+          (from ! (stop !)) (init ! 16 refl (tt, (tt, (record { fits = room-p .0 }, tt)))) $
           -- what the parameters own, and the tokens, are taken apart: what the job and the numbers own is made anew where it is passed
-          move ! (51 ∷ []) $ fsplit ! $ drop ! $ fsplit ! $ move ! (1 ∷ []) $ fsplit ! $ drop ! $ fsplit ! $ drop ! $ fsplit ! $ move ! (1 ∷ []) $ fsplit ! $ move ! (1 ∷ []) $ fsplit ! $ move ! (1 ∷ []) $ drop ! $
+          move ! (51 ∷ []) $ fsplit ! $ drop ! $ fsplit ! $ move ! (1 ∷ []) $ fsplit ! $ drop ! $ fsplit ! $ drop ! $ fsplit ! $ move ! (1 ∷ []) $ fsplit ! $ move ! (1 ∷ []) $ fsplit ! $ move !
+          (1 ∷ []) $ drop ! $
           move ! (54 ∷ []) $ split ! $ move ! (1 ∷ []) $ split ! $ move ! (1 ∷ []) $ split ! $ move ! (1 ∷ []) $ split ! $ move ! (1 ∷ []) $ drop ! $
           -- `judge`, with the table and the path lent on for lifetimes ν₁ and ν₂ of the call
           lft-new ! tt (λ ν₁. lft-new ! tt (λ ν₂. move ! (8 ∷ 4 ∷ []) $
@@ -545,37 +587,52 @@ module _ {M : Type 1} (𝓤 : URA M) (H : Heap 𝓤) (A : Atoms 𝓤) (W : Given
           use1 W (‵ Floor ⊛ ‵ Floor) (shr-slice-copy 𝓤 H A W (named 0) κ₀ u8 .twice fl (sv fl ∷ [])) $ split ! $ move ! (9 ∷ 7 ∷ 6 ∷ 0 ∷ 4 ∷ 2 ∷ []) $ join ! $ join ! $ join ! $ join ! $ join ! $
           use1 W (raw (Judge 𝓤 H A mem run .pre (to-judge ν₁ ν₂ δ₁ δ₂))) (goes-judge ν₁ ν₂ δ₁ δ₂) $
           calls-at ! fm (Judge 𝓤 H A mem run) known-judge (to-judge ν₁ ν₂ δ₁ δ₂)
-          (and-then ! (load ! (from ! (stop !)) (look ! 52 refl)) (and-then ! (load ! (from ! (stop !)) (look ! 50 refl)) (and-then ! (load ! (from ! (stop !)) (look ! 48 refl)) (and-then ! (load ! (from ! (stop !)) (look ! 46 refl)) (and-then ! (load ! (from ! (stop !)) (look ! 26 refl)) (and-then ! (load ! (from ! (stop !)) (look ! 22 refl)) (and-then ! (load ! (from ! (stop !)) (look ! 38 refl)) (no-more !)))))))) (λ w.
-          use1 W (later (some (λ (v : Verdict). (toks ν₁ ν₂ ⊛ ‵ (O.the-row .own v (w ∷ []))) ⊛ raw (ensured 𝓤 H A judge.ended (judge.clauses 𝓤 H A mem run) (κ₀, (ν₁ ∷ [], (ν₂ ∷ [], tt))) (judged δ₁ δ₂) tt v)))) (id⊢ 𝓤 _) $ await ! tt $ pick ! (λ v. split ! $ move ! (1 ∷ []) $
-          use1 W (some (λ (zs : Unit {0} × (Unit {0} × (Unit {0} × (Unit {0} × (List ℕ × (List ℕ × (Unit {0} × Unit {0}))))))). ‵ (lasts judge.ended (κ₀, (ν₁ ∷ [], (ν₂ ∷ [], tt))) (judged δ₁ δ₂) zs) ⊛ raw (fact 𝓤 ((v ≡ verdict) × (zs .1 .1 .1 .1 .0 ≡ tb .now) × (zs .1 .1 .1 .1 .1 .0 ≡ pa .now))))) (id⊢ 𝓤 _) $ pick ! (λ zs. split ! $ move ! (1 ∷ []) $
+          (and-then ! (load ! (from ! (stop !)) (look ! 52 refl)) (and-then ! (load ! (from ! (stop !)) (look ! 50 refl))
+          (and-then ! (load ! (from ! (stop !)) (look ! 48 refl)) (and-then ! (load ! (from ! (stop !)) (look ! 46 refl))
+          (and-then ! (load ! (from ! (stop !)) (look ! 26 refl)) (and-then ! (load ! (from ! (stop !)) (look ! 22 refl))
+          (and-then ! (load ! (from ! (stop !)) (look ! 38 refl)) (no-more !)))))))) (λ w.
+          use1 W (later (some (λ (v : Verdict). (toks ν₁ ν₂ ⊛ ‵ (O.the-row .own v (w ∷ []))) ⊛ raw
+          (ensured 𝓤 H A judge.ended (judge.clauses 𝓤 H A mem run) (κ₀, (ν₁ ∷ [], (ν₂ ∷ [], tt))) (judged δ₁ δ₂) tt v)))) (id⊢ 𝓤 _) $ await ! tt $ pick ! (λ v. split ! $ move ! (1 ∷ []) $
+          use1 W (some (λ (zs : Unit {0} × (Unit {0} × (Unit {0} × (Unit {0} × (List ℕ × (List ℕ × (Unit {0} × Unit {0}))))))). ‵
+          (lasts judge.ended (κ₀, (ν₁ ∷ [], (ν₂ ∷ [], tt))) (judged δ₁ δ₂) zs) ⊛ raw (fact 𝓤 ((v ≡ verdict) × (zs .1 .1 .1 .1 .0 ≡ tb .now) × (zs .1 .1 .1 .1 .1 .0 ≡ pa .now))))) (id⊢ 𝓤 _) $
+          pick ! (λ zs. split ! $ move ! (1 ∷ []) $
           heard ! ((v ≡ verdict) × (zs .1 .1 .1 .1 .0 ≡ tb .now) × (zs .1 .1 .1 .1 .1 .0 ≡ pa .now)) (λ said.
-          fsplit ! $ move ! (1 ∷ []) $ fsplit ! $ move ! (1 ∷ []) $ fsplit ! $ move ! (1 ∷ []) $ fsplit ! $ move ! (1 ∷ []) $ fsplit ! $ fsplit ! $ move ! (1 ∷ []) $ feqL ! (λ same-t. move ! (1 ∷ []) $ fsplit ! $ fsplit ! $ move ! (1 ∷ []) $ feqL ! (λ same-p.
+          fsplit ! $ move ! (1 ∷ []) $ fsplit ! $ move ! (1 ∷ []) $ fsplit ! $ move ! (1 ∷ []) $ fsplit ! $ move ! (1 ∷ []) $ fsplit ! $ fsplit ! $ move ! (1 ∷ []) $ feqL !
+          (λ same-t. move ! (1 ∷ []) $ fsplit ! $ fsplit ! $ move ! (1 ∷ []) $ feqL ! (λ same-p.
           move ! (7 ∷ []) $ split ! $ move ! (1 ∷ []) $
-          peeks ! O.the-row (Is O.the-row) (shows 𝓤 H A O.the-row) v (w ∷ []) (λ is-v. land ! (from ! (stop !)) (init ! 44 refl (EL.lawful O.the-type O′.the-laws 𝓤 H A W tt .typed v _ is-v .0)) $ drop ! $
+          peeks ! O.the-row (Is O.the-row) (shows 𝓤 H A O.the-row) v (w ∷ []) (λ is-v. land ! (from ! (stop !)) (init ! 44 refl (EL.lawful O.the-type O′.the-laws 𝓤 H A W tt .typed v _ is-v .0)) $
+          drop ! $
           split ! $ move ! (1 ∷ []) $ split ! $ move ! (1 ∷ []) $ split ! $
           lft-end ! tt $ move ! (0 ∷ 12 ∷ 4 ∷ []) $
           use3 W (later (‵ (Path′ (zs .1 .1 .1 .1 .1 .0)) ⊛ ‵ (flft κ₂ q₂)))
-          (comes-back u16 κ₂ (ν₂ ∷ []) q₂ (pa .name) (pa .ptr .0) (pa .ptr .1) 𝓤 H A W (named 2) (named 2) (pa .now) (length (pa .now)) refl δ₂ (zs .1 .1 .1 .1 .1 .0) room-p same-p) $ await ! tt $ split ! $
+          (comes-back u16 κ₂ (ν₂ ∷ []) q₂ (pa .name) (pa .ptr .0) (pa .ptr .1) 𝓤 H A W (named 2) (named 2) (pa .now) (length (pa .now)) refl δ₂ (zs .1 .1 .1 .1 .1 .0) room-p same-p) $ await ! tt
+          $ split ! $
           rewrite ! 0 (λ (l : List ℕ). ‵ (Path′ l)) (said .2) refl $
           move ! (3 ∷ []) $ lft-end ! tt $ move ! (0 ∷ 12 ∷ 6 ∷ []) $
           use3 W (later (‵ (Table (zs .1 .1 .1 .1 .0)) ⊛ ‵ (flft κ₁ q₁)))
-          (comes-back u32 κ₁ (ν₁ ∷ []) q₁ (tb .name) (tb .ptr .0) (tb .ptr .1) 𝓤 H A W (named 1) (named 1) (tb .now) (length (tb .now)) refl δ₁ (zs .1 .1 .1 .1 .0) room-t same-t) $ await ! tt $ split ! $
+          (comes-back u32 κ₁ (ν₁ ∷ []) q₁ (tb .name) (tb .ptr .0) (tb .ptr .1) 𝓤 H A W (named 1) (named 1) (tb .now) (length (tb .now)) refl δ₁ (zs .1 .1 .1 .1 .0) room-t same-t) $ await ! tt $
+          split ! $
           rewrite ! 0 (λ (l : List ℕ). ‵ (Table l)) (said .1) refl $
           forget ! 36 refl $ forget ! 34 refl $ forget ! 32 refl $ forget ! 30 refl $
-          keep ! (0 ∷ 1 ∷ 2 ∷ 3 ∷ 13 ∷ 12 ∷ 11 ∷ 5 ∷ 14 ∷ 15 ∷ 16 ∷ 17 ∷ 18 ∷ 19 ∷ 20 ∷ 21 ∷ 22 ∷ 23 ∷ 24 ∷ 25 ∷ 26 ∷ 27 ∷ 28 ∷ 29 ∷ 30 ∷ 31 ∷ 32 ∷ 33 ∷ 34 ∷ 35 ∷ 36 ∷ 37 ∷ 38 ∷ 39 ∷ 40 ∷ 41 ∷ 42 ∷ 43 ∷ 44 ∷ 45 ∷ 46 ∷ 47 ∷ 48 ∷ 49 ∷ 50 ∷ 51 ∷ 52 ∷ 53 ∷ 54 ∷ 55 ∷ 56 ∷ 57 ∷ 58 ∷ 59 ∷ 60 ∷ 61 ∷ 62 ∷ 63 ∷ []) $
+          keep ! (0 ∷ 1 ∷ 2 ∷ 3 ∷ 13 ∷ 12 ∷ 11 ∷ 5 ∷ 14 ∷ 15 ∷ 16 ∷ 17 ∷ 18 ∷ 19 ∷ 20 ∷ 21 ∷ 22 ∷ 23 ∷ 24 ∷ 25 ∷ 26 ∷ 27 ∷ 28 ∷ 29 ∷ 30 ∷ 31 ∷ 32 ∷ 33 ∷ 34 ∷ 35 ∷ 36 ∷ 37 ∷ 38 ∷ 39 ∷ 40 ∷ 41 ∷ 42
+          ∷ 43 ∷ 44 ∷ 45 ∷ 46 ∷ 47 ∷ 48 ∷ 49 ∷ 50 ∷ 51 ∷ 52 ∷ 53 ∷ 54 ∷ 55 ∷ 56 ∷ 57 ∷ 58 ∷ 59 ∷ 60 ∷ 61 ∷ 62 ∷ 63 ∷ []) $
           goes-on v w is-v (said .0))))))))))))
 
     -- the parameters are passed
     walk : Is (ShrSlice (named 0) κ₀ u8) fl (sv fl ∷ [])
-        → ent 𝓤 (onEntry 𝓤 H A f.signature (κ₀, (κ₁, (κ₂, (κ₃, tt)))) (q₀, (q₁, (q₂, (q₃, tt)))) a vals) (WpFn 𝓤 H C Λ code.function (sj ∷ sv fl ∷ vint w64 start ∷ vint w64 trials ∷ sv tb ∷ sv pa ∷ sr ∷ []) Post)
+        → ent 𝓤 (onEntry 𝓤 H A f.signature (κ₀, (κ₁, (κ₂, (κ₃, tt)))) (q₀, (q₁, (q₂, (q₃, tt)))) a vals)
+        (WpFn 𝓤 H C Λ code.function (sj ∷ sv fl ∷ vint w64 start ∷ vint w64 trials ∷ sv tb ∷ sv pa ∷ sr ∷ []) Post)
     walk is-floor =
         qed W ((‵ (flft κ₀ q₀) ⊛ (‵ (flft κ₁ q₁) ⊛ (‵ (flft κ₂ q₂) ⊛ (‵ (flft κ₃ q₃) ⊛ ‵ ftrue))))
         ∷ ‵ (owns (J.the-row ∷ ShrSlice (named 0) κ₀ u8 ∷ usize ∷ usize ∷ MutSlice (named 1) κ₁ u32 ∷ MutSlice (named 2) κ₂ u16 ∷ MutSlice (named 3) κ₃ T.the-row ∷ []) a vals) ∷ []) ∵
         enter ! C Λ code.function (sj ∷ sv fl ∷ vint w64 start ∷ vint w64 trials ∷ sv tb ∷ sv pa ∷ sr ∷ []) _ $
-        alloc1 ! (λ l₀. alloc1 ! (λ l₁. alloc1 ! (λ l₂. alloc1 ! (λ l₃. alloc1 ! (λ l₄. alloc1 ! (λ l₅. alloc1 ! (λ l₆. alloc1 ! (λ l₇. alloc1 ! (λ l₈. alloc1 ! (λ l₉. alloc1 ! (λ l₁₀. alloc1 ! (λ l₁₁. alloc1 ! (λ l₁₂.
-        alloc1 ! (λ l₁₃. alloc1 ! (λ l₁₄. alloc1 ! (λ l₁₅. alloc1 ! (λ l₁₆. alloc1 ! (λ l₁₇. alloc1 ! (λ l₁₈. alloc1 ! (λ l₁₉. alloc1 ! (λ l₂₀. alloc1 ! (λ l₂₁. alloc1 ! (λ l₂₂. alloc1 ! (λ l₂₃. alloc1 ! (λ l₂₄. alloc0 ! $ params1 ! $
+        alloc1 ! (λ l₀. alloc1 ! (λ l₁. alloc1 ! (λ l₂. alloc1 ! (λ l₃. alloc1 ! (λ l₄. alloc1 !
+        (λ l₅. alloc1 ! (λ l₆. alloc1 ! (λ l₇. alloc1 ! (λ l₈. alloc1 ! (λ l₉. alloc1 ! (λ l₁₀. alloc1 ! (λ l₁₁. alloc1 ! (λ l₁₂.
+        alloc1 ! (λ l₁₃. alloc1 ! (λ l₁₄. alloc1 ! (λ l₁₅. alloc1 ! (λ l₁₆. alloc1 !
+        (λ l₁₇. alloc1 ! (λ l₁₈. alloc1 ! (λ l₁₉. alloc1 ! (λ l₂₀. alloc1 ! (λ l₂₁. alloc1 ! (λ l₂₂. alloc1 ! (λ l₂₃. alloc1 ! (λ l₂₄. alloc0 ! $ params1 ! $
         pass1 ! (init ! 46 refl (LL.lawful J.the-type J′.the-laws 𝓤 H A W .typed job _ is-job .0)) $ pass1 ! (init ! 44 refl (shr-slice-lawful 𝓤 H A W (named 0) κ₀ u8 .typed fl _ is-floor .0)) $
-        pass1 ! (init ! 42 refl (tt, record { fits = start-fits })) $ pass1 ! (init ! 40 refl (tt, record { fits = trials-fits })) $ pass1 ! (init ! 38 refl (tt, (tt, (record { fits = room-t .0 }, tt)))) $
+        pass1 ! (init ! 42 refl (tt, record { fits = start-fits })) $ pass1 ! (init ! 40 refl (tt, record { fits = trials-fits })) $ pass1 !
+        (init ! 38 refl (tt, (tt, (record { fits = room-t .0 }, tt)))) $
         pass1 ! (init ! 36 refl (tt, (tt, (record { fits = room-p .0 }, tt)))) $ pass1 ! (init ! 34 refl (tt, (tt, (record { fits = room .0 }, tt)))) $ pass0 ! $
         opens l₀ l₁ l₂ l₃ l₄ l₅ l₆ l₇ l₈ l₉ l₁₀ l₁₁ l₁₂ l₁₃ l₁₄ l₁₅ l₁₆ l₁₇ l₁₈ l₁₉ l₂₀ l₂₁ l₂₂ l₂₃ l₂₄)))))))))))))))))))))))))
 

@@ -1,4 +1,5 @@
--- `run::store_report` meets its contract: a walk of its MIR, by hand. The place of the element is computed, the borrow is opened, the element is taken out of the row and stored to, and the borrow is closed at the list with the record in it.
+-- `run::store_report` meets its contract: a walk of its MIR, by hand. The place of the element is computed, the borrow is opened, the element is taken out
+-- of the row and stored to, and the borrow is closed at the list with the record in it.
 -- Assumes nothing.
 use mathlib.Core.Path.{refl, sym, ap, subst}
 use Prim.Native.Nat.{ℕ, _<_, _^_, _*_}
@@ -54,7 +55,8 @@ stayed = (stay-slice (0 ∷ []) tt (plain (λ _. T.the-row)), (stay-none (λ _. 
 abbrev none : Report
 none = record { decisions = 0; learned = 0; kept = 0; travel = 0 }
 
-module _ {M : Type 1} (𝓤 : URA M) (H : Heap 𝓤) (A : Atoms 𝓤) (W : Given 𝓤 H A) (mem : Memory → SProp 𝓤) (run : Routine → Fun 𝓤) (κ : Lft) (q : Share) (b o : ℕ) (γ : GName) (ys : List Report) (i : ℕ) (v : Report) where
+module _ {M : Type 1} (𝓤 : URA M) (H : Heap 𝓤) (A : Atoms 𝓤) (W : Given 𝓤 H A) (mem : Memory → SProp 𝓤) (run : Routine → Fun 𝓤) (κ : Lft) (q : Share) (b o : ℕ) (γ : GName) (ys : List Report)
+    (i : ℕ) (v : Report) where
   abbrev Arg : Type 0
   Arg = RefT (List Report) × (ℕ × (Report × Unit {0}))
 
@@ -84,33 +86,43 @@ module _ {M : Type 1} (𝓤 : URA M) (H : Heap 𝓤) (A : Atoms 𝓤) (W : Given
   abbrev rest : Fml
   rest = fsep (usize .own i (vint w64 i ∷ [])) (fsep (T.the-row .own v (mach v ∷ [])) ftrue)
 
-  exits : Room T.the-row (length ys) → ent 𝓤 (⋆ 𝓤 H A (‵ (fobs γ (codedHoleys T.the-row .code (heres T.the-row zs))) ∷ ‵ (fbor κ (Held T.the-row (length zs) b o γ)) ∷ ‵ (flft κ q) ∷ ‵ rest ∷ [])) (Post vunit)
+  exits : Room T.the-row (length ys)
+      → ent 𝓤 (⋆ 𝓤 H A (‵ (fobs γ (codedHoleys T.the-row .code (heres T.the-row zs))) ∷ ‵ (fbor κ (Held T.the-row (length zs) b o γ)) ∷ ‵ (flft κ q) ∷ ‵ rest ∷ [])) (Post vunit)
   exits room =
       qed W (‵ (fobs γ (codedHoleys T.the-row .code (heres T.the-row zs))) ∷ ‵ (fbor κ (Held T.the-row (length zs) b o γ)) ∷ ‵ (flft κ q) ∷ ‵ rest ∷ []) ∵
       suffices ! _ (ends-at 𝓤 H A f.ended stayed (f.clauses 𝓤 H A mem run) W (((κ, tt), (q, tt), tt, x, at), tt) vunit tt (zs, (tt, (tt, tt))) (length-set ys i v, (tt, (tt, tt)))) $ says ! refl $
       nothing ! $ move ! (3 ∷ 0 ∷ []) $ join ! $
-      frame ! $ fjoin ! $ pureI ! (at-slice T.the-row y (at .0)) (tt, (tt, tt)) (ap (λ (m : ℕ). sliceVal (b, o) m ∷ []) (sym (length-set ys i v)), subst (Room T.the-row) (sym (length-set ys i v)) room) $ fjoin ! $ fjoin ! $ frame ! $
+      frame ! $ fjoin ! $ pureI ! (at-slice T.the-row y (at .0)) (tt, (tt, tt)) (
+        ap (λ (m : ℕ). sliceVal (b, o) m ∷ []) (sym (length-set ys i v)),
+        subst (Room T.the-row) (sym (length-set ys i v))
+            room,
+      ) $ fjoin ! $ fjoin ! $ frame ! $
       feqI ! (List Val) (vunit ∷ []) (vunit ∷ []) refl $ done !
 
   module _ (C : Calls 𝓤 H) (Λ : Loops 𝓤 H) where
-    walk : Room T.the-row (length ys) → i < 2 ^ 64 → Is T.the-row v (mach v ∷ []) → i < length ys → ent 𝓤 (onEntry 𝓤 H A f.signature (κ, tt) (q, tt) x at) (WpFn 𝓤 H C Λ code.function (s ∷ vint w64 i ∷ mach v ∷ []) Post)
+    walk : Room T.the-row (length ys) → i < 2 ^ 64 → Is T.the-row v (mach v ∷ []) → i < length ys
+        → ent 𝓤 (onEntry 𝓤 H A f.signature (κ, tt) (q, tt) x at) (WpFn 𝓤 H C Λ code.function (s ∷ vint w64 i ∷ mach v ∷ []) Post)
     walk room i-fits is within =
         qed W ((‵ (flft κ q) ⊛ ‵ ftrue) ∷ ‵ (owns (MutSlice (named 0) κ T.the-row ∷ usize ∷ T.the-row ∷ []) x at) ∷ []) ∵ enter ! C Λ code.function (s ∷ vint w64 i ∷ mach v ∷ []) _ $
         alloc1 ! (λ l₀. alloc1 ! (λ l₁. alloc1 ! (λ l₂. alloc1 ! (λ l₃. alloc1 ! (λ l₄. alloc1 ! (λ l₅. alloc0 ! $ params1 ! $
-        pass1 ! (init ! 8 refl (tt, (tt, (record { fits = room .0 }, tt)))) $ pass1 ! (init ! 6 refl (tt, record { fits = i-fits })) $ pass1 ! (init ! 4 refl (LL.lawful T.the-type T′.the-laws 𝓤 H A W .typed v _ is .0)) $ pass0 ! $
+        pass1 ! (init ! 8 refl (tt, (tt, (record { fits = room .0 }, tt)))) $ pass1 ! (init ! 6 refl (tt, record { fits = i-fits })) $ pass1 !
+        (init ! 4 refl (LL.lawful T.the-type T′.the-laws 𝓤 H A W .typed v _ is .0)) $ pass0 ! $
         -- [_5; …; _4; …; _3; …; _2; …; _1; …; room for _0; …; the token; what the parameters own]
         assigns ! (bin ! (load ! (from ! (stop !)) (look ! 6 refl)) (lit ! tt) (record { fits = bytes-fit })) (from ! (stop !)) (init ! 2 refl (tt, record { fits = bytes-fit })) $
         assigns ! (bin ! (load ! (from ! (fld ! refl (stop !))) (look-in ! 8 (sub ! 0 refl (whole !)))) (load ! (from ! (stop !)) (look ! 2 refl)) tt) (from ! (stop !)) (init ! 0 refl (tt, tt)) $
         rewrite ! 0 (λ (p : ℕ). ‵ (fat fullShare tyPtr l₅ 0 (vptr b p))) (sym (place-is 32 o i)) refl $
         move ! (13 ∷ []) $ fsplit ! $ fsplit ! $ move ! (1 ∷ []) $ fsplit ! $ move ! (16 ∷ []) $ split ! $ move ! (2 ∷ 3 ∷ 0 ∷ []) $
-        opens-slice ! tt T.the-row ys b o $ elem-out ! T.the-row (Is T.the-row) (shows 𝓤 H A T.the-row) (LL.vals T.the-type T′.the-laws) (LL.tells T.the-type T′.the-laws) fullShare ys i none b o within (λ _.
+        opens-slice ! tt T.the-row ys b o $ elem-out ! T.the-row (Is T.the-row) (shows 𝓤 H A T.the-row) (LL.vals T.the-type T′.the-laws) (LL.tells T.the-type T′.the-laws) fullShare ys i none b o
+        within (λ _.
         -- [reports[at]; what it owns; the others; the open borrow; obs; auth; true; the slice's fact; what at and r own; _5; …; _4; …; _3; …; _2; …; _1; …; room for _0; …]
         assigns ! (of-opd ! (load ! (from ! (stop !)) (look ! 13 refl))) (from ! (hop ! (look ! 9 refl) (stop !))) (store-raw ! 0 refl (LL.lawful T.the-type T′.the-laws 𝓤 H A W .typed v _ is .0)) $
-        move ! (1 ∷ []) $ drop ! $ owned ! T.the-row (Is T.the-row) ((LL.makes T.the-type T′.the-plain) 𝓤 H A) v _ is $ move ! (1 ∷ 0 ∷ []) $ elem-put ! T.the-row fullShare ys i v (mach v ∷ []) b o within $
+        move ! (1 ∷ []) $ drop ! $ owned ! T.the-row (Is T.the-row) ((LL.makes T.the-type T′.the-plain) 𝓤 H A) v _ is $ move ! (1 ∷ 0 ∷ []) $ elem-put ! T.the-row fullShare ys i v (mach v ∷ []) b
+        o within $
         closes-slice ! tt T.the-row ys zs (length-set ys i v) b o $
         assigns ! (of-opd ! (unit-lit !)) (from ! (stop !)) (init ! 16 refl (tt, tt)) $
         returns ! (look ! 16 refl) $ forget ! 6 refl $ forget ! 8 refl $ forget ! 10 refl $ forget ! 12 refl $ forget ! 14 refl $ forget ! 16 refl $
-        move ! (16 ∷ 17 ∷ []) $ free1 ! $ move ! (14 ∷ 15 ∷ []) $ free1 ! $ move ! (12 ∷ 13 ∷ []) $ free1 ! $ move ! (10 ∷ 11 ∷ []) $ free1 ! $ move ! (8 ∷ 9 ∷ []) $ free1 ! $ move ! (6 ∷ 7 ∷ []) $ free1 ! $ free0 ! $
+        move ! (16 ∷ 17 ∷ []) $ free1 ! $ move ! (14 ∷ 15 ∷ []) $ free1 ! $ move ! (12 ∷ 13 ∷ []) $ free1 ! $ move ! (10 ∷ 11 ∷ []) $ free1 ! $ move ! (8 ∷ 9 ∷ []) $ free1 ! $ move ! (6 ∷ 7 ∷ [])
+        $ free1 ! $ free0 ! $
         keep ! (0 ∷ 1 ∷ 2 ∷ 5 ∷ []) $ by ! (exits room))))))))
       where
         bytes-fit : i * 32 < 2 ^ 64
@@ -126,7 +138,10 @@ module _ {M : Type 1} (𝓤 : URA M) (H : Heap 𝓤) (A : Atoms 𝓤) (W : Given
 store-report-meets : {M : Type 1} (𝓤 : URA M) (H : Heap 𝓤) (A : Atoms 𝓤) → Given 𝓤 H A → (mem : Memory → SProp 𝓤) (run : Routine → Fun 𝓤) (𝓣 : Tables 𝓤 H)
     → Meets 𝓤 H A f.signature (WpFn 𝓤 H (𝓣 .C) (𝓣 .Λ) code.function) (f.spec 𝓤 H A mem run)
 store-report-meets 𝓤 H A W mem run 𝓣 =
-    walk-meets 𝓤 H A f.ended stayed W (goes-slice 𝓤 H A W 1 0 tt (plain (λ _. T.the-row)), (goes-none 𝓤 H A W 1 (λ _. usize) yes (λ κs x f. refl), (goes-none 𝓤 H A W 1 (λ _. T.the-row) yes (λ κs x f. refl), tt)))
+    walk-meets 𝓤 H A f.ended stayed W (
+      goes-slice 𝓤 H A W 1 0 tt (plain (λ _. T.the-row)),
+      (goes-none 𝓤 H A W 1 (λ _. usize) yes (λ κs x f. refl), (goes-none 𝓤 H A W 1 (λ _. T.the-row) yes (λ κs x f. refl), tt)),
+    )
     (f.clauses 𝓤 H A mem run) (WpFn 𝓤 H (𝓣 .C) (𝓣 .Λ) code.function) (WpFn-mono 𝓤 H (W .laws) 𝓣 code.function) (store-report-walks 𝓤 H A W mem run (𝓣 .C) (𝓣 .Λ))
 
 pub store-report-spec : {M : Type 1} → stated.statement M

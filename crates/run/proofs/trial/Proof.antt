@@ -6,29 +6,11 @@ use Rattle.run.proofs.Driving.{trial-refused, trial-made}
 use Rattle.run.proofs.trial.Statement.{statement}
 use Rattle.run.proofs.trial.Tie as tie
 
-open-trial-requires : tie.Need-open-trial-requires
-open-trial-requires c κs = search needs
-
-enum-known-f : tie.Need-enum-known-f
-enum-known-f c = search needs
-
-enum-told : tie.Need-enum-told
-enum-told c = search needs
-
 ride-requires : tie.Need-ride-requires
 ride-requires c κs = sym (c .before .before .before .before .open-trial .ensures _ refl) ∙ c .before .before .enum-told .given .1
 
-same-length : tie.Need-same-length
-same-length c = search needs
-
 returns : tie.Need-returns
 returns c = trial-refused _ _ _ _ _ _ _ (c .before .before .before .open-trial .ensures _ refl) (c .before .f .given .1)
-
-same-length-2 : tie.Need-same-length-2
-same-length-2 c = search needs
-
-same-length-3 : tie.Need-same-length-3
-same-length-3 c = search needs
 
 returns-2 : tie.Need-returns-2
 returns-2 c =
@@ -40,12 +22,12 @@ pub trial-spec : {M : Type 1} → statement M
 trial-spec =
     tie.close
     (tie.spec
-    open-trial-requires
-    enum-known-f
-    enum-told
+    (λ c κs. search needs)
+    (λ c. search needs)
+    (λ c. search needs)
     ride-requires
-    same-length
+    (λ c. search needs)
     returns
-    same-length-2
-    same-length-3
+    (λ c. search needs)
+    (λ c. search needs)
     returns-2)

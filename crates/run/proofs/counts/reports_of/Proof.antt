@@ -30,9 +30,6 @@ array-set-from-reports c = omega (arith, c .before .before .before .before .pre 
 add-i : tie.Need-add-i Inv-loop μ-loop
 add-i c = omega (arith, c .before .before .before .before .pre .few)
 
-loop-less : tie.Need-loop-less Inv-loop μ-loop
-loop-less c = omega arith
-
 loop-again : tie.Need-loop-again Inv-loop μ-loop
 loop-again c =
     let g = c .before .before .loop .inv in
@@ -52,6 +49,6 @@ reports-of-spec =
     mul-reports
     array-set-from-reports
     add-i
-    loop-less
+    (λ c. omega arith)
     loop-again
     returns)

@@ -6,21 +6,6 @@ use Rattle.run.proofs.Counting.{counted}
 use Rattle.run.proofs.counts.run_counts.Statement.{statement}
 use Rattle.run.proofs.counts.run_counts.Tie as tie
 
-run-filed-requires : tie.Need-run-filed-requires
-run-filed-requires c κs = search needs
-
-put-all-requires : tie.Need-put-all-requires
-put-all-requires c κs = search needs
-
-same-length : tie.Need-same-length
-same-length c = search needs
-
-same-length-2 : tie.Need-same-length-2
-same-length-2 c = search needs
-
-same-length-3 : tie.Need-same-length-3
-same-length-3 c = search needs
-
 returns : tie.Need-returns
 returns c =
     let put = c .before .before in
@@ -30,4 +15,4 @@ returns c =
 pub run-counts-spec : {M : Type 1} → statement M
 run-counts-spec =
     tie.close
-    (tie.spec run-filed-requires put-all-requires same-length same-length-2 same-length-3 returns)
+    (tie.spec (λ c κs. search needs) (λ c κs. search needs) (λ c. search needs) (λ c. search needs) (λ c. search needs) returns)

@@ -1,4 +1,5 @@
--- `run::counts::run_filed` meets its contract: a walk of its MIR, by hand. The reports are a local array of structs, whose first n are lent as a slice for the call of `run`, and which is whole again after it (`Part` of lending).
+-- `run::counts::run_filed` meets its contract: a walk of its MIR, by hand. The reports are a local array of structs, whose first n are lent as a slice for
+-- the call of `run`, and which is whole again after it (`Part` of lending).
 -- The array comes from one covered function and goes to another, so no element is touched here. Assumes nothing.
 use mathlib.Core.Path.{_≡_, refl, _∙_}
 use Prim.Native.Nat.{ℕ, _*_, _≤_, _<_, _^_}
@@ -108,7 +109,8 @@ module _ {M : Type 1} (𝓤 : URA M) (H : Heap 𝓤) (A : Atoms 𝓤) (mem : Mem
   File = tripleOf 𝓤 H A file′.signature (file′.spec 𝓤 H A mem run)
 
   -- of the first and the last callee's `ensured`, the clause alone: neither has a `&mut`
-  of-said : (κ : Lft) (cs : RefT (List ℕ)) (n : ℕ) (xs : List Report) → ent 𝓤 (ensured 𝓤 H A reports-of.ended (reports-of.clauses 𝓤 H A mem run) (κ, tt) (cs, (n, tt)) tt xs) (fact 𝓤 (take n xs ≡ records (cs .now) n))
+  of-said : (κ : Lft) (cs : RefT (List ℕ)) (n : ℕ) (xs : List Report)
+      → ent 𝓤 (ensured 𝓤 H A reports-of.ended (reports-of.clauses 𝓤 H A mem run) (κ, tt) (cs, (n, tt)) tt xs) (fact 𝓤 (take n xs ≡ records (cs .now) n))
   of-said κ cs n xs = exE 𝓤 _ (λ ws. snd∗ 𝓤 (sem 𝓤 H A (lasts reports-of.ended (κ, tt) (cs, (n, tt)) ws)) (fact 𝓤 (take n xs ≡ records (cs .now) n)))
 
   file-said : (t : Ran) (zs : List Report) (r : Filed) → ent 𝓤 (ensured 𝓤 H A file′.ended (file′.clauses 𝓤 H A mem run) tt (t, (zs, tt)) tt r) (fact 𝓤 ((r .answer ≡ t) × (r .reports ≡ zs)))
@@ -175,8 +177,16 @@ module _ {M : Type 1} (𝓤 : URA M) (H : Heap 𝓤) (A : Atoms 𝓤) (W : Given
   ran l xs δ = (job, (fl, (start, (trials, (tb, (pa, (part-at T.the-row l δ (take n xs), tt)))))))
 
   abbrev to-run : ℕ → List Report → ℕ → GName → Run 𝓤 H A mem run .Ghost
-  to-run l xs ν δ =
-      (((κ₀, (κ₁, (κ₂, (ν ∷ [], tt)))), (q₀, (q₁, (q₂, (fullShare, tt)))), tt, ran l xs δ, (sj ∷ [], (sv fl ∷ [], (num start, (num trials, (sv tb ∷ [], (sv pa ∷ [], (sliceVal (l, 0) n ∷ [], tt)))))))), tt)
+  to-run l xs ν δ = (
+    (
+      (κ₀, (κ₁, (κ₂, (ν ∷ [], tt)))),
+      (q₀, (q₁, (q₂, (fullShare, tt)))),
+      tt,
+      ran l xs δ,
+      (sj ∷ [], (sv fl ∷ [], (num start, (num trials, (sv tb ∷ [], (sv pa ∷ [], (sliceVal (l, 0) n ∷ [], tt))))))),
+    ),
+    tt,
+  )
 
   abbrev passed : ℕ → List Report → ℕ → GName → Item 𝓤
   passed l xs ν δ = ((((((‵ (flft κ₀ q₀) ⊛ ‵ (flft κ₁ q₁)) ⊛ ‵ (flft κ₂ q₂)) ⊛ ‵ (flft (ν ∷ []) fullShare)) ⊛ ‵ Floor) ⊛ ‵ Table) ⊛ ‵ Path′) ⊛ ‵ (On l xs ν δ)
@@ -202,10 +212,13 @@ module _ {M : Type 1} (𝓤 : URA M) (H : Heap 𝓤) (A : Atoms 𝓤) (W : Given
 
   exits : (r : Filed) (w : Val) (ts ps : List ℕ) → IsRun (model.run job (fl .now) start trials (tb .now) (pa .now) (records (cs .now) n)) (r .answer) ts ps (take n (r .reports))
       → length ts ≡ length (tb .now) → length ps ≡ length (pa .now)
-      → ent 𝓤 (⋆ 𝓤 H A (‵ (K.the-row .own r (w ∷ [])) ∷ ‵ (flft κ₀ q₀) ∷ ‵ (flft κ₁ q₁) ∷ ‵ (flft κ₂ q₂) ∷ ‵ (flft κ₃ q₃) ∷ ‵ (finally u16 (pa .name) ps) ∷ ‵ (finally u32 (tb .name) ts) ∷ ‵ Floor ∷ ‵ Counts ∷ [])) (Post w)
+      → ent 𝓤 (⋆ 𝓤 H A (‵ (K.the-row .own r (w ∷ [])) ∷ ‵ (flft κ₀ q₀) ∷ ‵ (flft κ₁ q₁) ∷ ‵ (flft κ₂ q₂) ∷ ‵ (flft κ₃ q₃) ∷ ‵ (finally u16 (pa .name) ps) ∷ ‵ (finally u32 (tb .name) ts) ∷ ‵ Floor
+      ∷ ‵ Counts ∷ [])) (Post w)
   exits r w ts ps said lt lp =
-      qed W (‵ (K.the-row .own r (w ∷ [])) ∷ ‵ (flft κ₀ q₀) ∷ ‵ (flft κ₁ q₁) ∷ ‵ (flft κ₂ q₂) ∷ ‵ (flft κ₃ q₃) ∷ ‵ (finally u16 (pa .name) ps) ∷ ‵ (finally u32 (tb .name) ts) ∷ ‵ Floor ∷ ‵ Counts ∷ []) ∵
-      suffices ! _ (ends-at 𝓤 H A f.ended stayed (f.clauses 𝓤 H A mem run) W (((κ₀, (κ₁, (κ₂, (κ₃, tt)))), (q₀, (q₁, (q₂, (q₃, tt)))), tt, a, vals), tt) w r (tt, (tt, (tt, (tt, (ts, (ps, (tt, (tt, tt)))))))) (tt, (tt, (tt, (tt, (lt, (lp, (tt, (tt, tt))))))))) $ says ! said $
+      qed W (‵ (K.the-row .own r (w ∷ [])) ∷ ‵ (flft κ₀ q₀) ∷ ‵ (flft κ₁ q₁) ∷ ‵ (flft κ₂ q₂) ∷ ‵ (flft κ₃ q₃) ∷ ‵ (finally u16 (pa .name) ps) ∷ ‵ (finally u32 (tb .name) ts) ∷ ‵ Floor ∷ ‵ Counts
+      ∷ []) ∵
+      suffices ! _ (ends-at 𝓤 H A f.ended stayed (f.clauses 𝓤 H A mem run) W (((κ₀, (κ₁, (κ₂, (κ₃, tt)))), (q₀, (q₁, (q₂, (q₃, tt)))), tt, a, vals), tt) w r
+      (tt, (tt, (tt, (tt, (ts, (ps, (tt, (tt, tt)))))))) (tt, (tt, (tt, (tt, (lt, (lp, (tt, (tt, tt))))))))) $ says ! said $
       nothing ! $ move ! (5 ∷ 0 ∷ []) $ join ! $ move ! (4 ∷ 0 ∷ []) $ join ! $ move ! (3 ∷ 0 ∷ []) $ join ! $ move ! (2 ∷ 0 ∷ []) $ join ! $ frame ! $
       -- [the result; the last lists of the path and of the table; the floor; the counts]
       nothing ! $ owned ! usize (Is usize) (uint-makes 𝓤 H A W w64) n _ (refl, n-fits) $ fjoin ! $ move ! (5 ∷ 0 ∷ []) $ fjoin ! $ move ! (2 ∷ 0 ∷ []) $ fjoin ! $ move ! (2 ∷ 0 ∷ []) $ fjoin ! $
@@ -218,112 +231,146 @@ module _ {M : Type 1} (𝓤 : URA M) (H : Heap 𝓤) (A : Atoms 𝓤) (W : Given
   few-of : (xs : List Report) → length xs ≡ 1001 → n ≤ length xs
   few-of xs e = omega (arith, e, lent .few)
 
-  module _ (C : Calls 𝓤 H) (Λ : Loops 𝓤 H) (fm : FmC 𝓤 H (W .laws) C) (known-of : Triple 𝓤 (C #run·reports-of) (ReportsOf 𝓤 H A mem run)) (known-run : Triple 𝓤 (C #run·run) (Run 𝓤 H A mem run)) (known-file : Triple 𝓤 (C #run·file) (File 𝓤 H A mem run)) where
+  module _ (C : Calls 𝓤 H) (Λ : Loops 𝓤 H) (fm : FmC 𝓤 H (W .laws) C) (known-of : Triple 𝓤 (C #run·reports-of) (ReportsOf 𝓤 H A mem run)) (known-run : Triple 𝓤 (C #run·run) (Run 𝓤 H A mem run))
+      (known-file : Triple 𝓤 (C #run·file) (File 𝓤 H A mem run)) where
     walk : Is (ShrSlice (named 0) κ₀ u8) fl (sv fl ∷ []) → Is (ShrSlice (named 3) κ₃ u64) cs (sv cs ∷ []) → Room u32 (length (tb .now)) → Room u16 (length (pa .now))
-        → ent 𝓤 (onEntry 𝓤 H A f.signature (κ₀, (κ₁, (κ₂, (κ₃, tt)))) (q₀, (q₁, (q₂, (q₃, tt)))) a vals) (WpFn 𝓤 H C Λ code.function (sj ∷ sv fl ∷ vint w64 start ∷ vint w64 trials ∷ sv tb ∷ sv pa ∷ sv cs ∷ vint w64 n ∷ []) Post)
+        → ent 𝓤 (onEntry 𝓤 H A f.signature (κ₀, (κ₁, (κ₂, (κ₃, tt)))) (q₀, (q₁, (q₂, (q₃, tt)))) a vals)
+        (WpFn 𝓤 H C Λ code.function (sj ∷ sv fl ∷ vint w64 start ∷ vint w64 trials ∷ sv tb ∷ sv pa ∷ sv cs ∷ vint w64 n ∷ []) Post)
     walk is-floor is-counts room-t room-p =
         qed W ((‵ (flft κ₀ q₀) ⊛ (‵ (flft κ₁ q₁) ⊛ (‵ (flft κ₂ q₂) ⊛ (‵ (flft κ₃ q₃) ⊛ ‵ ftrue))))
         ∷ ‵ (owns (J.the-row ∷ ShrSlice (named 0) κ₀ u8 ∷ usize ∷ usize ∷ MutSlice (named 1) κ₁ u32 ∷ MutSlice (named 2) κ₂ u16 ∷ ShrSlice (named 3) κ₃ u64 ∷ usize ∷ []) a vals) ∷ []) ∵
         enter ! C Λ code.function (sj ∷ sv fl ∷ vint w64 start ∷ vint w64 trials ∷ sv tb ∷ sv pa ∷ sv cs ∷ vint w64 n ∷ []) _ $
-        alloc1 ! (λ l₀. alloc1 ! (λ l₁. alloc1 ! (λ l₂. alloc1 ! (λ l₃. alloc1 ! (λ l₄. alloc1 ! (λ l₅. alloc1 ! (λ l₆. alloc1 ! (λ l₇. alloc1 ! (λ l₈. alloc1 ! (λ l₉. alloc1 ! (λ l₁₀. alloc1 ! (λ l₁₁. alloc1 ! (λ l₁₂.
+        alloc1 ! (λ l₀. alloc1 ! (λ l₁. alloc1 ! (λ l₂. alloc1 ! (λ l₃. alloc1 ! (λ l₄. alloc1 !
+        (λ l₅. alloc1 ! (λ l₆. alloc1 ! (λ l₇. alloc1 ! (λ l₈. alloc1 ! (λ l₉. alloc1 ! (λ l₁₀. alloc1 ! (λ l₁₁. alloc1 ! (λ l₁₂.
         alloc1 ! (λ l₁₃. alloc1 ! (λ l₁₄. alloc1 ! (λ l₁₅. alloc1 ! (λ l₁₆. alloc1 ! (λ l₁₇. alloc0 ! $ params1 ! $
         pass1 ! (init ! 32 refl (LL.lawful J.the-type J′.the-laws 𝓤 H A W .typed job _ is-job .0)) $ pass1 ! (init ! 30 refl (shr-slice-lawful 𝓤 H A W (named 0) κ₀ u8 .typed fl _ is-floor .0)) $
-        pass1 ! (init ! 28 refl (tt, record { fits = start-fits })) $ pass1 ! (init ! 26 refl (tt, record { fits = trials-fits })) $ pass1 ! (init ! 24 refl (tt, (tt, (record { fits = room-t .0 }, tt)))) $
-        pass1 ! (init ! 22 refl (tt, (tt, (record { fits = room-p .0 }, tt)))) $ pass1 ! (init ! 20 refl (shr-slice-lawful 𝓤 H A W (named 3) κ₃ u64 .typed cs _ is-counts .0)) $ pass1 ! (init ! 18 refl (tt, record { fits = n-fits })) $ pass0 ! $
+        pass1 ! (init ! 28 refl (tt, record { fits = start-fits })) $ pass1 ! (init ! 26 refl (tt, record { fits = trials-fits })) $ pass1 !
+        (init ! 24 refl (tt, (tt, (record { fits = room-t .0 }, tt)))) $
+        pass1 ! (init ! 22 refl (tt, (tt, (record { fits = room-p .0 }, tt)))) $ pass1 ! (init ! 20 refl (shr-slice-lawful 𝓤 H A W (named 3) κ₃ u64 .typed cs _ is-counts .0)) $ pass1 !
+        (init ! 18 refl (tt, record { fits = n-fits })) $ pass0 ! $
         -- [_17; …; _16; … and so to _1; …; room for _0; …; the tokens; what the parameters own], which are taken apart
-        move ! (37 ∷ []) $ fsplit ! $ drop ! $ fsplit ! $ move ! (1 ∷ []) $ fsplit ! $ drop ! $ fsplit ! $ drop ! $ fsplit ! $ move ! (1 ∷ []) $ fsplit ! $ move ! (1 ∷ []) $ fsplit ! $ move ! (1 ∷ []) $ fsplit ! $ drop ! $ drop ! $
+        move ! (37 ∷ []) $ fsplit ! $ drop ! $ fsplit ! $ move ! (1 ∷ []) $ fsplit ! $ drop ! $ fsplit ! $ drop ! $ fsplit ! $ move ! (1 ∷ []) $ fsplit ! $ move ! (1 ∷ []) $ fsplit ! $ move !
+        (1 ∷ []) $ fsplit ! $ drop ! $ drop ! $
         move ! (40 ∷ []) $ split ! $ move ! (1 ∷ []) $ split ! $ move ! (1 ∷ []) $ split ! $ move ! (1 ∷ []) $ split ! $ move ! (1 ∷ []) $ drop ! $
         -- `reports_of`
         move ! (4 ∷ []) $ use1 W (‵ Counts ⊛ ‵ Counts) (shr-slice-copy 𝓤 H A W (named 3) κ₃ u64 .twice cs (sv cs ∷ [])) $ split ! $ move ! (2 ∷ 0 ∷ []) $
         use2 W (raw (ReportsOf 𝓤 H A mem run .pre to-of)) goes-of $
         calls-at ! fm (ReportsOf 𝓤 H A mem run) known-of to-of
         (and-then ! (load ! (from ! (stop !)) (look ! 28 refl)) (and-then ! (load ! (from ! (stop !)) (look ! 26 refl)) (no-more !))) (λ w₁.
-        use1 W (later (some (λ (xs : List Report). ((‵ (flft κ₃ q₃) ⊛ ‵ ftrue) ⊛ ‵ (Reports xs w₁)) ⊛ raw (ensured 𝓤 H A reports-of.ended (reports-of.clauses 𝓤 H A mem run) (κ₃, tt) (cs, (n, tt)) tt xs)))) (id⊢ 𝓤 _) $ await ! tt $ pick ! (λ xs. split ! $ move ! (1 ∷ []) $
+        use1 W (later (some (λ (xs : List Report). ((‵ (flft κ₃ q₃) ⊛ ‵ ftrue) ⊛ ‵ (Reports xs w₁)) ⊛ raw
+        (ensured 𝓤 H A reports-of.ended (reports-of.clauses 𝓤 H A mem run) (κ₃, tt) (cs, (n, tt)) tt xs)))) (id⊢ 𝓤 _) $ await ! tt $ pick ! (λ xs. split ! $ move ! (1 ∷ []) $
         use1 W (raw (fact 𝓤 (take n xs ≡ records (cs .now) n))) (of-said 𝓤 H A mem run κ₃ cs n xs) $ heard ! (take n xs ≡ records (cs .now) n) (λ given. split ! $ split ! $ move ! (2 ∷ []) $
         peeks ! (Array T.the-row 1001) (Is (Array T.the-row 1001)) (shows 𝓤 H A (Array T.the-row 1001)) xs (w₁ ∷ []) (λ is₁. land ! (from ! (stop !)) (init ! 22 refl (array-typed xs w₁ is₁)) $
         assigns ! (of-opd ! (load ! (from ! (stop !)) (look ! 22 refl))) (from ! (stop !)) (init ! 26 refl (array-typed xs w₁ is₁)) $
         -- the three slices
         assigns ! (addr ! (from ! (fld ! refl (hop ! (look-in ! 34 (sub ! 0 refl (whole !))) (stop !))))) (from ! (stop !)) (init ! 20 refl (tt, tt)) $
-        assigns ! (agg ! (and-then ! (load ! (from ! (stop !)) (look ! 20 refl)) (and-then ! (load ! (from ! (fld ! refl (stop !))) (look-in ! 34 (sub ! 1 refl (whole !)))) (no-more !)))) (from ! (stop !)) (init ! 18 refl (tt, (tt, (record { fits = room-t .0 }, tt)))) $
+        assigns ! (agg ! (and-then ! (load ! (from ! (stop !)) (look ! 20 refl)) (and-then ! (load ! (from ! (fld ! refl (stop !))) (look-in ! 34 (sub ! 1 refl (whole !)))) (no-more !))))
+        (from ! (stop !)) (init ! 18 refl (tt, (tt, (record { fits = room-t .0 }, tt)))) $
         assigns ! (addr ! (from ! (fld ! refl (hop ! (look-in ! 32 (sub ! 0 refl (whole !))) (stop !))))) (from ! (stop !)) (init ! 16 refl (tt, tt)) $
-        assigns ! (agg ! (and-then ! (load ! (from ! (stop !)) (look ! 16 refl)) (and-then ! (load ! (from ! (fld ! refl (stop !))) (look-in ! 32 (sub ! 1 refl (whole !)))) (no-more !)))) (from ! (stop !)) (init ! 14 refl (tt, (tt, (record { fits = room-p .0 }, tt)))) $
+        assigns ! (agg ! (and-then ! (load ! (from ! (stop !)) (look ! 16 refl)) (and-then ! (load ! (from ! (fld ! refl (stop !))) (look-in ! 32 (sub ! 1 refl (whole !)))) (no-more !))))
+        (from ! (stop !)) (init ! 14 refl (tt, (tt, (record { fits = room-p .0 }, tt)))) $
         assigns ! (addr ! (from ! (stop !))) (from ! (stop !)) (init ! 12 refl (tt, tt)) $
-        assigns ! (agg ! (and-then ! (load ! (from ! (stop !)) (look ! 12 refl)) (and-then ! (load ! (from ! (stop !)) (look ! 28 refl)) (no-more !)))) (from ! (stop !)) (init ! 10 refl (tt, (tt, (record { fits = n-fits }, tt)))) $
+        assigns ! (agg ! (and-then ! (load ! (from ! (stop !)) (look ! 12 refl)) (and-then ! (load ! (from ! (stop !)) (look ! 28 refl)) (no-more !)))) (from ! (stop !))
+        (init ! 10 refl (tt, (tt, (record { fits = n-fits }, tt)))) $
         -- the first n of the array are lent, for a lifetime ν of the call
         lft-new ! tt (λ ν. move ! (27 ∷ 1 ∷ []) $
         use2 W (later (some (λ (δ : GName). ‵ (fsep (On l₉ xs ν δ) (Rests T.the-row l₉ (ν ∷ []) n n xs δ)))))
         (lends-part T.the-row l₉ 𝓤 H A W (named 3) (ν ∷ []) tt 1001 n xs w₁ (is₁ .1 .0 .1) (lent .few) room) $ await ! tt $ pick ! (λ δ. fsplit ! $ move ! (11 ∷ []) $
-        use1 W (‵ Floor ⊛ ‵ Floor) (shr-slice-copy 𝓤 H A W (named 0) κ₀ u8 .twice fl (sv fl ∷ [])) $ split ! $ move ! (10 ∷ 9 ∷ 8 ∷ 4 ∷ 0 ∷ 12 ∷ 11 ∷ 2 ∷ []) $ join ! $ join ! $ join ! $ join ! $ join ! $ join ! $ join ! $
+        use1 W (‵ Floor ⊛ ‵ Floor) (shr-slice-copy 𝓤 H A W (named 0) κ₀ u8 .twice fl (sv fl ∷ [])) $ split ! $ move ! (10 ∷ 9 ∷ 8 ∷ 4 ∷ 0 ∷ 12 ∷ 11 ∷ 2 ∷ []) $ join ! $ join ! $ join ! $ join ! $
+        join ! $ join ! $ join ! $
         use1 W (raw (Run 𝓤 H A mem run .pre (to-run l₉ xs ν δ))) (goes-run l₉ xs ν δ) $
         -- `run`
         calls-at ! fm (Run 𝓤 H A mem run) known-run (to-run l₉ xs ν δ)
-        (and-then ! (load ! (from ! (stop !)) (look ! 37 refl)) (and-then ! (load ! (from ! (stop !)) (look ! 35 refl)) (and-then ! (load ! (from ! (stop !)) (look ! 33 refl)) (and-then ! (load ! (from ! (stop !)) (look ! 31 refl)) (and-then ! (load ! (from ! (stop !)) (look ! 14 refl)) (and-then ! (load ! (from ! (stop !)) (look ! 10 refl)) (and-then ! (load ! (from ! (stop !)) (look ! 6 refl)) (no-more !)))))))) (λ w₂.
-        use1 W (later (some (λ (t : Ran). (toks ν ⊛ ‵ (R.the-row .own t (w₂ ∷ []))) ⊛ raw (ensured 𝓤 H A run′.ended (run′.clauses 𝓤 H A mem run) (κ₀, (κ₁, (κ₂, (ν ∷ [], tt)))) (ran l₉ xs δ) tt t)))) (id⊢ 𝓤 _) $ await ! tt $ pick ! (λ t. split ! $ move ! (1 ∷ []) $
-        use1 W (some (λ (zs : Unit {0} × (Unit {0} × (Unit {0} × (Unit {0} × (List ℕ × (List ℕ × (List Report × Unit {0}))))))). ‵ (lasts run′.ended (κ₀, (κ₁, (κ₂, (ν ∷ [], tt)))) (ran l₉ xs δ) zs) ⊛ raw (fact 𝓤 (IsRun (model.run job (fl .now) start trials (tb .now) (pa .now) (take n xs)) t (zs .1 .1 .1 .1 .0) (zs .1 .1 .1 .1 .1 .0) (zs .1 .1 .1 .1 .1 .1 .0))))) (id⊢ 𝓤 _) $ pick ! (λ zs. split ! $ move ! (1 ∷ []) $
+        (and-then ! (load ! (from ! (stop !)) (look ! 37 refl)) (and-then ! (load ! (from ! (stop !)) (look ! 35 refl))
+        (and-then ! (load ! (from ! (stop !)) (look ! 33 refl)) (and-then ! (load ! (from ! (stop !)) (look ! 31 refl))
+        (and-then ! (load ! (from ! (stop !)) (look ! 14 refl)) (and-then ! (load ! (from ! (stop !)) (look ! 10 refl))
+        (and-then ! (load ! (from ! (stop !)) (look ! 6 refl)) (no-more !)))))))) (λ w₂.
+        use1 W (later (some (λ (t : Ran). (toks ν ⊛ ‵ (R.the-row .own t (w₂ ∷ []))) ⊛ raw
+        (ensured 𝓤 H A run′.ended (run′.clauses 𝓤 H A mem run) (κ₀, (κ₁, (κ₂, (ν ∷ [], tt)))) (ran l₉ xs δ) tt t)))) (id⊢ 𝓤 _) $ await ! tt $ pick ! (λ t. split ! $ move ! (1 ∷ []) $
+        use1 W (some (λ (zs : Unit {0} × (Unit {0} × (Unit {0} × (Unit {0} × (List ℕ × (List ℕ × (List Report × Unit {0}))))))). ‵
+        (lasts run′.ended (κ₀, (κ₁, (κ₂, (ν ∷ [], tt)))) (ran l₉ xs δ) zs) ⊛ raw
+        (fact 𝓤 (IsRun (model.run job (fl .now) start trials (tb .now) (pa .now) (take n xs)) t (zs .1 .1 .1 .1 .0) (zs .1 .1 .1 .1 .1 .0) (zs .1 .1 .1 .1 .1 .1 .0))))) (id⊢ 𝓤 _) $ pick !
+        (λ zs. split ! $ move ! (1 ∷ []) $
         heard ! (IsRun (model.run job (fl .now) start trials (tb .now) (pa .now) (take n xs)) t (zs .1 .1 .1 .1 .0) (zs .1 .1 .1 .1 .1 .0) (zs .1 .1 .1 .1 .1 .1 .0)) (λ said.
-        fsplit ! $ move ! (1 ∷ []) $ fsplit ! $ move ! (1 ∷ []) $ fsplit ! $ move ! (1 ∷ []) $ fsplit ! $ move ! (1 ∷ []) $ fsplit ! $ fsplit ! $ move ! (1 ∷ []) $ feqL ! (λ same-t. move ! (1 ∷ []) $ fsplit ! $ fsplit ! $ move ! (1 ∷ []) $ feqL ! (λ same-p. move ! (1 ∷ []) $ fsplit ! $ fsplit ! $ move ! (1 ∷ []) $ feqL ! (λ same-r.
+        fsplit ! $ move ! (1 ∷ []) $ fsplit ! $ move ! (1 ∷ []) $ fsplit ! $ move ! (1 ∷ []) $ fsplit ! $ move ! (1 ∷ []) $ fsplit ! $ fsplit ! $ move ! (1 ∷ []) $ feqL !
+        (λ same-t. move ! (1 ∷ []) $ fsplit ! $ fsplit ! $ move ! (1 ∷ []) $ feqL ! (λ same-p. move ! (1 ∷ []) $ fsplit ! $ fsplit ! $ move ! (1 ∷ []) $ feqL ! (λ same-r.
         move ! (8 ∷ []) $ split ! $ move ! (1 ∷ []) $
         peeks ! R.the-row (Is R.the-row) (shows 𝓤 H A R.the-row) t (w₂ ∷ []) (λ is₂. land ! (from ! (stop !)) (init ! 29 refl (EL.lawful R.the-type R′.the-laws 𝓤 H A W tt .typed t _ is₂ .0)) $
         -- the lifetime is ended, and the array is whole again
         move ! (1 ∷ []) $ split ! $ move ! (1 ∷ []) $ split ! $ move ! (1 ∷ []) $ split ! $ move ! (1 ∷ []) $ split ! $
         lft-end ! tt $ move ! (0 ∷ 15 ∷ 6 ∷ []) $
         use3 W (later (some (λ (w : Val). ‵ (fat fullShare arr l₉ 0 w) ⊛ ‵ (Reports (zs .1 .1 .1 .1 .1 .1 .0 ++ past n xs) w))))
-        (part-back T.the-row l₉ 𝓤 H A W (named 3) (ν ∷ []) tt (LL.vals T.the-type T′.the-laws) (LL.tells T.the-type T′.the-laws) 1001 n δ xs (zs .1 .1 .1 .1 .1 .1 .0) (is₁ .1 .0 .1) (lent .few)) $ await ! tt $ pick ! (λ w₃. split ! $ move ! (1 ∷ []) $
+        (part-back T.the-row l₉ 𝓤 H A W (named 3) (ν ∷ []) tt (LL.vals T.the-type T′.the-laws) (LL.tells T.the-type T′.the-laws) 1001 n δ xs (zs .1 .1 .1 .1 .1 .1 .0) (is₁ .1 .0 .1) (lent .few))
+        $ await ! tt $ pick ! (λ w₃. split ! $ move ! (1 ∷ []) $
         peeks ! (Array T.the-row 1001) (Is (Array T.the-row 1001)) (shows 𝓤 H A (Array T.the-row 1001)) (zs .1 .1 .1 .1 .1 .1 .0 ++ past n xs) (w₃ ∷ []) (λ is₃.
         assigns ! (of-opd ! (load ! (from ! (stop !)) (look ! 1 refl))) (from ! (stop !)) (store ! 30 refl (array-typed (zs .1 .1 .1 .1 .1 .1 .0 ++ past n xs) w₃ is₃)) $
         -- `file`
         move ! (6 ∷ 0 ∷ []) $ use2 W (raw (File 𝓤 H A mem run .pre (to-file t (zs .1 .1 .1 .1 .1 .1 .0 ++ past n xs) w₂ w₃))) (goes-file t (zs .1 .1 .1 .1 .1 .1 .0 ++ past n xs) w₂ w₃) $
         calls-at ! fm (File 𝓤 H A mem run) known-file (to-file t (zs .1 .1 .1 .1 .1 .1 .0 ++ past n xs) w₂ w₃)
         (and-then ! (load ! (from ! (stop !)) (look ! 31 refl)) (and-then ! (load ! (from ! (stop !)) (look ! 29 refl)) (no-more !))) (λ w₄.
-        use1 W (later (some (λ (r : Filed). (‵ ftrue ⊛ ‵ (K.the-row .own r (w₄ ∷ []))) ⊛ raw (ensured 𝓤 H A file′.ended (file′.clauses 𝓤 H A mem run) tt (t, ((zs .1 .1 .1 .1 .1 .1 .0 ++ past n xs), tt)) tt r)))) (id⊢ 𝓤 _) $ await ! tt $ pick ! (λ r. split ! $ move ! (1 ∷ []) $
-        use1 W (raw (fact 𝓤 ((r .answer ≡ t) × (r .reports ≡ (zs .1 .1 .1 .1 .1 .1 .0 ++ past n xs))))) (file-said 𝓤 H A mem run t (zs .1 .1 .1 .1 .1 .1 .0 ++ past n xs) r) $ heard ! ((r .answer ≡ t) × (r .reports ≡ (zs .1 .1 .1 .1 .1 .1 .0 ++ past n xs))) (λ made. split ! $ drop ! $
+        use1 W (later (some (λ (r : Filed). (‵ ftrue ⊛ ‵ (K.the-row .own r (w₄ ∷ []))) ⊛ raw
+        (ensured 𝓤 H A file′.ended (file′.clauses 𝓤 H A mem run) tt (t, ((zs .1 .1 .1 .1 .1 .1 .0 ++ past n xs), tt)) tt r)))) (id⊢ 𝓤 _) $ await ! tt $ pick ! (λ r. split ! $ move ! (1 ∷ []) $
+        use1 W (raw (fact 𝓤 ((r .answer ≡ t) × (r .reports ≡ (zs .1 .1 .1 .1 .1 .1 .0 ++ past n xs))))) (file-said 𝓤 H A mem run t (zs .1 .1 .1 .1 .1 .1 .0 ++ past n xs) r) $ heard !
+        ((r .answer ≡ t) × (r .reports ≡ (zs .1 .1 .1 .1 .1 .1 .0 ++ past n xs))) (λ made. split ! $ drop ! $
         peeks ! K.the-row (Is K.the-row) (shows 𝓤 H A K.the-row) r (w₄ ∷ []) (λ is₄. land ! (from ! (stop !)) (init ! 50 refl (LL.lawful K.the-type K′.the-laws 𝓤 H A W .typed r _ is₄ .0)) $
         returns ! (look ! 50 refl) $
-        forget ! 50 refl $ forget ! 48 refl $ forget ! 46 refl $ forget ! 44 refl $ forget ! 42 refl $ forget ! 40 refl $ forget ! 38 refl $ forget ! 36 refl $ forget ! 34 refl $ forget ! 1 refl $ forget ! 31 refl $ forget ! 29 refl $ forget ! 27 refl $ forget ! 25 refl $ forget ! 23 refl $ forget ! 21 refl $ forget ! 19 refl $ forget ! 17 refl $
-        move ! (50 ∷ 51 ∷ []) $ free1 ! $ move ! (48 ∷ 49 ∷ []) $ free1 ! $ move ! (46 ∷ 47 ∷ []) $ free1 ! $ move ! (44 ∷ 45 ∷ []) $ free1 ! $ move ! (42 ∷ 43 ∷ []) $ free1 ! $ move ! (40 ∷ 41 ∷ []) $ free1 ! $ move ! (38 ∷ 39 ∷ []) $ free1 ! $ move ! (36 ∷ 37 ∷ []) $ free1 ! $ move ! (34 ∷ 35 ∷ []) $ free1 ! $ move ! (1 ∷ 33 ∷ []) $ free1 ! $ move ! (30 ∷ 31 ∷ []) $ free1 ! $ move ! (28 ∷ 29 ∷ []) $ free1 ! $ move ! (26 ∷ 27 ∷ []) $ free1 ! $ move ! (24 ∷ 25 ∷ []) $ free1 ! $ move ! (22 ∷ 23 ∷ []) $ free1 ! $ move ! (20 ∷ 21 ∷ []) $ free1 ! $ move ! (18 ∷ 19 ∷ []) $ free1 ! $ move ! (16 ∷ 17 ∷ []) $ free1 ! $ free0 ! $
+        forget ! 50 refl $ forget ! 48 refl $ forget ! 46 refl $ forget ! 44 refl $ forget ! 42 refl $ forget ! 40 refl $ forget ! 38 refl $ forget ! 36 refl $ forget ! 34 refl $ forget ! 1 refl
+        $ forget ! 31 refl $ forget ! 29 refl $ forget ! 27 refl $ forget ! 25 refl $ forget ! 23 refl $ forget ! 21 refl $ forget ! 19 refl $ forget ! 17 refl $
+        move ! (50 ∷ 51 ∷ []) $ free1 ! $ move ! (48 ∷ 49 ∷ []) $ free1 ! $ move ! (46 ∷ 47 ∷ []) $ free1 ! $ move ! (44 ∷ 45 ∷ []) $ free1 ! $ move ! (42 ∷ 43 ∷ []) $ free1 ! $ move !
+        (40 ∷ 41 ∷ []) $ free1 ! $ move ! (38 ∷ 39 ∷ []) $ free1 ! $ move ! (36 ∷ 37 ∷ []) $ free1 ! $ move ! (34 ∷ 35 ∷ []) $ free1 ! $ move ! (1 ∷ 33 ∷ []) $ free1 ! $ move ! (30 ∷ 31 ∷ [])
+        $ free1 ! $ move ! (28 ∷ 29 ∷ []) $ free1 ! $ move ! (26 ∷ 27 ∷ []) $ free1 ! $ move ! (24 ∷ 25 ∷ []) $ free1 ! $ move ! (22 ∷ 23 ∷ []) $ free1 ! $ move ! (20 ∷ 21 ∷ []) $ free1 !
+        $ move ! (18 ∷ 19 ∷ []) $ free1 ! $ move ! (16 ∷ 17 ∷ []) $ free1 ! $ free0 ! $
         keep ! (0 ∷ 4 ∷ 3 ∷ 2 ∷ 13 ∷ 6 ∷ 7 ∷ 12 ∷ 15 ∷ []) $
-        by ! (exits r w₄ (zs .1 .1 .1 .1 .0) (zs .1 .1 .1 .1 .1 .0) (filed job (fl .now) start trials (tb .now) (pa .now) (cs .now) n xs (zs .1 .1 .1 .1 .1 .1 .0) (r .reports) t (r .answer) (zs .1 .1 .1 .1 .0) (zs .1 .1 .1 .1 .1 .0) said given (same-r ∙ length-take-le n xs (few-of xs (is₁ .1 .0 .1))) (made .0) (made .1)) same-t same-p)))))))))))))))))))))))))))))))))))))))
+        by ! (exits r w₄ (zs .1 .1 .1 .1 .0) (zs .1 .1 .1 .1 .1 .0) (filed job (fl .now) start trials (tb .now) (pa .now) (cs .now) n xs (zs .1 .1 .1 .1 .1 .1 .0) (r .reports) t (r .answer)
+        (zs .1 .1 .1 .1 .0) (zs .1 .1 .1 .1 .1 .0) said given (same-r ∙ length-take-le n xs (few-of xs (is₁ .1 .0 .1))) (made .0) (made .1)) same-t same-p)))))))))))))))))))))))))))))))))))))))
 
 module _ {M : Type 1} (𝓤 : URA M) (H : Heap 𝓤) (A : Atoms 𝓤) (W : Given 𝓤 H A) (mem : Memory → SProp 𝓤) (run : Routine → Fun 𝓤) (𝓣 : Tables 𝓤 H)
-    (known-of : Triple 𝓤 (𝓣 .C #run·reports-of) (ReportsOf 𝓤 H A mem run)) (known-run : Triple 𝓤 (𝓣 .C #run·run) (Run 𝓤 H A mem run)) (known-file : Triple 𝓤 (𝓣 .C #run·file) (File 𝓤 H A mem run)) where
-  run-filed-walks : Walks 𝓤 H A f.ended stayed (WpFn 𝓤 H (𝓣 .C) (𝓣 .Λ) code.function) (f.clauses 𝓤 H A mem run)
-  run-filed-walks = walked 𝓤 H A f.ended stayed (f.clauses 𝓤 H A mem run) (WpFn 𝓤 H (𝓣 .C) (𝓣 .Λ) code.function)
-      (λ κs. (LL.vals J.the-type J′.the-laws, (slice-vals, (uint-vals w64, (uint-vals w64, (slice-vals, (slice-vals, (slice-vals, (uint-vals w64, tt)))))))))
-      (λ κs. (
-        LL.tells J.the-type J′.the-laws,
-        (
-          shr-slice-tells (named 0) (κs .0) u8,
+    (known-of : Triple 𝓤 (𝓣 .C #run·reports-of) (ReportsOf 𝓤 H A mem run)) (known-run : Triple 𝓤 (𝓣 .C #run·run) (Run 𝓤 H A mem run)) (known-file : Triple 𝓤 (𝓣 .C #run·file) (File 𝓤 H A mem run))
+  where
+    run-filed-walks : Walks 𝓤 H A f.ended stayed (WpFn 𝓤 H (𝓣 .C) (𝓣 .Λ) code.function) (f.clauses 𝓤 H A mem run)
+    run-filed-walks = walked 𝓤 H A f.ended stayed (f.clauses 𝓤 H A mem run) (WpFn 𝓤 H (𝓣 .C) (𝓣 .Λ) code.function)
+        (λ κs. (LL.vals J.the-type J′.the-laws, (slice-vals, (uint-vals w64, (uint-vals w64, (slice-vals, (slice-vals, (slice-vals, (uint-vals w64, tt)))))))))
+        (λ κs. (
+          LL.tells J.the-type J′.the-laws,
           (
-            uint-tells w64,
+            shr-slice-tells (named 0) (κs .0) u8,
             (
               uint-tells w64,
-              (mut-slice-tells (named 1) (κs .1 .0) u32, (mut-slice-tells (named 2) (κs .1 .1 .0) u16, (shr-slice-tells (named 3) (κs .1 .1 .1 .0) u64, (uint-tells w64, tt)))),
+              (
+                uint-tells w64,
+                (mut-slice-tells (named 1) (κs .1 .0) u32, (mut-slice-tells (named 2) (κs .1 .1 .0) u16, (shr-slice-tells (named 3) (κs .1 .1 .1 .0) u64, (uint-tells w64, tt)))),
+              ),
             ),
           ),
-        ),
-      ))
-      (λ κs qs bounds a g are. needs 𝓤 (Counted (a .1 .1 .1 .1 .1 .1 .1 .0) (a .1 .1 .1 .1 .1 .1 .0 .now)) _ (λ lent.
-      walk 𝓤 H A W mem run (κs .0) (κs .1 .0) (κs .1 .1 .0) (κs .1 .1 .1 .0) (qs .0) (qs .1 .0) (qs .1 .1 .0) (qs .1 .1 .1 .0)
-      (a .0) (a .1 .0) (a .1 .1 .0) (a .1 .1 .1 .0) (a .1 .1 .1 .1 .0) (a .1 .1 .1 .1 .1 .0) (a .1 .1 .1 .1 .1 .1 .0) (a .1 .1 .1 .1 .1 .1 .1 .0)
-      (are .0) (are .1 .1 .0 .1) (are .1 .1 .1 .0 .1) (are .1 .1 .1 .1 .1 .1 .1 .0 .1) lent
-      (𝓣 .C) (𝓣 .Λ) (fmOf 𝓤 H (W .laws) 𝓣) known-of known-run known-file (are .1 .0) (are .1 .1 .1 .1 .1 .1 .0) (are .1 .1 .1 .1 .0 .0 .1) (are .1 .1 .1 .1 .1 .0 .0 .1)))
+        ))
+        (λ κs qs bounds a g are. needs 𝓤 (Counted (a .1 .1 .1 .1 .1 .1 .1 .0) (a .1 .1 .1 .1 .1 .1 .0 .now)) _ (λ lent.
+        walk 𝓤 H A W mem run (κs .0) (κs .1 .0) (κs .1 .1 .0) (κs .1 .1 .1 .0) (qs .0) (qs .1 .0) (qs .1 .1 .0) (qs .1 .1 .1 .0)
+        (a .0) (a .1 .0) (a .1 .1 .0) (a .1 .1 .1 .0) (a .1 .1 .1 .1 .0) (a .1 .1 .1 .1 .1 .0) (a .1 .1 .1 .1 .1 .1 .0) (a .1 .1 .1 .1 .1 .1 .1 .0)
+        (are .0) (are .1 .1 .0 .1) (are .1 .1 .1 .0 .1) (are .1 .1 .1 .1 .1 .1 .1 .0 .1) lent
+        (𝓣 .C) (𝓣 .Λ) (fmOf 𝓤 H (W .laws) 𝓣) known-of known-run known-file (are .1 .0) (are .1 .1 .1 .1 .1 .1 .0) (are .1 .1 .1 .1 .0 .0 .1) (are .1 .1 .1 .1 .1 .0 .0 .1)))
 
-  run-filed-meets : Meets 𝓤 H A f.signature (WpFn 𝓤 H (𝓣 .C) (𝓣 .Λ) code.function) (f.spec 𝓤 H A mem run)
-  run-filed-meets =
-      walk-meets 𝓤 H A f.ended stayed W (
-        goes-none 𝓤 H A W 4 (λ _. J.the-row) yes (λ κs x f. refl),
-        (
-          goes-none-slice 𝓤 H A W 4 (0 ∷ []) tt (plain (λ _. u8)) yes,
+    run-filed-meets : Meets 𝓤 H A f.signature (WpFn 𝓤 H (𝓣 .C) (𝓣 .Λ) code.function) (f.spec 𝓤 H A mem run)
+    run-filed-meets =
+        walk-meets 𝓤 H A f.ended stayed W (
+          goes-none 𝓤 H A W 4 (λ _. J.the-row) yes (λ κs x f. refl),
           (
-            goes-none 𝓤 H A W 4 (λ _. usize) yes (λ κs x f. refl),
+            goes-none-slice 𝓤 H A W 4 (0 ∷ []) tt (plain (λ _. u8)) yes,
             (
               goes-none 𝓤 H A W 4 (λ _. usize) yes (λ κs x f. refl),
-              (goes-gave-slice 𝓤 H A W 4 1 tt (plain (λ _. u32)), (goes-gave-slice 𝓤 H A W 4 2 tt (plain (λ _. u16)), (goes-none-slice 𝓤 H A W 4 (3 ∷ []) tt (plain (λ _. u64)) yes, (goes-none 𝓤 H A W 4 (λ _. usize) yes (λ κs x f. refl), tt)))),
+              (
+                goes-none 𝓤 H A W 4 (λ _. usize) yes (λ κs x f. refl),
+                (
+                  goes-gave-slice 𝓤 H A W 4 1 tt (plain (λ _. u32)),
+                  (
+                    goes-gave-slice 𝓤 H A W 4 2 tt (plain (λ _. u16)),
+                    (goes-none-slice 𝓤 H A W 4 (3 ∷ []) tt (plain (λ _. u64)) yes, (goes-none 𝓤 H A W 4 (λ _. usize) yes (λ κs x f. refl), tt)),
+                  ),
+                ),
+              ),
             ),
           ),
-        ),
-      )
-      (f.clauses 𝓤 H A mem run) (WpFn 𝓤 H (𝓣 .C) (𝓣 .Λ) code.function) (WpFn-mono 𝓤 H (W .laws) 𝓣 code.function) run-filed-walks
+        )
+        (f.clauses 𝓤 H A mem run) (WpFn 𝓤 H (𝓣 .C) (𝓣 .Λ) code.function) (WpFn-mono 𝓤 H (W .laws) 𝓣 code.function) run-filed-walks
 
 pub run-filed-spec : {M : Type 1} → stated.statement M
 unfolding code.routine tablesOf
