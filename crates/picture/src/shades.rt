@@ -104,7 +104,14 @@ pub(crate) fn shade_at(floor: &[u8], table: &[u32], first: &[u32], x: usize, mos
 }
 
 // The shade of each of n cells.
-pub(crate) fn fill(floor: &[u8], table: &[u32], first: &[u32], most: usize, shades: &mut Shades, n: usize)
+pub(crate) fn fill(
+    floor: &[u8],
+    table: &[u32],
+    first: &[u32],
+    most: usize,
+    shades: &mut Shades,
+    n: usize,
+)
     requires { ⌜ (most < 4294967296) × (n ≤ 4096) ⌝ }
 {
     let mut x = 0;
