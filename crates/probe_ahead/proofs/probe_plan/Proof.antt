@@ -1,11 +1,11 @@
--- `probe::probe_plan` is safe: the window that `look` leaves is what `aim` and `trace` take.
+-- `probe_ahead::probe_plan` is safe: the window that `look` leaves is what `aim` and `trace` take.
 -- Assumes nothing.
 use native.Mathlib.Omega.{arith}
 use borrow.Author.Needs.{needs}
-use Rattle.probe.specs.Plain.{plain}
+use Rattle.probe_ahead.specs.Plain.{plain}
 use Rattle.lookahead.specs.Contract.{Window}
-use Rattle.probe.proofs.probe_plan.Statement.{statement}
-use Rattle.probe.proofs.probe_plan.Tie as tie
+use Rattle.probe_ahead.proofs.probe_plan.Statement.{statement}
+use Rattle.probe_ahead.proofs.probe_plan.Tie as tie
 
 -- from the matched window back to where the lists are known; six steps ahead of that is the start
 abbrev known : tie.After-last → tie.After-slice-known4

@@ -1,1 +1,0 @@
--- Nothing: the proofs of the functions stand in folders of their own.
