@@ -20,7 +20,7 @@ use Rattle.learning.specs.Ground.{View}
 use Rattle.model.specs.Basics.{member}
 use Rattle.model.specs.Floor.{goalsOf}
 use Rattle.model.specs.Checks.{ceiling}
-use Rattle.model.specs.Lookahead.{seen, ring, emptyRing, newFigure, target}
+use Rattle.model.specs.Lookahead.{seen, ring, emptyRing, newFigure, target, mostMoves}
 use Rattle.model.specs.Decision.{Deed, atGoal, rise, forward, stay, backOut, goBack, learn, act}
 use Rattle.model.specs.Ride.{Ride, next, report}
 use Rattle.model.specs.Line.{field, movesField, trialLine}
@@ -181,7 +181,7 @@ module _ (j : Job) (bytes : List ℕ) (start : ℕ) (table₀ path₀ : List ℕ
     way-is = ap (take (r .moves)) laid-is ∙ take-at (d .way) _ (r .moves) (sym counted)
 
     -- they are few, and moves
-    pub sayable : (r .moves ≤ 11) × (r .moves ≤ length moves′) × ((i : ℕ) → i < r .moves → getD moves′ i 0 < 8)
+    pub sayable : (r .moves ≤ mostMoves) × (r .moves ≤ length moves′) × ((i : ℕ) → i < r .moves → getD moves′ i 0 < 8)
     sayable = (
       omega (arith, counted, done .few, ap (λ x. length (x .way)) same),
       omega (arith, counted, ap length laid-is, length-append (d .way) (drop (0 + length (d .way)) moves)),
@@ -230,7 +230,7 @@ module _ (j : Job) (bytes : List ℕ) (start : ℕ) (table₀ path₀ : List ℕ
     abbrev off-it : w .state .current ≡ j .goal → ⊥
     off-it = aside j bytes start table₀ path₀ opened (t .under) e
 
-    pub may-say : Room out at × ((r .moves ≤ 11) × (r .moves ≤ length moves′) × ((i : ℕ) → i < r .moves → getD moves′ i 0 < 8))
+    pub may-say : Room out at × ((r .moves ≤ mostMoves) × (r .moves ≤ length moves′) × ((i : ℕ) → i < r .moves → getD moves′ i 0 < 8))
     may-say = (t .told .room, sayable j bytes start table₀ path₀ opened g off-it a)
 
     pub tells : {mark′ cost′ list′ place′ out′ : List ℕ} {at′ : ℕ} {moved′ : Bool} → Fresh (r .base) mark′ cost′ list′ × Places place′ path′ (r .state .length) → length moves′ ≡ length moves

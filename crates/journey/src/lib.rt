@@ -14,6 +14,7 @@ ghost use Rattle.model.specs.Line.{courseLines};
 ghost use Rattle.line.specs.Printing.{Printed, moveDigits, countFields};
 ghost use Rattle.run.specs.Trials.{Scratch};
 ghost use Rattle.journey.specs.Telling.{Front, Room, Spilt, Told, Ended, dash, Ways, Trips};
+ghost use Rattle.model.specs.Lookahead.{mostMoves};
 use answers::Job;
 use answers::Report;
 use answers::Verdict;
@@ -51,7 +52,7 @@ fn spill(out: &[u8], at: usize) -> usize
 
 // The first n moves, a digit each.
 fn say_moves(out: &mut [u8], at: usize, moves: &[u8], n: usize) -> usize
-    requires { ⌜ Room (now out) at ⌝ ∗ ⌜ (n ≤ 11) × (n ≤ length (now moves)) × ((i : ℕ) → i < n → getD (now moves) i 0 < 8) ⌝ }
+    requires { ⌜ Room (now out) at ⌝ ∗ ⌜ (n ≤ mostMoves) × (n ≤ length (now moves)) × ((i : ℕ) → i < n → getD (now moves) i 0 < 8) ⌝ }
     ensures { λ r. ⌜ Told (now (out .entry)) at (moveDigits (take n (now (moves .entry)))) (now (out .exit)) r ⌝ }
 {
     let end = print::moves(out, at, moves, n);

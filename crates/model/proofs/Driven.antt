@@ -149,7 +149,7 @@ module _ (j : Job) (bytes : List ℕ) (s : State) (table path : List ℕ) where
     route-drives a x l e h = chain-drives f (P .sized) (goals j) (route-means j bytes a (P .settings .deep) l e x h)
 
     route-few : (a x : ℕ) → a < size f → atGoal j bytes a ≡ false → ring j bytes (seen j bytes a) x ≤ seen j bytes a .last
-        → length (movesAlong f a (route j bytes a (seen j bytes a) x)) ≤ 11
+        → length (movesAlong f a (route j bytes a (seen j bytes a) x)) ≤ mostMoves
     unfolding ringOf lastOf
     route-few a x l e h =
         omega (
@@ -247,7 +247,7 @@ pub record Moved (f : Floor) (here target n cost from : ℕ) (lent moves : List 
   pub before : take from moves ≡ take from lent
   pub after : drop (from + n) moves ≡ drop (from + n) lent
 
-laid-moved : (f : Floor) {here target cost : ℕ} (n from : ℕ) (lent way : List ℕ) → from + 288 ≤ length lent → length way ≡ n → length way ≤ 11 → Drives f here way target cost
+laid-moved : (f : Floor) {here target cost : ℕ} (n from : ℕ) (lent way : List ℕ) → from + 288 ≤ length lent → length way ≡ n → length way ≤ mostMoves → Drives f here way target cost
     → Moved f here target n cost from lent (laid lent from way)
 laid-moved f {here} {target} {cost} n from lent way room e few k =
     let rest = drop (from + length way) lent in
