@@ -74,8 +74,20 @@ fn plain_read(goal: usize, q: usize, floor: &[u8], file: &[u8], table: &mut [u32
     let mut low = 0;
     for r in records.chunks_exact(6) {
         let (x, y) = (u16::from_be_bytes([r[0], r[1]]) as usize, u32::from_be_bytes([r[2], r[3], r[4], r[5]]));
-        if x >= CELLS || floor[x] != 0 || x < low || y <= opening(goal, q, x) || y > CEILING {
-            return 15;
+        if x >= CELLS {
+            return 18;
+        }
+        if floor[x] != 0 {
+            return 19;
+        }
+        if x < low {
+            return 20;
+        }
+        if y <= opening(goal, q, x) {
+            return 21;
+        }
+        if y > CEILING {
+            return 22;
         }
         low = x + 1;
     }

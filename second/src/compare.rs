@@ -128,10 +128,13 @@ fn shown(bytes: &[u8]) -> String {
     }
 }
 
+/// The one number from 0 to 22 that nothing answers.
+const UNUSED: usize = 15;
+
 /// How often each number, call and kind of decision occurred.
 #[derive(Default)]
 pub struct Tally {
-    numbers: [u64; 18],
+    numbers: [u64; 23],
     calls: [u64; 11],
     malformed: u64,
     aisle: u64,
@@ -214,12 +217,12 @@ impl Tally {
     }
 
     pub fn missing(&self) -> Vec<usize> {
-        (0..self.numbers.len()).filter(|&number| self.numbers[number] == 0).collect()
+        (0..self.numbers.len()).filter(|&number| number != UNUSED && self.numbers[number] == 0).collect()
     }
 
     pub fn print(&self) {
         println!("number  answered");
-        for (number, count) in self.numbers.iter().enumerate() {
+        for (number, count) in self.numbers.iter().enumerate().filter(|&(number, _)| number != UNUSED) {
             println!("{number:6}  {count}");
         }
         println!("call                 made");

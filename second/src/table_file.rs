@@ -57,7 +57,19 @@ fn record(bytes: &[u8]) -> (usize, u32) {
     (usize::from(cell), figure)
 }
 
-/// The public reader: judges 1, 3, 4, 13, 14 and 15, and fills the table only when all is well.
+/// The first fault of a record, in the order of document 02. `byte` is the floor's at its cell, if the cell is on the floor.
+fn record_fault(byte: Option<&u8>, before: Option<usize>, cell: usize, figure: u32, opening: u32) -> Option<u8> {
+    match byte {
+        None => Some(18),
+        Some(&byte) if byte != 0 => Some(19),
+        Some(_) if before.is_some_and(|before| cell <= before) => Some(20),
+        Some(_) if figure <= opening => Some(21),
+        Some(_) if figure > CEILING => Some(22),
+        Some(_) => None,
+    }
+}
+
+/// The public reader: judges 1, 3, 4, 13, 14 and 18 to 22, and fills the table only when all is well.
 pub fn read(
     width: u64,
     height: u64,
@@ -79,10 +91,9 @@ pub fn read(
     let mut before = None;
     for (number, bytes) in records.chunks_exact(RECORD).enumerate() {
         let (cell, figure) = record(bytes);
-        let free = floor.get(cell) == Some(&0);
-        let rising = before.is_none_or(|before| cell > before);
-        if !free || !rising || figure <= opening_figure(width, cell, goal, q) || figure > CEILING {
-            return Err(Refusal::at_record(15, number));
+        let opening = opening_figure(width, cell, goal, q);
+        if let Some(fault) = record_fault(floor.get(cell), before, cell, figure, opening) {
+            return Err(Refusal::at_record(fault, number));
         }
         before = Some(cell);
     }

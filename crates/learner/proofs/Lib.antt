@@ -1,7 +1,9 @@
 -- What follows from the promises of the public calls. One: everything that a call answers and leaves has one possible value.
 -- The mission. Mission: demand 3, with Deciding below it. Refused: demand 1's last sentence. ReadBack: demand 2's.
+-- RecordRefused: what a refused record of a table file means, as document 02 splits it.
 pub mod One
 pub mod Deciding
 pub mod Mission
 pub mod Refused
 pub mod ReadBack
+pub mod RecordRefused

@@ -265,7 +265,7 @@ module _ (j : Job) (bytes : List ℕ) (start : ℕ) (table : List ℕ) where
 
   -- v is what an opening answers: that of a job, of a trial or of a run
   module _ (v : Verdict) (o : IsOpening j bytes start table v) where
-    abbrev ends : Ends (soundness j bytes start table) v
+    abbrev ends : Ends 6 (soundness j bytes start table) v
     ends = ends-with-soundness j bytes start table o
 
     pub refused-for-no-way-only-when-none-exists : (r : Refusal) → v ≡ Vd.Refused r → r .number ≡ 6 → NoWay

@@ -1,13 +1,12 @@
 -- Laws of the table file: what each check asks, as a record that it is equal to; and one step of reading and of writing.
 -- The code cites them, and the round trip.
 use mathlib.Core.Path.{_≡_, refl, sym, _∙_, ap}
-use mathlib.Core.Bool.{Bool, true, false, not, _&&_}
+use mathlib.Core.Bool.{Bool, true, false, _&&_}
 use mathlib.Core.List.{List, [], _∷_}
-use mathlib.Core.Logic.{_⊎_, inl, inr, ⊎-elim}
 use Prim.Native.Nat.{ℕ, zero, suc, _+_, _-_, _*_, _≤_, _<_}
 use native.Mathlib.Omega.{arith}
-use lib.Dec.{leb, ltb, eqb}
-use borrow.Author.Tests.{leb-true, ltb-false, leb-false, eqb-true, not-false, le-leb, lt-leb, le-ltb, eq-eqb, ne-eqb}
+use lib.Dec.{leb, eqb}
+use borrow.Author.Tests.{leb-true, ltb-false, leb-false, eqb-true, not-false, le-leb, lt-leb, lt-ltb, le-ltb, eq-eqb, ne-eqb}
 use lib.ListN.{length, getD, take, drop, length-append}
 use Rattle.answers.specs.declared.Place.the-variants as P
 use Rattle.answers.specs.declared.Verdict.the-variants as Vd
@@ -120,7 +119,7 @@ module _ (f : Floor) (q : ℕ) (gs file : List ℕ) where
       let test = eqb (getD t 0 0) (f .width) && eqb (getD t 1 0) (f .height) && eqb (halfAt t 2) (getD gs 0 0) && eqb (getD t 4 0) q in
       ap (λ b. unless b 14) (fails test (λ e. h (same-gives (ap (λ b. unless b 14) e))))
 
--- ---- 15, a record
+-- ---- 18 to 22, a record
 
 -- a record that is lawful after the cells below low
 pub record Lawful (f : Floor) (q : ℕ) (gs : List ℕ) (low : ℕ) (part : List ℕ) : Type 0 where
@@ -130,14 +129,10 @@ pub record Lawful (f : Floor) (q : ℕ) (gs : List ℕ) (low : ℕ) (part : List
   pub above : opening f q gs (cellIn part) < figureIn part
   pub within : figureIn part ≤ ceiling
 
-passed : (b : Bool) (x : ℕ) → choose b 15 x ≡ 0 → (b ≡ false) × (x ≡ 0)
-passed true x e = absurd (omega arith)
-passed false x e = (refl, e)
-
--- a fault's number is 15 or 0
-two : (b : Bool) {x : ℕ} → (x ≡ 0) ⊎ (x ≡ 15) → (choose b 15 x ≡ 0) ⊎ (choose b 15 x ≡ 15)
-two true h = inr refl
-two false h = h
+-- a record without a number has passed each test
+passed : (k : ℕ) (b : Bool) {x : ℕ} → choose b (suc k) x ≡ 0 → (b ≡ false) × (x ≡ 0)
+passed k true e = absurd (omega arith)
+passed k false e = (refl, e)
 
 module _ (f : Floor) (q : ℕ) (gs : List ℕ) (low : ℕ) (part : List ℕ) where
   pub no-fault : Lawful f q gs low part → recordFault f q gs low part ≡ 0
@@ -152,21 +147,51 @@ module _ (f : Floor) (q : ℕ) (gs : List ℕ) (low : ℕ) (part : List ℕ) whe
             (figureIn part) (l .within),
       )
 
+  -- the first test that it fails has the number
+  pub off-the-floor : size f ≤ cellIn part → recordFault f q gs low part ≡ 18
+  unfolding recordFault
+  off-the-floor h = simp (le-leb (size f) (cellIn part) h)
+
+  module _ (inside : cellIn part < size f) where
+    pub blocked : free f (cellIn part) ≡ false → recordFault f q gs low part ≡ 19
+    unfolding recordFault
+    blocked h = simp (lt-leb (size f) (cellIn part) inside, h)
+
+    module _ (open-cell : free f (cellIn part) ≡ true) where
+      pub not-rising : cellIn part < low → recordFault f q gs low part ≡ 20
+      unfolding recordFault
+      not-rising h = simp (lt-leb (size f) (cellIn part) inside, open-cell, lt-ltb (cellIn part) low h)
+
+      module _ (rising : low ≤ cellIn part) where
+        pub not-above : figureIn part ≤ opening f q gs (cellIn part) → recordFault f q gs low part ≡ 21
+        unfolding recordFault
+        not-above h = simp (
+          lt-leb (size f) (cellIn part) inside,
+          open-cell,
+          le-ltb (cellIn part) low rising,
+          le-leb (figureIn part) (opening f q gs (cellIn part)) h,
+        )
+
+        pub too-high : opening f q gs (cellIn part) < figureIn part → ceiling < figureIn part → recordFault f q gs low part ≡ 22
+        unfolding recordFault
+        too-high above h =
+            simp (
+              lt-leb (size f) (cellIn part) inside,
+              open-cell,
+              le-ltb (cellIn part) low rising,
+              lt-leb (figureIn part) (opening f q gs (cellIn part)) above,
+              lt-ltb ceiling (figureIn part) h,
+            )
+
   pub lawful : recordFault f q gs low part ≡ 0 → Lawful f q gs low part
   unfolding recordFault
   lawful e =
-      let a = passed _ _ e in
-      let b = passed _ _ (a .1) in
-      let c = passed _ _ (b .1) in
-      let d = passed _ _ (c .1) in
-      let g = passed _ _ (d .1) in
+      let a = passed 17 _ e in
+      let b = passed 18 _ (a .1) in
+      let c = passed 19 _ (b .1) in
+      let d = passed 20 _ (c .1) in
+      let g = passed 21 _ (d .1) in
       record { inside = leb-false _ _ (a .0); open-cell = not-false _ (b .0); rising = ltb-false _ _ (c .0); above = leb-false _ _ (d .0); within = ltb-false _ _ (g .0) }
-
-  pub fault : (Lawful f q gs low part → ⊥) → recordFault f q gs low part ≡ 15
-  unfolding recordFault
-  fault h = ⊎-elim (λ e. absurd (h (lawful e))) (λ e. e)
-      (two (leb (size f) (cellIn part)) (two (not (free f (cellIn part))) (two (ltb (cellIn part) low)
-      (two (leb (figureIn part) (opening f q gs (cellIn part))) (two (ltb ceiling (figureIn part)) (inl refl))))))
 
   pub judge-more : (n i : ℕ) → recordFault f q gs low part ≡ 0 → judgeRecords f q gs (suc n) i low part ≡ judgeRecords f q gs n (suc i) (suc (cellIn part)) (drop 6 part)
   unfolding judgeRecords

@@ -24,9 +24,10 @@ pub mod Driven
 pub mod KeptWay
 -- Demand 3 of the mission, sentence by sentence.
 pub mod Demand
--- The table file: its checks and its records; the round trip of demand 2.
+-- The table file: its checks and its records; what a refused record means; the round trip of demand 2.
 pub mod Files
 pub mod Records
+pub mod FirstFault
 pub mod RoundTrip
 -- The program `aisle`: which of its input's bytes decide, and what its trial lines tell.
 pub mod Cut

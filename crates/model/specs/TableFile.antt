@@ -67,15 +67,15 @@ cellIn part = halfAt part 0
 abbrev pub figureIn : List ℕ → ℕ
 figureIn part = wordAt part 2
 
--- 15: a record off the floor, blocked, not above the cell before, not above the opening figure, or above the ceiling.
--- `low` is one more than the cell before. The number of its fault, 0 where it has none
+-- 18: its cell is off the floor. 19: blocked. 20: not above the one before. 21: its figure is not above the opening figure. 22: above the ceiling.
+-- Where a record has several faults it is the first in this order. `low` is one more than the cell before. 0 where it has none
 unfoldable pub recordFault : Floor → ℕ → List ℕ → (low : ℕ) → (part : List ℕ) → ℕ
 recordFault f q gs low part =
-    choose (leb (size f) (cellIn part)) 15
-    (choose (not (free f (cellIn part))) 15
-    (choose (ltb (cellIn part) low) 15
-    (choose (leb (figureIn part) (opening f q gs (cellIn part))) 15
-    (choose (ltb ceiling (figureIn part)) 15
+    choose (leb (size f) (cellIn part)) 18
+    (choose (not (free f (cellIn part))) 19
+    (choose (ltb (cellIn part) low) 20
+    (choose (leb (figureIn part) (opening f q gs (cellIn part))) 21
+    (choose (ltb ceiling (figureIn part)) 22
     0))))
 
 -- n records, the first of them numbered i: names the first faulty one

@@ -13,12 +13,12 @@ use Rattle.answers.specs.declared.Refusal.{Refusal}
 use Rattle.answers.specs.declared.Verdict.{Verdict}
 use Rattle.answers.specs.declared.Verdict.the-variants as Vd
 use Rattle.model.specs.Basics.{refuseAt}
-use Rattle.model.specs.Floor.{Floor, size, free, opening, openingTable, goalsOf}
+use Rattle.model.specs.Floor.{Floor, size, openingTable, goalsOf}
 use Rattle.model.specs.TableFile.{cellIn, figureIn, countIn, backIn, trailerHolds, findRecords, recordFault, judgeRecords, applied, readVerdict, readOf, readTable}
 use Rattle.model.specs.Opening.{openTable}
-use Rattle.model.specs.Checks.{ceiling, scale}
+use Rattle.model.specs.Checks.{scale}
 use Rattle.model.proofs.Parts.{rest}
-use Rattle.model.proofs.Files.{openable, Lawful, judge-more, judge-stop, trailer-gives, found}
+use Rattle.model.proofs.Files.{openable, judge-more, judge-stop, trailer-gives, found}
 use Rattle.table_file.specs.Promises.{Opened, startOf, Reads}
 
 -- what an opened table gives
@@ -53,24 +53,6 @@ module _ (file : List ℕ) where
 pub judged-by : (f : Floor) (q : ℕ) (gs file : List ℕ) (n : ℕ) (part : List ℕ) (v : Verdict) → v ≡ judgeRecords f q gs n 0 0 part → n ≡ countIn file → part ≡ findRecords file
     → v ≡ judgeRecords f q gs (countIn file) 0 0 (findRecords file)
 judged-by f q gs file n part v e a b = e ∙ λ i. judgeRecords f q gs (a i) 0 0 (b i)
-
--- a record by the numbers that the code reads
-module _ (f : Floor) (q : ℕ) (gs : List ℕ) (low : ℕ) (part : List ℕ) (cell figure o : ℕ) (c : cell ≡ cellIn part) where
-  pub lawful-by : free f cell ≡ true → o ≡ opening f q gs cell → figure ≡ figureIn part → (cell < size f) × (low ≤ cell) × (o < figure) × (figure ≤ ceiling)
-      → Lawful f q gs low part
-  lawful-by e d g h = record {
-    inside = rw c at (h .0);
-    open-cell = rw c at e;
-    rising = rw c at (h .1);
-    above = let k : opening f q gs (cellIn part) ≡ o = sym (rw c at d) in rw k (rw g at (h .2));
-    within = rw g at (h .3);
-  }
-
-  pub lawful-free : Lawful f q gs low part → free f cell ≡ true
-  lawful-free l = ap (free f) c ∙ l .open-cell
-
-  pub lawful-above : o ≡ opening f q gs cell → figure ≡ figureIn part → Lawful f q gs low part → o < figure
-  lawful-above d g l = rw (d, c, g) (l .above)
 
 -- i of n records are judged: the next cell is low at least, and t is left
 pub record Judging (f : Floor) (q : ℕ) (gs : List ℕ) (n : ℕ) (part : List ℕ) (i low : ℕ) (t : List ℕ) : Type 0 where

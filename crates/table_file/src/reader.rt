@@ -40,27 +40,27 @@ fn same_job(site: Site, file: &[u8]) -> Verdict
     Verdict::Done
 }
 
-// 15: the number of the fault of the record at the front of a part, 0 where it has none. `low` is one more than the cell before.
+// 18 to 22: the number of the first fault of the record at the front of a part, 0 where it has none. `low` is one more than the cell before.
 fn record_fault(site: Site, floor: &[u8], low: usize, part: &[u8]) -> usize
     requires { ⌜ Opened (floorAt site (now floor)) (site .q) (site .goal) ⌝ ∗ ⌜ 6 ≤ length (now part) ⌝ }
     ensures { λ r. ⌜ r ≡ recordFault (floorAt site (now (floor .entry))) (site .q) (goalsAt site) low (now (part .entry)) ⌝ }
 {
     let cell = half_at(part, 0);
     if site.width * site.height <= cell {
-        return 15;
+        return 18;
     }
     if !floor::is_free(site.width, site.height, floor, cell) {
-        return 15;
+        return 19;
     }
     if cell < low {
-        return 15;
+        return 20;
     }
     let figure = word_at(part, 2);
     if figure <= floor::opening(site.width, site.height, site.goal, site.q, cell) {
-        return 15;
+        return 21;
     }
     if CEILING < figure {
-        return 15;
+        return 22;
     }
     0
 }
@@ -109,7 +109,7 @@ fn apply_records(part: &[u8], n: usize, table: &mut [u32])
     }
 }
 
-// 1, 3, 4, then 13, 14 and 15.
+// 1, 3, 4, then 13, 14 and 18 to 22.
 fn judge_read(site: Site, floor: &[u8], file: &[u8], figures: usize) -> Verdict
     ensures { λ r. ⌜ r ≡ readVerdict (floorAt site (now (floor .entry))) (site .q) (goalsAt site) (now (file .entry)) figures ⌝ }
 {

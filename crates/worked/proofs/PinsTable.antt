@@ -88,7 +88,7 @@ pub record PinsTable : Type 0 where
   -- or `back` past the file's start
   pub past-start : reads (drop 1 workedFile) ≡ no 13 P.Nowhere
   pub check-past : checkTrailer (drop 1 workedFile) ≡ no 13 P.Nowhere
-  -- 14: width, height, goal or q not this job's; after 13 and before 15
+  -- 14: width, height, goal or q not this job's; after 13 and before the records
   pub thirteen-first : Unread floor 2 0 (set workedFile 27 85) (replicate 9 5) 13 P.Nowhere
   pub width-other : map (with 0) (2 ∷ 4 ∷ []) ≡ no 14 P.Nowhere ∷ no 14 P.Nowhere ∷ []
   pub height-other : map (with 1) (2 ∷ 4 ∷ []) ≡ no 14 P.Nowhere ∷ no 14 P.Nowhere ∷ []
@@ -96,18 +96,39 @@ pub record PinsTable : Type 0 where
   pub goal-lower : Unread floor 1 5 (ending 0 16) (replicate 9 5) 14 P.Nowhere
   pub q-other : with 4 2 ≡ no 14 P.Nowhere
   pub fourteen-first : Unread floor 2 0 (entry 3 48 ++ ending 1 22) (replicate 9 5) 14 P.Nowhere
-  -- 15: off the floor, blocked, not above the cell before, not above the opening figure, or above the ceiling; names the first such record
-  pub off : Unread floor 1 0 (entry 9 48 ++ ending 1 22) (replicate 9 5) 15 (P.Record 0)
-  pub off-high : reads (1 ∷ 6 ∷ 0 ∷ 0 ∷ 0 ∷ 48 ∷ ending 1 22) ≡ no 15 (P.Record 0)
-  pub blocked : reads (entry 2 48 ++ (entry 3 48 ++ ending 2 28)) ≡ no 15 (P.Record 1)
-  pub same-cell : reads (entry 6 48 ++ (entry 6 48 ++ ending 2 28)) ≡ no 15 (P.Record 1)
-  pub lower-cell : reads (entry 5 48 ++ (entry 7 48 ++ (entry 6 48 ++ ending 3 34))) ≡ no 15 (P.Record 2)
-  pub not-above : reads (entry 6 48 ++ (entry 7 24 ++ (entry 3 48 ++ ending 3 34))) ≡ no 15 (P.Record 1)
+  -- 18 off the floor: it names the first such record
+  pub off : Unread floor 1 0 (entry 9 48 ++ ending 1 22) (replicate 9 5) 18 (P.Record 0)
+  pub off-high : reads (1 ∷ 6 ∷ 0 ∷ 0 ∷ 0 ∷ 48 ∷ ending 1 22) ≡ no 18 (P.Record 0)
+  pub last-cell : reads (entry 8 48 ++ ending 1 22) ≡ Vd.Done
+  -- 19 blocked
+  pub blocked : Unread floor 1 0 (entry 2 48 ++ (entry 3 48 ++ ending 2 28)) (replicate 9 5) 19 (P.Record 1)
+  -- 20 not above the cell before: the record just before, not one further ahead
+  pub same-cell : Unread floor 1 0 (entry 6 48 ++ (entry 6 48 ++ ending 2 28)) (replicate 9 5) 20 (P.Record 1)
+  pub lower-cell : reads (entry 5 48 ++ (entry 7 48 ++ (entry 6 48 ++ ending 3 34))) ≡ no 20 (P.Record 2)
+  -- 21 figure not above the opening figure
+  pub not-above : Unread floor 1 0 (entry 6 48 ++ (entry 7 24 ++ (entry 3 48 ++ ending 3 34))) (replicate 9 5) 21 (P.Record 1)
   pub just-above : reads (entry 6 48 ++ (entry 7 25 ++ ending 2 28)) ≡ Vd.Done
   -- the opening figure with the job's own q: 30 at cell 1
-  pub not-above-scaled : Unread oblong 3 0 (set oblongFile 5 30) (5 ∷ 5 ∷ []) 15 (P.Record 0)
-  pub ceiling-passed : reads (0 ∷ 8 ∷ 0 ∷ 13 ∷ 255 ∷ 33 ∷ ending 1 22) ≡ no 15 (P.Record 0)
-  pub ceiling-far : reads (0 ∷ 8 ∷ 1 ∷ 0 ∷ 0 ∷ 48 ∷ ending 1 22) ≡ no 15 (P.Record 0)
+  pub not-above-scaled : Unread oblong 3 0 (set oblongFile 5 30) (5 ∷ 5 ∷ []) 21 (P.Record 0)
+  -- 22 figure above the ceiling
+  pub ceiling-passed : Unread floor 1 0 (0 ∷ 8 ∷ 0 ∷ 13 ∷ 255 ∷ 33 ∷ ending 1 22) (replicate 9 5) 22 (P.Record 0)
+  pub ceiling-far : reads (0 ∷ 8 ∷ 1 ∷ 0 ∷ 0 ∷ 48 ∷ ending 1 22) ≡ no 22 (P.Record 0)
+  -- two faults in one record: the first in this order. Off the floor (and so not free), at an opening figure's height or above the ceiling
+  pub off-and-not-above : reads (entry 9 0 ++ ending 1 22) ≡ no 18 (P.Record 0)
+  pub off-and-ceiling : reads (0 ∷ 9 ∷ 255 ∷ 0 ∷ 0 ∷ 0 ∷ ending 1 22) ≡ no 18 (P.Record 0)
+  -- off the floor and not above the one before, which is then off it too: that one is named
+  pub off-and-same-cell : reads (entry 9 48 ++ (entry 9 48 ++ ending 2 28)) ≡ no 18 (P.Record 0)
+  -- blocked, and not above the one before, or at the opening figure, or above the ceiling
+  pub blocked-and-lower-cell : reads (entry 5 48 ++ (entry 3 48 ++ ending 2 28)) ≡ no 19 (P.Record 1)
+  pub blocked-and-not-above : reads (entry 3 10 ++ ending 1 22) ≡ no 19 (P.Record 0)
+  pub blocked-and-ceiling : reads (0 ∷ 3 ∷ 255 ∷ 0 ∷ 0 ∷ 0 ∷ ending 1 22) ≡ no 19 (P.Record 0)
+  -- not above the one before, and at the opening figure, or above the ceiling
+  pub lower-cell-and-not-above : reads (entry 7 48 ++ (entry 6 20 ++ ending 2 28)) ≡ no 20 (P.Record 1)
+  pub lower-cell-and-ceiling : reads (entry 7 48 ++ (0 ∷ 6 ∷ 255 ∷ 0 ∷ 0 ∷ 0 ∷ ending 2 28)) ≡ no 20 (P.Record 1)
+  -- the first faulty record is named, whatever lower number a later one has: 22 ahead of 18, 21 ahead of 19, 20 ahead of 18
+  pub first-named : map reads
+      ((0 ∷ 5 ∷ 255 ∷ 0 ∷ 0 ∷ 0 ∷ entry 9 48 ++ ending 2 28) ∷ (entry 5 14 ++ (entry 3 48 ++ ending 2 28)) ∷ (entry 6 48 ++ (entry 5 48 ++ (entry 9 48 ++ ending 3 34))) ∷ [])
+      ≡ no 22 (P.Record 0) ∷ no 21 (P.Record 0) ∷ no 20 (P.Record 1) ∷ []
   pub ceiling-met : Read (0 ∷ 8 ∷ 0 ∷ 13 ∷ 255 ∷ 32 ∷ ending 1 22) (set figures 8 917280)
   pub first-cell : Read (entry 0 1 ++ (entry 1 11 ++ ending 2 28)) (set (set figures 0 1) 1 11)
   -- the table calls judge sizes, q, goal and their own numbers
@@ -171,6 +192,7 @@ pinsTable = record {
   fourteen-first = refl;
   off = refl;
   off-high = refl;
+  last-cell = refl;
   blocked = refl;
   same-cell = refl;
   lower-cell = refl;
@@ -179,6 +201,15 @@ pinsTable = record {
   not-above-scaled = refl;
   ceiling-passed = refl;
   ceiling-far = refl;
+  off-and-not-above = refl;
+  off-and-ceiling = refl;
+  off-and-same-cell = refl;
+  blocked-and-lower-cell = refl;
+  blocked-and-not-above = refl;
+  blocked-and-ceiling = refl;
+  lower-cell-and-not-above = refl;
+  lower-cell-and-ceiling = refl;
+  first-named = refl;
   ceiling-met = refl;
   first-cell = refl;
   read-1 = refl;

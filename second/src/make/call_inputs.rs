@@ -273,7 +273,7 @@ fn write_table_file(kit: &mut Kit, dice: &mut Dice) -> Draft {
 fn read_table_file(kit: &Kit, dice: &mut Dice) -> Draft {
     let mut file = files::Draft::new(kit, dice);
     // The general spoiling seldom hits the file, so some are spoiled here.
-    if dice.chance(30) {
+    if dice.chance(45) {
         file.spoil_record(kit, dice);
     }
     if dice.chance(15) {

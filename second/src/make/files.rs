@@ -123,48 +123,78 @@ impl Draft {
         }
     }
 
-    /// Spoils one record in one way, or in two.
+    /// Spoils one record: it gets one fault of 18 to 22 or two of them, so that their order shows; or it is moved, or just good.
     pub fn spoil_record(&mut self, kit: &Kit, dice: &mut Dice) {
         if self.records.is_empty() {
             let cell = dice.index(kit.cells());
             self.records.push((cell as u16, kit.opening_figure(cell) + dice.below(2) as u32));
             self.recount();
-            return;
         }
         let at = dice.index(self.records.len());
-        for _ in 0..dice.pick(&[1, 1, 1, 2]) {
-            let opening = kit.opening_figure(usize::from(self.records[at].0) % kit.cells());
-            let random = dice.roll() as u32;
-            match dice.below(10) {
-                0 => {
-                    let cells = kit.cells() as u16;
-                    self.records[at].0 =
-                        dice.pick(&[cells, cells + 1, u16::MAX, 256 + self.records[at].0 % 256]);
+        match dice.below(10) {
+            0 => {
+                let other = dice.index(self.records.len());
+                self.records.swap(at, other);
+            }
+            1 => self.add_blocked(kit, dice),
+            2 => {
+                let random = dice.roll() as u32;
+                self.records[at].1 = dice.pick(&[CEILING, random]);
+            }
+            3..=6 => self.give_fault(kit, at, dice.from_to(18, 22), dice),
+            _ => {
+                // The cell's fault first: a figure is low or high beside the opening figure of the cell that it ends with.
+                let first = dice.from_to(18, 21);
+                let second = dice.from_to(first + 1, 22);
+                self.give_fault(kit, at, first, dice);
+                self.give_fault(kit, at, second, dice);
+            }
+        }
+    }
+
+    /// A record of a blocked cell in its rising place, so that being blocked is its only fault.
+    fn add_blocked(&mut self, kit: &Kit, dice: &mut Dice) {
+        let blocked = kit.blocked_cells();
+        if !blocked.is_empty() {
+            let cell = dice.pick(&blocked) as u16;
+            self.records.push((cell, kit.opening_figure(usize::from(cell)) + 1));
+            self.records.sort_unstable();
+            self.recount();
+        }
+    }
+
+    /// Gives a record the fault of a number, where the floor and the records before it allow that.
+    fn give_fault(&mut self, kit: &Kit, at: usize, number: u64, dice: &mut Dice) {
+        let before = at.checked_sub(1).map(|before| self.records[before].0);
+        let (cell, figure) = &mut self.records[at];
+        let opening = kit.opening_figure(usize::from(*cell) % kit.cells());
+        match number {
+            18 => {
+                let cells = kit.cells() as u16;
+                *cell = dice.pick(&[cells, cells + 1, u16::MAX, 256 + *cell % 256]);
+            }
+            19 => {
+                let blocked = kit.blocked_cells();
+                if !blocked.is_empty() {
+                    *cell = dice.pick(&blocked) as u16;
                 }
-                1 => {
-                    let blocked = kit.blocked_cells();
-                    if !blocked.is_empty() {
-                        // In its rising place, so that being blocked is the only fault.
-                        let cell = dice.pick(&blocked) as u16;
-                        self.records.push((cell, kit.opening_figure(usize::from(cell)) + 1));
-                        self.records.sort_unstable();
-                        self.recount();
-                    }
+            }
+            20 => match before {
+                Some(before) => {
+                    // A blocked cell stays blocked where one lies low enough, so that it has both faults.
+                    let is_blocked = |low: u16| kit.floor.get(usize::from(low)).is_some_and(|&byte| byte != 0);
+                    let kept = is_blocked(*cell);
+                    let low: Vec<u16> = (0..=before).filter(|&low| is_blocked(low) == kept).collect();
+                    *cell = if low.is_empty() { before } else { dice.pick(&low) };
                 }
-                2 => {
-                    let other = dice.index(self.records.len());
-                    self.records.swap(at, other);
-                }
-                3 => {
+                None => {
                     let again = self.records[at];
                     self.records.insert(at, again);
                     self.recount();
                 }
-                4 => self.records[at].1 = dice.pick(&[opening, opening, opening.saturating_sub(1), 0]),
-                5 | 8 | 9 => self.records[at].1 = dice.pick(&[CEILING, CEILING + 1, CEILING + 1, u32::MAX]),
-                6 => self.records[at].1 = dice.pick(&[opening + 1, random]),
-                _ => self.records[at].0 = self.records[0].0,
-            }
+            },
+            21 => *figure = dice.pick(&[opening, opening, opening.saturating_sub(1), 0]),
+            _ => *figure = dice.pick(&[CEILING + 1, CEILING + 1, u32::MAX]),
         }
     }
 }

@@ -1,47 +1,65 @@
--- `table_file::reader::record_fault` meets its contract: each test is a field of `Lawful`.
+-- `table_file::reader::record_fault` meets its contract: each test that fails has its number, and a record that passes all is `Lawful`.
 -- Assumes nothing.
-use mathlib.Core.Path.{sym, _∙_}
+use Prim.Native.Nat.{_<_}
+use mathlib.Core.Bool.{Bool, true}
+use mathlib.Core.Path.{_≡_, sym, ap, _∙_}
 use borrow.Author.Tests.{not-true, not-false}
-use Rattle.model.proofs.Accepted.{never}
-use Rattle.model.proofs.Files.{fault, no-fault}
-use Rattle.table_file.proofs.Reading.{lawful-by, lawful-free, lawful-above}
+use Rattle.model.specs.Floor.{free, opening}
+use Rattle.model.specs.TableFile.{cellIn, figureIn}
+use Rattle.model.proofs.Files.{no-fault, off-the-floor, blocked, not-rising, not-above, too-high}
+use Rattle.table_file.specs.Site.{floorAt, goalsAt}
 use borrow.Author.Needs.{needs}
 use native.Mathlib.Omega.{arith}
 use Rattle.table_file.proofs.reader.record_fault.Statement.{statement}
 use Rattle.table_file.proofs.reader.record_fault.Tie as tie
 
--- where the figure is read the cell was
-abbrev at-cell : tie.After-word-at → tie.After-half-at
-at-cell e = e .before .before .before .before .before .before
+-- the call's start, from where the cell was looked at; and that place, from where the figure is compared
+abbrev to-start : tie.After-is-free → tie.Start
+to-start e = e .before .before .before .before .before .before
+
+abbrev to-cell : tie.After-opening → tie.After-is-free
+to-cell e = e .before .before .before .before
+
+-- whether the record's cell is free
+open-cell : (e : tie.After-is-free) (b : Bool) → e .is-free .result ≡ b → let a = to-start e .args in free (floorAt (a .site) (a .floor .now)) (cellIn (a .part .now)) ≡ b
+open-cell e b h = ap (free _) (sym (e .before .before .before .half-at .ensures .0)) ∙ sym (e .is-free .ensures) ∙ h
+
+-- the opening figure that its figure is compared with
+opens : (e : tie.After-opening) → let a = to-start (to-cell e) .args in opening (floorAt (a .site) (a .floor .now)) (a .site .q) (goalsAt (a .site)) (cellIn (a .part .now)) ≡ e .opening .result
+opens e =
+    let cell = to-cell e .before .before .before in
+    ap (opening _ _ _) (sym (cell .half-at .ensures .0)) ∙ sym (e .opening .ensures (to-start (to-cell e) .args .floor .now))
 
 returns : tie.Need-returns
-returns c = sym (fault _ _ _ _ _ (λ l. omega (arith, l .inside)))
+returns c = sym (off-the-floor _ _ _ _ _ (omega arith))
 
 returns-2 : tie.Need-returns-2
-returns-2 c =
-    let cell = c .before .before .before .before in
-    sym (fault _ _ _ _ _ (λ l. never (lawful-free _ _ _ _ _ _ 0 0 (cell .half-at .ensures .0) l) (sym (c .before .is-free .ensures) ∙ not-true _ (c .if2 .taken))))
+returns-2 c = sym (blocked _ _ _ _ _ (omega arith) (open-cell (c .before) _ (not-true _ (c .if2 .taken))))
 
 returns-3 : tie.Need-returns-3
-returns-3 c = sym (fault _ _ _ _ _ (λ l. omega (arith, l .rising)))
+returns-3 c = sym (not-rising _ _ _ _ _ (omega arith) (open-cell (c .before .before) _ (not-false _ (c .before .if2 .left))) (omega arith))
+
+-- once its cell has passed
+abbrev free-there : (e : tie.After-opening) → let a = to-start (to-cell e) .args in free (floorAt (a .site) (a .floor .now)) (cellIn (a .part .now)) ≡ true
+free-there e = open-cell (to-cell e) _ (not-false _ (e .before .before .before .if2 .left))
 
 returns-4 : tie.Need-returns-4
-returns-4 c =
-    let figure = c .before .before in
-    let cell = at-cell figure in
-    let opens = c .before .opening .ensures (cell .before .before .before .args .floor .now) in
-    sym (fault _ _ _ _ _ (λ l. omega (arith, lawful-above _ _ _ _ _ _ _ _ (cell .half-at .ensures .0) opens (figure .word-at .ensures .0) l)))
+returns-4 c = sym (not-above _ _ _ _ _ (omega arith) (free-there (c .before)) (omega arith) (rw (opens (c .before)) (omega arith)))
+
+-- and its figure is above the opening one
+higher : (e : tie.After-opening) → e .opening .result < e .before .word-at .result
+    → let a = to-start (to-cell e) .args in opening (floorAt (a .site) (a .floor .now)) (a .site .q) (goalsAt (a .site)) (cellIn (a .part .now)) < figureIn (a .part .now)
+higher e h = rw (opens e) (omega (arith, h, e .before .word-at .ensures .0))
 
 returns-5 : tie.Need-returns-5
-returns-5 c = sym (fault _ _ _ _ _ (λ l. omega (arith, l .within)))
+returns-5 c =
+    let e = c .before .before in
+    sym (too-high _ _ _ _ _ (omega arith) (free-there e) (omega arith) (higher e (omega arith)) (omega arith))
 
 returns-6 : tie.Need-returns-6
 returns-6 c =
-    let figure = c .before .before .before in
-    let cell = at-cell figure in
-    let opens = c .before .before .opening .ensures (cell .before .before .before .args .floor .now) in
-    let free = sym (figure .before .before .before .is-free .ensures) ∙ not-false _ (figure .before .before .if2 .left) in
-    sym (no-fault _ _ _ _ _ (lawful-by _ _ _ _ _ _ _ _ (cell .half-at .ensures .0) free opens (figure .word-at .ensures .0) (omega arith)))
+    let e = c .before .before in
+    sym (no-fault _ _ _ _ _ (record { inside = omega arith; open-cell = free-there e; rising = omega arith; above = higher e (omega arith); within = omega arith }))
 
 pub record-fault-spec : {M : Type 1} → statement M
 record-fault-spec =
