@@ -67,8 +67,8 @@ pub record PinsLine : Type 0 where
   pub decimals : map decimal (0 ∷ 9 ∷ 10 ∷ 99 ∷ 100 ∷ 917280 ∷ 18446744073709551615 ∷ [])
       ≡ bytes "0" ∷ bytes "9" ∷ bytes "10" ∷ bytes "99" ∷ bytes "100" ∷ bytes "917280" ∷ bytes "18446744073709551615" ∷ []
   -- a refusal prints only one line: `refused`, its number and any place
-  pub places : map (λ p. refusalLine (record { number = 15; place = p })) (P.Nowhere ∷ P.Cell 10 ∷ P.Line 5 ∷ P.Record 0 ∷ [])
-      ≡ bytes "refused 15\n" ∷ bytes "refused 15 10\n" ∷ bytes "refused 15 5\n" ∷ bytes "refused 15 0\n" ∷ []
+  pub places : map (λ p. refusalLine (record { number = 18; place = p })) (P.Nowhere ∷ P.Cell 10 ∷ P.Line 5 ∷ P.Record 0 ∷ [])
+      ≡ bytes "refused 18\n" ∷ bytes "refused 18 10\n" ∷ bytes "refused 18 5\n" ∷ bytes "refused 18 0\n" ∷ []
 
 pub pinsLine : PinsLine
 unfolding compute
