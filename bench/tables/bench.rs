@@ -56,6 +56,18 @@ fn plain_write(goal: usize, q: usize, floor: &[u8], table: &[u32], buffer: &mut 
     length
 }
 
+// The number of a faulty record's first fault: asked only where there is one.
+#[cold]
+fn fault(floor: &[u8], low: usize, x: usize, y: u32, opening: u32) -> usize {
+    match x {
+        _ if x >= CELLS => 18,
+        _ if floor[x] != 0 => 19,
+        _ if x < low => 20,
+        _ if y <= opening => 21,
+        _ => 22,
+    }
+}
+
 // The reader the same way: it judges every record, then fills.
 fn plain_read(goal: usize, q: usize, floor: &[u8], file: &[u8], table: &mut [u32]) -> usize {
     if file.len() < 16 {
@@ -74,20 +86,8 @@ fn plain_read(goal: usize, q: usize, floor: &[u8], file: &[u8], table: &mut [u32
     let mut low = 0;
     for r in records.chunks_exact(6) {
         let (x, y) = (u16::from_be_bytes([r[0], r[1]]) as usize, u32::from_be_bytes([r[2], r[3], r[4], r[5]]));
-        if x >= CELLS {
-            return 18;
-        }
-        if floor[x] != 0 {
-            return 19;
-        }
-        if x < low {
-            return 20;
-        }
-        if y <= opening(goal, q, x) {
-            return 21;
-        }
-        if y > CEILING {
-            return 22;
+        if x >= CELLS || floor[x] != 0 || x < low || y <= opening(goal, q, x) || y > CEILING {
+            return fault(floor, low, x, y, opening(goal, q, x % CELLS));
         }
         low = x + 1;
     }
