@@ -1,12 +1,13 @@
 -- Laws of the table file: what each check asks, as a record that it is equal to; and one step of reading and of writing.
 -- The code cites them, and the round trip.
 use mathlib.Core.Path.{_≡_, refl, sym, _∙_, ap}
-use mathlib.Core.Bool.{Bool, true, false, _&&_}
+use mathlib.Core.Bool.{Bool, true, false, not, _&&_}
 use mathlib.Core.List.{List, [], _∷_}
+use mathlib.Core.Logic.{_⊎_, inl, inr, ⊎-elim}
 use Prim.Native.Nat.{ℕ, zero, suc, _+_, _-_, _*_, _≤_, _<_}
 use native.Mathlib.Omega.{arith}
-use lib.Dec.{leb, eqb}
-use borrow.Author.Tests.{leb-true, ltb-false, leb-false, eqb-true, not-false, le-leb, lt-leb, lt-ltb, le-ltb, eq-eqb, ne-eqb}
+use lib.Dec.{leb, ltb, eqb}
+use borrow.Author.Tests.{leb-true, ltb-true, ltb-false, leb-false, eqb-true, le-leb, lt-leb, lt-ltb, le-ltb, eq-eqb, ne-eqb}
 use lib.ListN.{length, getD, take, drop, length-append}
 use Rattle.answers.specs.declared.Place.the-variants as P
 use Rattle.answers.specs.declared.Verdict.the-variants as Vd
@@ -129,10 +130,15 @@ pub record Lawful (f : Floor) (q : ℕ) (gs : List ℕ) (low : ℕ) (part : List
   pub above : opening f q gs (cellIn part) < figureIn part
   pub within : figureIn part ≤ ceiling
 
--- a record without a number has passed each test
-passed : (k : ℕ) (b : Bool) {x : ℕ} → choose b (suc k) x ≡ 0 → (b ≡ false) × (x ≡ 0)
-passed k true e = absurd (omega arith)
-passed k false e = (refl, e)
+-- and one that is not, by the number of its first fault: "cell off the floor; cell blocked; cell not above the one before; figure not above opening; figure above the ceiling".
+-- It has that fault and none of those listed before it
+pub data Faulty (f : Floor) (q : ℕ) (gs : List ℕ) (low : ℕ) (part : List ℕ) : (number : ℕ) → Type 0 where
+  off-the-floor : size f ≤ cellIn part → Faulty f q gs low part 18
+  blocked : cellIn part < size f → free f (cellIn part) ≡ false → Faulty f q gs low part 19
+  not-above-before : cellIn part < size f → free f (cellIn part) ≡ true → cellIn part < low → Faulty f q gs low part 20
+  not-above-opening : cellIn part < size f → free f (cellIn part) ≡ true → low ≤ cellIn part → figureIn part ≤ opening f q gs (cellIn part) → Faulty f q gs low part 21
+  above-ceiling : cellIn part < size f → free f (cellIn part) ≡ true → low ≤ cellIn part → opening f q gs (cellIn part) < figureIn part → ceiling < figureIn part
+      → Faulty f q gs low part 22
 
 module _ (f : Floor) (q : ℕ) (gs : List ℕ) (low : ℕ) (part : List ℕ) where
   pub no-fault : Lawful f q gs low part → recordFault f q gs low part ≡ 0
@@ -147,51 +153,52 @@ module _ (f : Floor) (q : ℕ) (gs : List ℕ) (low : ℕ) (part : List ℕ) whe
             (figureIn part) (l .within),
       )
 
-  -- the first test that it fails has the number
-  pub off-the-floor : size f ≤ cellIn part → recordFault f q gs low part ≡ 18
+  pub faulty-is : {k : ℕ} → Faulty f q gs low part k → recordFault f q gs low part ≡ k
   unfolding recordFault
-  off-the-floor h = simp (le-leb (size f) (cellIn part) h)
+  faulty-is (off-the-floor h) = simp (le-leb (size f) (cellIn part) h)
+  faulty-is (blocked i h) = simp (lt-leb (size f) (cellIn part) i, h)
+  faulty-is (not-above-before i o h) = simp (lt-leb (size f) (cellIn part) i, o, lt-ltb (cellIn part) low h)
+  faulty-is (not-above-opening i o r h) =
+      simp (lt-leb (size f) (cellIn part) i, o, le-ltb (cellIn part) low r, le-leb (figureIn part) (opening f q gs (cellIn part)) h)
+  faulty-is (above-ceiling i o r a h) =
+      simp (
+        lt-leb (size f) (cellIn part) i,
+        o,
+        le-ltb (cellIn part) low r,
+        lt-leb (figureIn part) (opening f q gs (cellIn part)) a,
+        lt-ltb ceiling (figureIn part) h,
+      )
 
-  module _ (inside : cellIn part < size f) where
-    pub blocked : free f (cellIn part) ≡ false → recordFault f q gs low part ≡ 19
-    unfolding recordFault
-    blocked h = simp (lt-leb (size f) (cellIn part) inside, h)
+  pub faulty-numbers : {k : ℕ} → Faulty f q gs low part k → 18 ≤ k
+  faulty-numbers (off-the-floor h) = omega arith
+  faulty-numbers (blocked i h) = omega arith
+  faulty-numbers (not-above-before i o h) = omega arith
+  faulty-numbers (not-above-opening i o r h) = omega arith
+  faulty-numbers (above-ceiling i o r a h) = omega arith
 
-    module _ (open-cell : free f (cellIn part) ≡ true) where
-      pub not-rising : cellIn part < low → recordFault f q gs low part ≡ 20
-      unfolding recordFault
-      not-rising h = simp (lt-leb (size f) (cellIn part) inside, open-cell, lt-ltb (cellIn part) low h)
+  -- it is the one or the other
+  pub judged : Lawful f q gs low part ⊎ Faulty f q gs low part (recordFault f q gs low part)
+  unfolding recordFault
+  judged = by _ refl _ refl _ refl _ refl _ refl
+    where
+      c : ℕ
+      c = cellIn part
 
-      module _ (rising : low ≤ cellIn part) where
-        pub not-above : figureIn part ≤ opening f q gs (cellIn part) → recordFault f q gs low part ≡ 21
-        unfolding recordFault
-        not-above h = simp (
-          lt-leb (size f) (cellIn part) inside,
-          open-cell,
-          le-ltb (cellIn part) low rising,
-          le-leb (figureIn part) (opening f q gs (cellIn part)) h,
-        )
+      v : ℕ
+      v = figureIn part
 
-        pub too-high : opening f q gs (cellIn part) < figureIn part → ceiling < figureIn part → recordFault f q gs low part ≡ 22
-        unfolding recordFault
-        too-high above h =
-            simp (
-              lt-leb (size f) (cellIn part) inside,
-              open-cell,
-              le-ltb (cellIn part) low rising,
-              lt-leb (figureIn part) (opening f q gs (cellIn part)) above,
-              lt-ltb ceiling (figureIn part) h,
-            )
+      by : (t₁ : Bool) → leb (size f) c ≡ t₁ → (t₂ : Bool) → free f c ≡ t₂ → (t₃ : Bool) → ltb c low ≡ t₃ → (t₄ : Bool) → leb v (opening f q gs c) ≡ t₄ → (t₅ : Bool) → ltb ceiling v ≡ t₅
+          → Lawful f q gs low part ⊎ Faulty f q gs low part (choose {A = ℕ} t₁ 18 (choose (not t₂) 19 (choose t₃ 20 (choose t₄ 21 (choose t₅ 22 0)))))
+      by true e₁ t₂ e₂ t₃ e₃ t₄ e₄ t₅ e₅ = inr (off-the-floor (leb-true _ _ e₁))
+      by false e₁ false e₂ t₃ e₃ t₄ e₄ t₅ e₅ = inr (blocked (leb-false _ _ e₁) e₂)
+      by false e₁ true e₂ true e₃ t₄ e₄ t₅ e₅ = inr (not-above-before (leb-false _ _ e₁) e₂ (ltb-true _ _ e₃))
+      by false e₁ true e₂ false e₃ true e₄ t₅ e₅ = inr (not-above-opening (leb-false _ _ e₁) e₂ (ltb-false _ _ e₃) (leb-true _ _ e₄))
+      by false e₁ true e₂ false e₃ false e₄ true e₅ = inr (above-ceiling (leb-false _ _ e₁) e₂ (ltb-false _ _ e₃) (leb-false _ _ e₄) (ltb-true _ _ e₅))
+      by false e₁ true e₂ false e₃ false e₄ false e₅ =
+          inl (record { inside = leb-false _ _ e₁; open-cell = e₂; rising = ltb-false _ _ e₃; above = leb-false _ _ e₄; within = ltb-false _ _ e₅ })
 
   pub lawful : recordFault f q gs low part ≡ 0 → Lawful f q gs low part
-  unfolding recordFault
-  lawful e =
-      let a = passed 17 _ e in
-      let b = passed 18 _ (a .1) in
-      let c = passed 19 _ (b .1) in
-      let d = passed 20 _ (c .1) in
-      let g = passed 21 _ (d .1) in
-      record { inside = leb-false _ _ (a .0); open-cell = not-false _ (b .0); rising = ltb-false _ _ (c .0); above = leb-false _ _ (d .0); within = ltb-false _ _ (g .0) }
+  lawful e = ⊎-elim (λ l. l) (λ h. absurd (omega (arith, e, faulty-numbers h))) judged
 
   pub judge-more : (n i : ℕ) → recordFault f q gs low part ≡ 0 → judgeRecords f q gs (suc n) i low part ≡ judgeRecords f q gs n (suc i) (suc (cellIn part)) (drop 6 part)
   unfolding judgeRecords

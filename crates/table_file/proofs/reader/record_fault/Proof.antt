@@ -1,4 +1,4 @@
--- `table_file::reader::record_fault` meets its contract: each test that fails has its number, and a record that passes all is `Lawful`.
+-- `table_file::reader::record_fault` meets its contract: a record is `Faulty` by the test that it fails, and `Lawful` where it passes all.
 -- Assumes nothing.
 use Prim.Native.Nat.{_<_}
 use mathlib.Core.Bool.{Bool, true}
@@ -6,7 +6,7 @@ use mathlib.Core.Path.{_≡_, sym, ap, _∙_}
 use borrow.Author.Tests.{not-true, not-false}
 use Rattle.model.specs.Floor.{free, opening}
 use Rattle.model.specs.TableFile.{cellIn, figureIn}
-use Rattle.model.proofs.Files.{no-fault, off-the-floor, blocked, not-rising, not-above, too-high}
+use Rattle.model.proofs.Files.{no-fault, faulty-is, off-the-floor, blocked, not-above-before, not-above-opening, above-ceiling}
 use Rattle.table_file.specs.Site.{floorAt, goalsAt}
 use borrow.Author.Needs.{needs}
 use native.Mathlib.Omega.{arith}
@@ -31,20 +31,20 @@ opens e =
     ap (opening _ _ _) (sym (cell .half-at .ensures .0)) ∙ sym (e .opening .ensures (to-start (to-cell e) .args .floor .now))
 
 returns : tie.Need-returns
-returns c = sym (off-the-floor _ _ _ _ _ (omega arith))
+returns c = sym (faulty-is _ _ _ _ _ (off-the-floor (omega arith)))
 
 returns-2 : tie.Need-returns-2
-returns-2 c = sym (blocked _ _ _ _ _ (omega arith) (open-cell (c .before) _ (not-true _ (c .if2 .taken))))
+returns-2 c = sym (faulty-is _ _ _ _ _ (blocked (omega arith) (open-cell (c .before) _ (not-true _ (c .if2 .taken)))))
 
 returns-3 : tie.Need-returns-3
-returns-3 c = sym (not-rising _ _ _ _ _ (omega arith) (open-cell (c .before .before) _ (not-false _ (c .before .if2 .left))) (omega arith))
+returns-3 c = sym (faulty-is _ _ _ _ _ (not-above-before (omega arith) (open-cell (c .before .before) _ (not-false _ (c .before .if2 .left))) (omega arith)))
 
 -- once its cell has passed
 abbrev free-there : (e : tie.After-opening) → let a = to-start (to-cell e) .args in free (floorAt (a .site) (a .floor .now)) (cellIn (a .part .now)) ≡ true
 free-there e = open-cell (to-cell e) _ (not-false _ (e .before .before .before .if2 .left))
 
 returns-4 : tie.Need-returns-4
-returns-4 c = sym (not-above _ _ _ _ _ (omega arith) (free-there (c .before)) (omega arith) (rw (opens (c .before)) (omega arith)))
+returns-4 c = sym (faulty-is _ _ _ _ _ (not-above-opening (omega arith) (free-there (c .before)) (omega arith) (rw (opens (c .before)) (omega arith))))
 
 -- and its figure is above the opening one
 higher : (e : tie.After-opening) → e .opening .result < e .before .word-at .result
@@ -54,7 +54,7 @@ higher e h = rw (opens e) (omega (arith, h, e .before .word-at .ensures .0))
 returns-5 : tie.Need-returns-5
 returns-5 c =
     let e = c .before .before in
-    sym (too-high _ _ _ _ _ (omega arith) (free-there e) (omega arith) (higher e (omega arith)) (omega arith))
+    sym (faulty-is _ _ _ _ _ (above-ceiling (omega arith) (free-there e) (omega arith) (higher e (omega arith)) (omega arith)))
 
 returns-6 : tie.Need-returns-6
 returns-6 c =
