@@ -20,6 +20,14 @@ pub fn opposite(way: usize) -> usize {
     (way + 4) % 8
 }
 
+/// Of the moves from a cell that lead to a free cell, those that pass no corner: a diagonal one is kept where
+/// the straight moves before and after it, clockwise, lead to free cells too.
+fn past_no_corner(ways: u8) -> u8 {
+    let straight = ways & 0b0101_0101;
+    let beside = straight.rotate_left(1) & straight.rotate_right(1);
+    ways & (straight | beside)
+}
+
 pub struct Floor {
     pub width: usize,
     pub height: usize,
@@ -46,6 +54,9 @@ impl Floor {
                     *ways |= u8::from(free) << way;
                 }
             }
+        }
+        for ways in &mut exits {
+            *ways = past_no_corner(*ways);
         }
         let step = MOVE_BY.map(|(right, down)| (down * width as i64 + right) as usize);
         Floor { width, height, free, exits, step }

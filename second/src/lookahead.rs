@@ -199,7 +199,7 @@ impl Window {
 mod tests {
     use super::*;
     use crate::make::dice::Dice;
-    use crate::make::floors;
+    use crate::make::{bends, floors};
 
     /// The moves of a floor, found plainly by columns and rows.
     fn plain_move(width: usize, bytes: &[u8], x: usize, y: usize) -> Option<u8> {
@@ -207,12 +207,15 @@ mod tests {
         let down = (y / width) as i64 - (x / width) as i64;
         let by = [(0, -1), (1, -1), (1, 0), (1, 1), (0, 1), (-1, 1), (-1, 0), (-1, -1)];
         let way = by.iter().position(|&by| by == (right, down))?;
-        (bytes[x] == 0 && bytes[y] == 0).then_some(way as u8)
+        // The cells where the rows and columns of both meet: of a diagonal its whole square, of a straight move its ends.
+        let (rows, columns) = ([x / width, y / width], [x % width, y % width]);
+        let clear = rows.iter().all(|row| columns.iter().all(|column| bytes[row * width + column] == 0));
+        clear.then_some(way as u8)
     }
 
-    /// The lookahead by the words of document 01, sweeping over all pairs of cells, on many small floors.
+    /// The lookahead by the words of documents 01 and 02, sweeping over all pairs of cells, on many small floors.
     #[test]
-    fn lookahead_is_the_one_of_document_01() {
+    fn lookahead_is_the_one_of_the_papers() {
         let (mut looks, mut longer, mut empty) = (0, 0, 0);
         for seed in 0..1_500u64 {
             let mut dice = Dice::new(seed);
@@ -220,12 +223,18 @@ mod tests {
             let mut bytes = floors::floor(floors::kind(&mut dice), width, height, &mut dice);
             let mut depth = dice.from_to(1, 8) as usize;
             if seed % 2 == 0 {
-                // Wide and littered, where the cheapest walk sometimes needs more moves than the fewest.
+                // Wide and littered.
                 (width, height, depth) = (12, 12, 8);
                 bytes = (0..width * height).map(|_| u8::from(dice.chance(45))).collect();
             }
+            let (mut from, mut goal) = (dice.index(bytes.len()), dice.index(bytes.len()));
+            if seed % 5 == 0 {
+                // Two ways round a block, of which the cheapest needs more moves than the fewest.
+                let bend = bends::bend(&mut dice);
+                (width, height, depth) = (bend.width, bend.height, bend.depth as usize);
+                (bytes, from, goal) = (bend.floor, bend.start, bend.end);
+            }
             let cells = bytes.len();
-            let (from, goal) = (dice.index(cells), dice.index(cells));
             if from == goal || bytes[from] != 0 || bytes[goal] != 0 {
                 continue;
             }

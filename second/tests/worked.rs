@@ -1,4 +1,4 @@
-//! Every case that document 01 works out, tried on the library and on both programs.
+//! Every case that document 01 works out, worked again with document 02's corners, tried on the library and on both programs.
 
 use second::checks::Job;
 use second::decision::{decide, Answer, State};
@@ -52,7 +52,7 @@ impl Walk {
 #[test]
 fn true_distances() {
     let distance = distances(&Floor::new(3, 3, &FLOOR), 0);
-    let worked = [(0, 0), (1, 10), (2, 20), (5, 24), (7, 38), (6, 48), (8, 34)];
+    let worked = [(0, 0), (1, 10), (2, 20), (5, 30), (7, 50), (6, 60), (8, 40)];
     assert!(worked.iter().all(|&(cell, expected)| distance[cell] == expected));
 }
 
@@ -69,9 +69,9 @@ fn p2_and_p3_first_decisions_at_depth_1() {
     assert_eq!(walk.table[6], 34);
     assert_eq!(walk.state, State { current: 7, u: 14, length: 1 });
     assert_eq!((walk.moves[0], walk.moves[1]), (2, 9));
-    // At 7 the cells 5 and 8 tie at 38.
+    // At 7 the cell 5 would tie with 8 at 38, but 4 stands beside that diagonal.
     assert_eq!((14 + walk.table[5], 10 + walk.table[8]), (38, 38));
-    assert_eq!(walk.decide(&job), Answer::Forward { target: 5, rise: 14, moves: 1 });
+    assert_eq!(walk.decide(&job), Answer::Forward { target: 8, rise: 14, moves: 1 });
 }
 
 #[test]
@@ -90,25 +90,25 @@ fn p5_quota_14_goes_forward() {
 }
 
 #[test]
-fn p6_quota_27_takes_7_decisions() {
-    assert_eq!(Walk::new(1).decisions(&job(1, 1, 1, 27)), 7);
+fn p6_quota_27_takes_9_decisions() {
+    assert_eq!(Walk::new(1).decisions(&job(1, 1, 1, 27)), 9);
     let counts = trial(&job(1, 1, 1, 27), START, &mut opening(1), &mut [0; 9], u64::MAX).unwrap();
-    assert_eq!(counts.decisions, 7);
+    assert_eq!(counts.decisions, 9);
 }
 
 #[test]
-fn p7_quota_28_takes_4_decisions() {
-    assert_eq!(Walk::new(1).decisions(&job(1, 1, 1, 28)), 4);
+fn p7_quota_28_takes_18_decisions() {
+    assert_eq!(Walk::new(1).decisions(&job(1, 1, 1, 28)), 18);
     let counts = trial(&job(1, 1, 1, 28), START, &mut opening(1), &mut [0; 9], u64::MAX);
-    assert_eq!(counts, Ok(Counts { decisions: 4, learned: 28, kept: 48, travel: 48 }));
+    assert_eq!(counts, Ok(Counts { decisions: 18, learned: 84, kept: 60, travel: 160 }));
 }
 
 #[test]
 fn p8_depth_2() {
     let mut walk = Walk::new(1);
-    assert_eq!(walk.decide(&job(2, 1, 1, 1_000)), Answer::Forward { target: 5, rise: 28, moves: 2 });
+    assert_eq!(walk.decide(&job(2, 1, 1, 1_000)), Answer::Forward { target: 8, rise: 28, moves: 2 });
     assert_eq!(walk.table[6], 48);
-    assert_eq!(walk.moves[..3], [2, 1, 9]);
+    assert_eq!(walk.moves[..3], [2, 2, 9]);
 }
 
 #[test]
@@ -122,9 +122,9 @@ fn p9_weight_one_half() {
 #[test]
 fn p10_and_p11_a_figure_above_the_truth() {
     let mut table = opening(1);
-    table[7] = 39;
+    table[7] = 51;
     assert_eq!(open(&job(1, 1, 1, 0), START, &table).err(), Some(Refusal::at_cell(7, 7)));
-    table[7] = 38;
+    table[7] = 50;
     assert!(open(&job(1, 1, 1, 0), START, &table).is_ok());
 }
 
@@ -133,6 +133,38 @@ fn p12_no_way() {
     let floor = [0, 0, 0, 1, 1, 1, 0, 0, 0];
     let job = Job { floor: &floor, ..job(1, 1, 1, 0) };
     assert_eq!(open(&job, START, &opening(1)).err(), Some(Refusal::plain(6)));
+}
+
+/// The ways from a cell, by number, on a floor of rows.
+fn ways(rows: &[&str], cell: usize) -> Vec<usize> {
+    let bytes: Vec<u8> = rows.concat().bytes().map(|letter| u8::from(letter != b'.')).collect();
+    let floor = Floor::new(rows[0].len(), rows.len(), &bytes);
+    (0..8).filter(|way| floor.exits(cell) & (1 << way) != 0).collect()
+}
+
+#[test]
+fn corners() {
+    // None blocked, on the edge and off it; one, each of the four; two; and straight moves between walls.
+    assert_eq!(ways(&["..", ".."], 0), [2, 3, 4]);
+    assert_eq!(ways(&["...", "...", "..."], 4), [0, 1, 2, 3, 4, 5, 6, 7]);
+    assert_eq!(ways(&[".@.", "...", "..."], 4), [2, 3, 4, 5, 6]);
+    assert_eq!(ways(&["...", "..@", "..."], 4), [0, 4, 5, 6, 7]);
+    assert_eq!(ways(&["...", "...", ".@."], 4), [0, 1, 2, 6, 7]);
+    assert_eq!(ways(&["...", "@..", "..."], 4), [0, 1, 2, 3, 4]);
+    assert_eq!(ways(&["@..", "...", "..."], 4), [0, 1, 2, 3, 4, 5, 6]);
+    assert_eq!(ways(&[".@.", "@.@", ".@."], 4), []);
+    assert_eq!(ways(&["@@@", "...", "@@@"], 4), [2, 6]);
+}
+
+#[test]
+fn a_cell_shut_in_by_corners_alone() {
+    let floor = [0, 1, 0, 1, 0, 1, 0, 1, 0];
+    let job = Job { floor: &floor, ..job(1, 1, 1, 0) };
+    assert_eq!(open(&job, 4, &opening(1)).err(), Some(Refusal::plain(6)));
+    let mut state = State { current: 4, u: 0, length: 0 };
+    let (mut table, mut path, mut moves) = (opening(1), vec![5; 9], vec![9; 288]);
+    let answer = decide(&job, &mut state, &mut table, &mut path, &mut moves, 0);
+    assert_eq!(answer, Answer::Refused(Refusal::plain(9)));
 }
 
 #[test]
@@ -170,20 +202,21 @@ fn the_run_and_its_table_file() {
     let mut reports = vec![Counts { decisions: 9, ..Counts::default() }; 10];
     let ran = run(&job(1, 1, 1, 0), START, 10, &mut table, &mut path, &mut reports, u64::MAX);
     assert_eq!(ran, Ok(Ran { trials: 2, settled: true }));
-    assert_eq!(reports[0], Counts { decisions: 8, learned: 42, kept: 48, travel: 68 });
-    assert_eq!(reports[1], Counts { decisions: 4, learned: 0, kept: 48, travel: 48 });
+    assert_eq!(reports[0], Counts { decisions: 22, learned: 84, kept: 60, travel: 180 });
+    assert_eq!(reports[1], Counts { decisions: 6, learned: 0, kept: 60, travel: 60 });
     assert_eq!(reports[2].decisions, 9);
 
-    let mut file = vec![0xEE; 40];
+    let mut file = vec![0xEE; 50];
     let length = table_file::write(3, 3, 0, 1, &FLOOR, &table, &mut file);
     let worked = [
-        0x00, 0x06, 0x00, 0x00, 0x00, 0x30, 0x00, 0x07, 0x00, 0x00, 0x00, 0x26, 0x03, 0x03, 0x00, 0x00, 0x01,
-        0x01, 0x00, 0x02, 0x00, 0x00, 0x00, 0x1C, 0x50, 0x44, 0x4C, 0x54,
+        0x00, 0x05, 0x00, 0x00, 0x00, 0x1E, 0x00, 0x06, 0x00, 0x00, 0x00, 0x3C, 0x00, 0x07, 0x00, 0x00, 0x00,
+        0x32, 0x00, 0x08, 0x00, 0x00, 0x00, 0x28, 0x03, 0x03, 0x00, 0x00, 0x01, 0x01, 0x00, 0x04, 0x00, 0x00,
+        0x00, 0x28, 0x50, 0x44, 0x4C, 0x54,
     ];
-    assert_eq!(length, Ok(28));
-    assert_eq!(file[..28], worked);
-    assert_eq!(file[28..], [0xEE; 12]);
-    assert_eq!(table_file::find_records(&file[..28]), &worked[..12]);
+    assert_eq!(length, Ok(40));
+    assert_eq!(file[..40], worked);
+    assert_eq!(file[40..], [0xEE; 10]);
+    assert_eq!(table_file::find_records(&file[..40]), &worked[..24]);
     let mut again = vec![0; 9];
     assert_eq!(table_file::read(3, 3, 0, 1, &FLOOR, &worked, &mut again), Ok(()));
     assert_eq!(again, table);
@@ -197,11 +230,11 @@ fn aisle(line: &str) -> String {
 
 #[test]
 fn the_program_aisle() {
-    let worked = "262176 8 42 48 68\n2176 4 0 48 48\nsettled 2\n";
+    let worked = "262266220466220066 22 84 60 180\n220066 6 0 60 60\nsettled 2\n";
     assert_eq!(aisle("6 0 1 1 1 0 10"), worked);
     assert_eq!(aisle("0000006 00 1 1 1 000 10"), worked);
     assert_eq!(aisle("6 6"), "- 0 0 0 0\nsettled 1\n");
-    assert_eq!(aisle("6 0 1 1 1 0 1"), "262176 8 42 48 68\nunsettled 1\n");
+    assert_eq!(aisle("6 0 1 1 1 0 1"), "262266220466220066 22 84 60 180\nunsettled 1\n");
     assert_eq!(aisle("6 0 1 1"), "refused 3\n");
     assert_eq!(aisle("6  0"), "refused 3\n");
     assert_eq!(aisle("6 00000000"), "refused 3\n");
@@ -223,16 +256,16 @@ fn the_program_calls() {
     let floor = "9 0 0 0 1 1 0 0 0 0";
     let table = "9 0 10 20 10 14 24 20 24 28";
     assert_eq!(call(&format!("1 3 3 6 0 1 1 1 0 {floor} {table}\n")), "0 0 0\n");
-    assert_eq!(call(&format!("1 3 3 6 0 1 1 1 0 {floor} 9 0 10 20 10 14 24 20 39 28")), "7 1 7\n");
+    assert_eq!(call(&format!("1 3 3 6 0 1 1 1 0 {floor} 9 0 10 20 10 14 24 20 51 28")), "7 1 7\n");
     assert_eq!(call(&format!("10 3 3 0 1 {floor} 9 7 7 7 7 7 7 7 7 7")), format!("0 0 0 {table}\n"));
     let ran =
         call(&format!("4 3 3 6 0 1 1 1 0 10 {floor} {table} 9 8 8 8 8 8 8 8 8 8 10{}", " 5".repeat(40)));
-    let kept = "9 0 10 20 10 14 24 48 38 28 9 6 7 5 1 8 8 8 8 8 10 8 42 48 68 4 0 48 48";
+    let kept = "9 0 10 20 10 14 30 60 50 40 9 6 7 8 5 2 1 8 8 8 10 22 84 60 180 6 0 60 60";
     assert_eq!(ran, format!("0 0 0 2 1 {kept}{}\n", " 5".repeat(32)));
     let nines = " 9".repeat(288);
     let decided = call(&format!("2 3 3 6 0 0 0 2 1 1 1000 0 {floor} {table} 9 8 8 8 8 8 8 8 8 8 288{nines}"));
-    let after = "9 0 10 20 10 14 24 48 24 28 9 6 8 8 8 8 8 8 8 8 288 2 1";
-    assert_eq!(decided, format!("1 0 0 0 5 28 2 5 28 1 {after}{}\n", " 9".repeat(286)));
+    let after = "9 0 10 20 10 14 24 48 24 28 9 6 8 8 8 8 8 8 8 8 288 2 2";
+    assert_eq!(decided, format!("1 0 0 0 8 28 2 8 28 1 {after}{}\n", " 9".repeat(286)));
     assert_eq!(call("8 16 3 3 0 0 1 1 0 0 0 0 0 16 80 68 76 84"), "0\n");
     assert_eq!(call("9 16 3 3 0 0 1 1 0 0 0 0 0 16 80 68 76 84"), "0 0 0\n");
     assert_eq!(call("9 15 3 0 0 1 1 0 0 0 0 0 16 80 68 76 84"), "13 0 0\n");

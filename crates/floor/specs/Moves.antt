@@ -2,9 +2,10 @@
 use mathlib.Core.Path.{_≡_}
 use mathlib.Core.Bool.{Bool, true, false}
 use mathlib.Core.List.{List}
-use Prim.Native.Nat.{ℕ, _+_, _≤_}
+use Prim.Native.Nat.{ℕ, _+_, _-_, _≤_, _<_}
 use Rattle.model.specs.Basics.{choose}
-use Rattle.model.specs.Floor.{Floor, column, row, free, price, east, south, ahead, allowed}
+use Rattle.model.specs.Floor.{Floor, Sized, size, column, row, free, price, east, south, ahead, allowed}
+use Rattle.model.proofs.Moves.{Inside}
 use Rattle.floor.specs.declared.Spot.{Spot}
 use Rattle.floor.specs.declared.Step.{Step}
 use Rattle.floor.specs.declared.Step.the-variants.{To, Wall}
@@ -24,16 +25,32 @@ pub record Inner (width height col line : ℕ) : Type 0 where
   pub north : 1 ≤ line
   pub south : line + 2 ≤ height
 
--- where the cell x stands
-pub record Spotted (f : Floor) (x : ℕ) (at : Spot) : Type 0 where
-  pub column : at .col ≡ column f x
-  pub row : at .row ≡ row f x
-  pub inner : at .inner ≡ true → Inner (f .width) (f .height) (at .col) (at .row)
+-- the cell x of the floor stands at this column and row
+pub record At (f : Floor) (x col line : ℕ) : Type 0 where
+  pub on : x < size f
+  pub column : col ≡ column f x
+  pub row : line ≡ row f x
 
--- a free cell, and where it stands
+-- no move from x leads off the floor, and the four straight cells beside it are free
+pub record Roomy (f : Floor) (x : ℕ) : Type 0 where
+  pub inner : Inner (f .width) (f .height) (column f x) (row f x)
+  pub north : free f (x - f .width) ≡ true
+  pub west : free f (x - 1) ≡ true
+  pub east : free f (x + 1) ≡ true
+  pub south : free f (x + f .width) ≡ true
+
+-- a free cell, where it stands, and what is known of it
 pub record Placed (f : Floor) (x : ℕ) (at : Spot) : Type 0 where
   pub free : free f x ≡ true
-  pub spot : Spotted f x at
+  pub spot : At f x (at .col) (at .row)
+  pub roomy : at .roomy ≡ true → Roomy f x
+
+-- a free cell and a move that stays on the floor
+pub record Leaves (f : Floor) (x m : ℕ) : Type 0 where
+  pub sized : Sized f
+  pub here : free f x ≡ true
+  pub inside : Inside f x m
+  pub less : m < 8
 
 -- the move m from this column and row stays on the floor, and whether it does not
 pub record Stays (width height col line m : ℕ) : Type 0 where

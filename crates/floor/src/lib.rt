@@ -2,13 +2,13 @@
 ghost use mathlib.Core.Path.{_≡_};
 ghost use mathlib.Core.Bool.{true};
 ghost use mathlib.Core.List.{List};
-ghost use Prim.Native.Nat.{ℕ, _<_, _≤_, _*_, min};
+ghost use Prim.Native.Nat.{ℕ, _+_, _-_, _<_, _≤_, _*_, min};
 ghost use Rattle.model.specs.Basics.{member};
 ghost use Rattle.model.specs.Checks.{finest};
 ghost use Rattle.model.specs.Floor.{Sized, free, apart, goalsOf};
 ghost use Rattle.model.specs.Floor as model;
 ghost use Rattle.model.proofs.Moves.{toll};
-ghost use Rattle.floor.specs.Moves.{flat, Inner, Spotted, Placed, Off, stepOf};
+ghost use Rattle.floor.specs.Moves.{flat, Inner, At, Roomy, Leaves, Placed, Off, stepOf};
 
 // What a move leads to: the cell moved into and what the move costs, or nothing that may be moved into.
 pub enum Step {
@@ -16,11 +16,12 @@ pub enum Step {
     Wall,
 }
 
-// Where a cell stands: its column and its row. Of an inner cell it is known that no move leads off the floor.
+// Where a free cell stands: its column and its row. Of a roomy cell it is known that no move leads off the floor and that the four straight
+// cells beside it are free, so that of a move from it only the cell moved into is looked at.
 pub struct Spot {
     pub col: usize,
     pub row: usize,
-    pub inner: bool,
+    pub roomy: bool,
 }
 
 // A straight move costs 10, a diagonal one 14; the least and the dearest price of a move.
@@ -112,29 +113,46 @@ fn is_inner(width: usize, height: usize, col: usize, row: usize) -> bool
     row + 1 < height
 }
 
-// Where a cell stands.
-pub fn spot_of(width: usize, height: usize, cell: usize) -> Spot
-    requires { ⌜ (1 ≤ width) × (cell < 4096) ⌝ }
-    ensures { λ r. ⌜ ((bytes : List ℕ) → Spotted (flat width height bytes) cell r) ⌝ }
+// Whether a cell at this column and row is roomy.
+fn is_roomy(width: usize, height: usize, floor: &[u8], cell: usize, col: usize, row: usize) -> bool
+    requires { ⌜ Sized (flat width height (now floor)) ⌝ ∗ ⌜ At (flat width height (now floor)) cell col row ⌝ }
+    ensures { λ r. ⌜ (r ≡ true → Roomy (flat width height (now (floor .entry))) cell) ⌝ }
+{
+    if is_inner(width, height, col, row) {
+        if floor[cell - width] != 0 {
+            return false;
+        }
+        if floor[cell - 1] != 0 {
+            return false;
+        }
+        if floor[cell + 1] != 0 {
+            return false;
+        }
+        return floor[cell + width] == 0;
+    }
+    false
+}
+
+// Where a free cell stands.
+pub fn spot_of(width: usize, height: usize, floor: &[u8], cell: usize) -> Spot
+    requires { ⌜ Sized (flat width height (now floor)) ⌝ ∗ ⌜ free (flat width height (now floor)) cell ≡ true ⌝ }
+    ensures { λ r. ⌜ Placed (flat width height (now (floor .entry))) cell r ⌝ }
 {
     let col = cell % width;
     let row = cell / width;
-    let inner = is_inner(width, height, col, row);
+    let roomy = is_roomy(width, height, floor, cell, col, row);
     Spot {
         col: col,
         row: row,
-        inner: inner,
+        roomy: roomy,
     }
 }
 
 // Whether the move m leads off the floor.
 fn leads_off(width: usize, height: usize, at: Spot, m: usize) -> bool
-    requires { ⌜ (at .inner ≡ true → Inner width height (at .col) (at .row)) ⌝ ∗ ⌜ (at .col < 4096) × (at .row < 4096) × (m < 8) ⌝ }
+    requires { ⌜ (at .col < 4096) × (at .row < 4096) × (m < 8) ⌝ }
     ensures { λ r. ⌜ Off width height (at .col) (at .row) m r ⌝ }
 {
-    if at.inner {
-        return false;
-    }
     let x = at.col + east(m);
     let y = at.row + south(m);
     if x == 0 {
@@ -149,15 +167,27 @@ fn leads_off(width: usize, height: usize, at: Spot, m: usize) -> bool
     height < y
 }
 
-// The move m from a free cell, whose column and row the spot has.
-pub fn step_from(width: usize, height: usize, floor: &[u8], cell: usize, at: Spot, m: usize) -> Step
-    requires { ⌜ Sized (flat width height (now floor)) ⌝ ∗ ⌜ Placed (flat width height (now floor)) cell at ⌝ ∗ ⌜ m < 8 ⌝ }
+// The straight cells beside the move m from a cell: the one in its row, and the one in its column. Of a straight move they are its two ends.
+fn beside(cell: usize, m: usize) -> usize
+    requires { ⌜ (cell < 4096) × (m < 8) × (1 ≤ cell + model.east m) ⌝ }
+    ensures { λ r. ⌜ r ≡ cell + model.east m - 1 ⌝ }
+{
+    cell + east(m) - 1
+}
+
+fn across(width: usize, cell: usize, m: usize) -> usize
+    requires { ⌜ (cell < 4096) × (width ≤ 64) × (m < 8) × (width ≤ cell + model.south m * width) ⌝ }
+    ensures { λ r. ⌜ r ≡ cell + model.south m * width - width ⌝ }
+{
+    cell + south(m) * width - width
+}
+
+// The move m from a roomy cell, which stays on the floor.
+fn step_roomy(width: usize, height: usize, floor: &[u8], cell: usize, m: usize) -> Step
+    requires { ⌜ Leaves (flat width height (now floor)) cell m ⌝ ∗ ⌜ Roomy (flat width height (now floor)) cell ⌝ }
     ensures { λ r. ⌜ r ≡ stepOf (flat width height (now (floor .entry))) cell m ⌝ }
 {
-    if leads_off(width, height, at, m) {
-        return Step::Wall;
-    }
-    let to = cell + south(m) * width + east(m) - (width + 1);
+    let to = beside(cell, m) + across(width, cell, m) - cell;
     if floor[to] != 0 {
         return Step::Wall;
     }
@@ -166,6 +196,44 @@ pub fn step_from(width: usize, height: usize, floor: &[u8], cell: usize, at: Spo
         cell: to,
         cost: cost,
     }
+}
+
+// The move m from a free cell, where it stays on the floor.
+fn step_inside(width: usize, height: usize, floor: &[u8], cell: usize, m: usize) -> Step
+    requires { ⌜ Leaves (flat width height (now floor)) cell m ⌝ }
+    ensures { λ r. ⌜ r ≡ stepOf (flat width height (now (floor .entry))) cell m ⌝ }
+{
+    let side = beside(cell, m);
+    let face = across(width, cell, m);
+    let to = side + face - cell;
+    if floor[to] != 0 {
+        return Step::Wall;
+    }
+    if floor[side] != 0 {
+        return Step::Wall;
+    }
+    if floor[face] != 0 {
+        return Step::Wall;
+    }
+    let cost = toll(m);
+    Step::To {
+        cell: to,
+        cost: cost,
+    }
+}
+
+// The move m from a free cell, whose column and row the spot has.
+pub fn step_from(width: usize, height: usize, floor: &[u8], cell: usize, at: Spot, m: usize) -> Step
+    requires { ⌜ Sized (flat width height (now floor)) ⌝ ∗ ⌜ Placed (flat width height (now floor)) cell at ⌝ ∗ ⌜ m < 8 ⌝ }
+    ensures { λ r. ⌜ r ≡ stepOf (flat width height (now (floor .entry))) cell m ⌝ }
+{
+    if at.roomy {
+        return step_roomy(width, height, floor, cell, m);
+    }
+    if leads_off(width, height, at, m) {
+        return Step::Wall;
+    }
+    step_inside(width, height, floor, cell, m)
 }
 
 // How far apart two numbers are.

@@ -75,7 +75,7 @@ fn ease_cell(
     ensures { λ r. ⌜ Lowered (flat width height (now (floor .entry))) base (now (mark .entry))
         (Easing (flat width height (now (floor .entry))) base (now (mark .entry)) c 8 w) (now (cost .entry)) changed (now (cost .exit)) r ⌝ }
 {
-    let spot = floor::spot_of(width, height, c);
+    let spot = floor::spot_of(width, height, floor, c);
     let mut any = changed;
     let mut m = 0;
     while m < 8 {

@@ -92,7 +92,7 @@ fn visit(
     ensures { λ r. ⌜ Left (flat width height (now (floor .entry))) base k c 8 w (state (now (mark .entry)) (now (cost .entry)) (now (list .entry)) n)
         (state (now (mark .exit)) (now (cost .exit)) (now (list .exit)) r) ⌝ }
 {
-    let spot = floor::spot_of(width, height, c);
+    let spot = floor::spot_of(width, height, floor, c);
     let mut end = n;
     let mut m = 0;
     while m < 8 {

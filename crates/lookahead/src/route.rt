@@ -68,7 +68,7 @@ fn back(
         ∗ ⌜ ((y : ℕ) × Before (flat width height (now floor)) base (now mark) (now cost) x y) ⌝ }
     ensures { λ r. ⌜ Prior (flat width height (now (floor .entry))) base (now (mark .entry)) (now (cost .entry)) x r ⌝ }
 {
-    let spot = floor::spot_of(width, height, x);
+    let spot = floor::spot_of(width, height, floor, x);
     let mut b = Link { cell: 4096, m: 0 };
     let mut j = 0;
     while j < 8 {

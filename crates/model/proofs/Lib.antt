@@ -24,6 +24,8 @@ pub mod Driven
 pub mod KeptWay
 -- Demand 3 of the mission, sentence by sentence.
 pub mod Demand
+-- Document 02 on corners: what a move needs free; learned tables stay sound.
+pub mod Corners
 -- The table file: its checks and its records; what a refused record means; the round trip of demand 2.
 pub mod Files
 pub mod Records

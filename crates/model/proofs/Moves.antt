@@ -12,8 +12,8 @@ use borrow.Author.Tests.{leb-true, eqb-true, le-leb, eq-eqb}
 use Rattle.learning.specs.Ground.{pick}
 use Rattle.learning.specs.Look.{lowest}
 use Rattle.learning.proofs.Look.{lowest-low, lowest-met}
-use Rattle.model.specs.Floor.{Floor, Sized, size, column, row, free, apart, tariff, fare, clear, price, east, south, ahead, inside, allowed, heading, opposite, straight, diagonal}
-use Rattle.model.specs.Grounds.{price-same, price-free, free-inside}
+use Rattle.model.specs.Floor.{Floor, Sized, size, column, row, free, apart, tariff, fare, corner, clear, price, east, south, ahead, inside, allowed, heading, opposite, straight, diagonal}
+use Rattle.model.specs.Grounds.{clear-same, clear-corner, price-same, price-clear, price-free, free-inside}
 use Rattle.model.proofs.Cells.{cell-lt, cells-le, row-lt, col-at, row-at, cell-at}
 
 -- tests
@@ -146,6 +146,13 @@ module _ (f : Floor) (x m : ℕ) where
   unfolding ahead
   ahead-row i = row-at (f .width) (column f x + east m - 1) (row f x + south m - 1) (omega (arith, i .west, i .east))
 
+  -- the straight cells beside it, and of a straight move its two ends: in the row of x, and in its column
+  pub corner-beside : Inside f x m → corner f x (ahead f x m) ≡ row f x * f .width + (column f x + east m - 1)
+  corner-beside i = ap (λ c. row f x * f .width + c) (ahead-column i)
+
+  pub corner-across : Inside f x m → corner f (ahead f x m) x ≡ (row f x + south m - 1) * f .width + column f x
+  corner-across i = ap (λ r. r * f .width + column f x) (ahead-row i)
+
 -- ---- the price: here and in `Grounds` alone it is unfolded, and nowhere else is it asked which cells must be free for it
 
 -- of a clear way
@@ -244,6 +251,12 @@ module _ (f : Floor) (z : Sized f) where
 
   pub allowed-free : (x m : ℕ) → allowed f x m ≡ true → free f (ahead f x m) ≡ true
   allowed-free x m e = is-true _ (price-free f (ahead f x m) x (omega (arith, price-same f x (ahead f x m), allowed-some x m e)))
+
+  pub allowed-corners : (x m : ℕ) → allowed f x m ≡ true → (free f (corner f x (ahead f x m)) ≡ true) × (free f (corner f (ahead f x m) x) ≡ true)
+  allowed-corners x m e =
+      let y = ahead f x m in
+      let c = price-clear f x y (allowed-some x m e) in
+      (is-true _ (clear-corner f x y c), is-true _ (clear-corner f y x (subst T (clear-same f x y) c)))
 
   -- the way back
   module _ (x m : ℕ) (l : m < 8) (e : allowed f x m ≡ true) where

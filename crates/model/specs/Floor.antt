@@ -64,9 +64,13 @@ tariff (suc (suc (suc n))) = 0
 abbrev pub fare : Bool → ℕ → ℕ → ℕ
 fare clear dx dy = pick (clear && leb dx 1 && leb dy 1) (tariff (dx + dy)) 0
 
--- whether the cells are free that a move between a and b needs free
+-- the cell in the row of a and the column of b: a straight cell beside the diagonal from a to b, the other one being that of b and a; of a straight move an end
+abbrev pub corner : Floor → ℕ → ℕ → ℕ
+corner f a b = row f a * f .width + column f b
+
+-- whether the cells are free that a move between a and b needs free: both ends, and "a diagonal needs both straight cells beside it free as well"
 unfoldable pub clear : Floor → ℕ → ℕ → Bool
-clear f a b = free f a && free f b
+clear f a b = (free f a && free f b) && (free f (corner f a b) && free f (corner f b a))
 
 -- the cost of the move from a to b, and 0 where no move from a leads to b: THE definition of movement, all else follows it
 unfoldable pub price : Floor → ℕ → ℕ → ℕ
@@ -86,7 +90,7 @@ ahead f x m = (row f x + south m - 1) * f .width + (column f x + east m - 1)
 unfoldable pub inside : Floor → ℕ → ℕ → Bool
 inside f x m = leb 1 (column f x + east m) && leb (column f x + east m) (f .width) && leb 1 (row f x + south m) && leb (row f x + south m) (f .height)
 
--- "A move is allowed when the cell moved into is on the floor and free": where there is a price for it, which asks that the cell left is free too
+-- "A move is allowed when the cell moved into is on the floor and free", and as `clear` says: where there is a price for it, which asks that the cell left is free too
 unfoldable pub allowed : Floor → ℕ → ℕ → Bool
 allowed f x m = inside f x m && leb 1 (price f x (ahead f x m))
 

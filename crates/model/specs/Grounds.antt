@@ -9,7 +9,7 @@ use native.Mathlib.Omega.{arith}
 use lib.Dec.{T, leb, ltb, ltb→lt}
 use Rattle.learning.specs.Ground.{Ground, pick}
 use Rattle.model.specs.Basics.{member}
-use Rattle.model.specs.Floor.{Floor, size, column, row, free, apart, leastPrice, dearestPrice, tariff, fare, clear, price}
+use Rattle.model.specs.Floor.{Floor, size, column, row, free, apart, leastPrice, dearestPrice, tariff, fare, corner, clear, price}
 
 tariff-low : (n : ℕ) → 1 ≤ tariff n → leastPrice ≤ tariff n
 tariff-low zero h = absurd (omega arith)
@@ -31,16 +31,6 @@ pick-high : (b : Bool) (n : ℕ) → pick b (tariff n) 0 ≤ dearestPrice
 pick-high true n = tariff-high n
 pick-high false n = omega arith
 
-fare-low : (t : Bool) (dx dy : ℕ) → 1 ≤ fare t dx dy → leastPrice ≤ fare t dx dy
-fare-low t dx dy = pick-low (t && leb dx 1 && leb dy 1) (dx + dy)
-
-fare-high : (t : Bool) (dx dy : ℕ) → fare t dx dy ≤ dearestPrice
-fare-high t dx dy = pick-high (t && leb dx 1 && leb dy 1) (dx + dy)
-
-fare-clear : (t : Bool) (dx dy : ℕ) → 1 ≤ fare t dx dy → T t
-fare-clear true dx dy h = tt
-fare-clear false dx dy h = absurd (omega arith)
-
 pub apart-comm : (a b : ℕ) → apart a b ≡ apart b a
 apart-comm a b = add-comm (a - b) (b - a)
 
@@ -48,49 +38,87 @@ pub both-first : (a b : Bool) → T (a && b) → T a
 both-first true b h = tt
 both-first false b h = h
 
+both-second : (a b : Bool) → T (a && b) → T b
+both-second true b h = h
+both-second false b h = absurd h
+
 pub free-inside : (f : Floor) (x : ℕ) → T (free f x) → x < size f
 unfolding free
 free-inside f x h = ltb→lt x (size f) (both-first (ltb x (size f)) _ h)
 
+-- ---- the fare between two cells, whichever cells it needs free
+
+abbrev pub fareBetween : Floor → Bool → ℕ → ℕ → ℕ
+fareBetween f t a b = fare t (apart (column f a) (column f b)) (apart (row f a) (row f b))
+
+pub fare-low : (f : Floor) (t : Bool) (a b : ℕ) → 1 ≤ fareBetween f t a b → leastPrice ≤ fareBetween f t a b
+fare-low f t a b =
+    let dx = apart (column f a) (column f b) in
+    let dy = apart (row f a) (row f b) in
+    pick-low (t && leb dx 1 && leb dy 1) (dx + dy)
+
+pub fare-high : (f : Floor) (t : Bool) (a b : ℕ) → fareBetween f t a b ≤ dearestPrice
+fare-high f t a b =
+    let dx = apart (column f a) (column f b) in
+    let dy = apart (row f a) (row f b) in
+    pick-high (t && leb dx 1 && leb dy 1) (dx + dy)
+
+pub fare-same : (f : Floor) (t u : Bool) (a b : ℕ) → t ≡ u → fareBetween f t a b ≡ fareBetween f u b a
+fare-same f t u a b e =
+    ap (λ t. fareBetween f t a b) e ∙ ap₂ (fare u) (apart-comm (column f a) (column f b)) (apart-comm (row f a) (row f b))
+
+pub fare-clear : (f : Floor) (t : Bool) (a b : ℕ) → 1 ≤ fareBetween f t a b → T t
+fare-clear f true a b h = tt
+fare-clear f false a b h = absurd (omega arith)
+
 -- ---- the cells that must be free: all that is known of `clear`
 
-both-comm : (a b : Bool) → (a && b) ≡ (b && a)
+pub both-comm : (a b : Bool) → (a && b) ≡ (b && a)
 both-comm true true = refl
 both-comm true false = refl
 both-comm false true = refl
 both-comm false false = refl
 
+pub clear-corner : (f : Floor) (a b : ℕ) → T (clear f a b) → T (free f (corner f a b))
+unfolding clear
+clear-corner f a b h = both-first (free f (corner f a b)) (free f (corner f b a)) (both-second (free f a && free f b) _ h)
+
 pub clear-same : (f : Floor) (a b : ℕ) → clear f a b ≡ clear f b a
 unfolding clear
-clear-same f a b = both-comm (free f a) (free f b)
+clear-same f a b = ap₂ _&&_ (both-comm (free f a) (free f b)) (both-comm (free f (corner f a b)) (free f (corner f b a)))
+
+pub clear-ends : (f : Floor) (a b : ℕ) → T (clear f a b) → T (free f a && free f b)
+unfolding clear
+clear-ends f a b = both-first (free f a && free f b) (free f (corner f a b) && free f (corner f b a))
 
 pub clear-free : (f : Floor) (a b : ℕ) → T (clear f a b) → T (free f a)
-unfolding clear
-clear-free f a b = both-first (free f a) (free f b)
+clear-free f a b h = both-first (free f a) (free f b) (clear-ends f a b h)
 
-pub clear-true : (f : Floor) (a b : ℕ) → free f a ≡ true → free f b ≡ true → clear f a b ≡ true
+pub clear-true : (f : Floor) (a b : ℕ) → free f a ≡ true → free f b ≡ true → free f (corner f a b) ≡ true → free f (corner f b a) ≡ true → clear f a b ≡ true
 unfolding clear
-clear-true f a b = ap₂ _&&_
+clear-true f a b here there beside across = ap₂ _&&_ (ap₂ _&&_ here there) (ap₂ _&&_ beside across)
 
 -- ---- the price
 
+pub price-fare : (f : Floor) (a b : ℕ) → price f a b ≡ fareBetween f (clear f a b) a b
+unfolding price
+price-fare f a b = refl
+
 pub price-low : (f : Floor) (a b : ℕ) → 1 ≤ price f a b → leastPrice ≤ price f a b
 unfolding price
-price-low f a b = fare-low (clear f a b) (apart (column f a) (column f b)) (apart (row f a) (row f b))
+price-low f a b = fare-low f (clear f a b) a b
 
 pub price-high : (f : Floor) (a b : ℕ) → price f a b ≤ dearestPrice
 unfolding price
-price-high f a b = fare-high (clear f a b) (apart (column f a) (column f b)) (apart (row f a) (row f b))
+price-high f a b = fare-high f (clear f a b) a b
 
 pub price-same : (f : Floor) (a b : ℕ) → price f a b ≡ price f b a
 unfolding price
-price-same f a b =
-    ap (λ t. fare t (apart (column f a) (column f b)) (apart (row f a) (row f b))) (clear-same f a b)
-    ∙ ap₂ (fare (clear f b a)) (apart-comm (column f a) (column f b)) (apart-comm (row f a) (row f b))
+price-same f a b = fare-same f (clear f a b) (clear f b a) a b (clear-same f a b)
 
 pub price-clear : (f : Floor) (a b : ℕ) → 1 ≤ price f a b → T (clear f a b)
 unfolding price
-price-clear f a b = fare-clear (clear f a b) (apart (column f a) (column f b)) (apart (row f a) (row f b))
+price-clear f a b = fare-clear f (clear f a b) a b
 
 pub price-free : (f : Floor) (a b : ℕ) → 1 ≤ price f a b → T (free f a)
 price-free f a b h = clear-free f a b (price-clear f a b h)

@@ -43,7 +43,7 @@ fn best_from(width: usize, height: usize, floor: &[u8], dist: &[u32], cell: usiz
     requires { ⌜ Sized (flat width height (now floor)) × Spread (flat width height (now floor)) (now dist) × (free (flat width height (now floor)) cell ≡ true) ⌝ }
     ensures { λ r. ⌜ Best (flat width height (now (floor .entry))) (now (dist .entry)) cell r ⌝ }
 {
-    let spot = floor::spot_of(width, height, cell);
+    let spot = floor::spot_of(width, height, floor, cell);
     let mut best = dist[cell];
     let mut m = 0;
     while m < 8 {

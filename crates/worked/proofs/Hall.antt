@@ -59,6 +59,10 @@ refuses number place = A.Refused (record { number = number; place = place })
 abbrev pub shut : List ℕ
 shut = 0 ∷ 0 ∷ 0 ∷ 1 ∷ 1 ∷ 1 ∷ 0 ∷ 0 ∷ 0 ∷ []
 
+-- rows `.@.`, `@.@`, `.@.`: the middle, 4, is shut in by corners alone
+abbrev pub boxed : List ℕ
+boxed = 0 ∷ 1 ∷ 0 ∷ 1 ∷ 0 ∷ 1 ∷ 0 ∷ 1 ∷ 0 ∷ []
+
 -- the first decision of a trial from 6, its moves from place 1 on
 abbrev pub firstOf : Job → Outcome
 firstOf j = decide j hall (state 6 0 0) (openingOf j hall) fresh buffer 1
@@ -81,17 +85,26 @@ blank = record { decisions = 7; learned = 7; kept = 7; travel = 7 }
 
 -- the table that the worked run leaves, and its file
 abbrev pub learnt : List ℕ
-learnt = set (set figures 6 48) 7 38
+learnt = 0 ∷ 10 ∷ 20 ∷ 10 ∷ 14 ∷ 30 ∷ 60 ∷ 50 ∷ 40 ∷ []
 
 abbrev pub workedFile : List ℕ
-workedFile = 0 ∷ 6 ∷ 0 ∷ 0 ∷ 0 ∷ 48 ∷ 0 ∷ 7 ∷ 0 ∷ 0 ∷ 0 ∷ 38 ∷ 3 ∷ 3 ∷ 0 ∷ 0 ∷ 1 ∷ 1 ∷ 0 ∷ 2 ∷ 0 ∷ 0 ∷ 0 ∷ 28 ∷ 80 ∷ 68 ∷ 76 ∷ 84 ∷ []
+workedFile =
+    0 ∷ 5 ∷ 0 ∷ 0 ∷ 0 ∷ 30 ∷ 0 ∷ 6 ∷ 0 ∷ 0 ∷ 0 ∷ 60 ∷ 0 ∷ 7 ∷ 0 ∷ 0 ∷ 0 ∷ 50 ∷ 0 ∷ 8 ∷ 0 ∷ 0 ∷ 0 ∷ 40
+    ∷ 3 ∷ 3 ∷ 0 ∷ 0 ∷ 1 ∷ 1 ∷ 0 ∷ 4 ∷ 0 ∷ 0 ∷ 0 ∷ 40 ∷ 80 ∷ 68 ∷ 76 ∷ 84 ∷ []
 
 -- the worked floor as text
 abbrev pub hallText : List ℕ
 hallText = bytes "type octile\nheight 3\nwidth 3\nmap\n...\n@@.\n...\n"
 
--- rows `.@.@@@@`, `..@.@@@`, `.@@@.@@`, `.@@@@.@`, `.@@@@@.`, `@.....@`, `@@@@@@.`: from 0 to 40 in seven diagonal moves (98), or in nine, one of them diagonal (94)
+-- rows `@@@.....@@`, `@@...@...@`, `@...@@@...`, `...@@@@@.@`, `.........@`: from 40 to 28 in eight moves, six of them diagonal (104), or in ten straight ones (100), the ninth of them to 38
 abbrev pub twoWays : List ℕ
 twoWays =
-    0 ∷ 1 ∷ 0 ∷ 1 ∷ 1 ∷ 1 ∷ 1 ∷ 0 ∷ 0 ∷ 1 ∷ 0 ∷ 1 ∷ 1 ∷ 1 ∷ 0 ∷ 1 ∷ 1 ∷ 1 ∷ 0 ∷ 1 ∷ 1 ∷ 0 ∷ 1 ∷ 1 ∷ 1 ∷ 1 ∷ 0 ∷ 1
-    ∷ 0 ∷ 1 ∷ 1 ∷ 1 ∷ 1 ∷ 1 ∷ 0 ∷ 1 ∷ 0 ∷ 0 ∷ 0 ∷ 0 ∷ 0 ∷ 1 ∷ 1 ∷ 1 ∷ 1 ∷ 1 ∷ 1 ∷ 1 ∷ 0 ∷ []
+    1 ∷ 1 ∷ 1 ∷ 0 ∷ 0 ∷ 0 ∷ 0 ∷ 0 ∷ 1 ∷ 1 ∷ 1 ∷ 1 ∷ 0 ∷ 0 ∷ 0 ∷ 1 ∷ 0 ∷ 0 ∷ 0 ∷ 1 ∷ 1 ∷ 0 ∷ 0 ∷ 0 ∷ 1 ∷ 1 ∷ 1 ∷ 0 ∷ 0 ∷ 0
+    ∷ 0 ∷ 0 ∷ 0 ∷ 1 ∷ 1 ∷ 1 ∷ 1 ∷ 1 ∷ 0 ∷ 1 ∷ 0 ∷ 0 ∷ 0 ∷ 0 ∷ 0 ∷ 0 ∷ 0 ∷ 0 ∷ 0 ∷ 1 ∷ []
+
+-- a job on it at depth 8, its goal 29, beside 28; and its opening table but for 28, which has 0, so that 28 is the target from 40
+abbrev pub twoWaysJob : Job
+twoWaysJob = record { width = 10; height = 5; goal = 29; depth = 8; p = 1; q = 1; quota = 1000 }
+
+abbrev pub twoWaysTable : List ℕ
+twoWaysTable = set (openingOf twoWaysJob twoWays) 28 0

@@ -1,4 +1,4 @@
--- The other worked lines of document 01, by computing.
+-- The other worked lines of document 01, worked again with document 02's corners, by computing.
 use mathlib.Core.Path.{_≡_, refl}
 use mathlib.Core.Bool.{true}
 use mathlib.Core.List.{[], _∷_, _++_}
@@ -18,8 +18,8 @@ use Rattle.worked.proofs.Cases.{Opens}
 use Rattle.worked.proofs.Text.{bytes}
 
 pub record More : Type 0 where
-  -- True distances: 1:10, 2:20, 5:24, 7:38, 6:48, 8:34; 127 stands for a cell that has none.
-  pub distance : distances (job 1 1 1 0) hall ≡ 0 ∷ 10 ∷ 20 ∷ 127 ∷ 127 ∷ 24 ∷ 48 ∷ 38 ∷ 34 ∷ []
+  -- True distances: 1:10, 2:20, 5:30, 7:50, 6:60, 8:40 (5, 7, 6 and 8 had 24, 38, 48 and 34); 127 stands for a cell that has none.
+  pub distance : distances (job 1 1 1 0) hall ≡ 0 ∷ 10 ∷ 20 ∷ 127 ∷ 127 ∷ 30 ∷ 60 ∷ 50 ∷ 40 ∷ []
   -- One row `.@.`, current 0, goal 2: 9.
   pub nine : decide (rowJob 3 2 1 0) (0 ∷ 1 ∷ 0 ∷ []) (state 0 0 0) (20 ∷ 10 ∷ 0 ∷ []) fresh buffer 0
       ≡ leaves (refuses 9 P.Nowhere) (state 0 0 0) (20 ∷ 10 ∷ 0 ∷ []) fresh buffer
@@ -36,13 +36,14 @@ pub record More : Type 0 where
   pub worked-run : run (job 1 1 1 0) hall 6 10 figures fresh (replicate 11 blank) ≡ record {
     answer = Rn.Made 2 true;
     table = learnt;
-    path = 6 ∷ 7 ∷ 5 ∷ 1 ∷ replicate 5 77;
-    reports = record { decisions = 8; learned = 42; kept = 48; travel = 68 } ∷ record { decisions = 4; learned = 0; kept = 48; travel = 48 } ∷ replicate 9 blank;
+    path = 6 ∷ 7 ∷ 8 ∷ 5 ∷ 2 ∷ 1 ∷ replicate 3 77;
+    reports = record { decisions = 22; learned = 84; kept = 60; travel = 180 } ∷ record { decisions = 6; learned = 0; kept = 60; travel = 60 } ∷ replicate 9 blank;
   }
-  -- After the run below the table file is 00 06 00 00 00 30, 00 07 00 00 00 26, 03 03 00 00 01 01 00 02 00 00 00 1C 50 44 4C 54.
-  pub file : writeTable (floorOf (job 1 1 1 0) hall) 1 (0 ∷ []) learnt (replicate 30 5) ≡ record { answer = Wr.Length 28; buffer = workedFile ++ 5 ∷ 5 ∷ [] }
-  -- `6 0 1 1 1 0 10` and the floor above give, whole:
-  pub printed : aisle (bytes "6 0 1 1 1 0 10\n" ++ hallText) ≡ bytes "262176 8 42 48 68\n2176 4 0 48 48\nsettled 2\n"
+  -- After the run below the table file is 00 05 00 00 00 1E, 00 06 00 00 00 3C, 00 07 00 00 00 32, 00 08 00 00 00 28, 03 03 00 00 01 01 00 04 00 00 00 28 50 44 4C 54
+  -- (two records, 48 of 6 and 38 of 7).
+  pub file : writeTable (floorOf (job 1 1 1 0) hall) 1 (0 ∷ []) learnt (replicate 42 5) ≡ record { answer = Wr.Length 40; buffer = workedFile ++ 5 ∷ 5 ∷ [] }
+  -- `6 0 1 1 1 0 10` and the floor above give, whole (`262176 8 42 48 68`, `2176 4 0 48 48`, `settled 2`):
+  pub printed : aisle (bytes "6 0 1 1 1 0 10\n" ++ hallText) ≡ bytes "262266220466220066 22 84 60 180\n220066 6 0 60 60\nsettled 2\n"
 
 pub more : More
 unfolding compute

@@ -54,15 +54,15 @@ pub record PinsLine : Type 0 where
   pub greatest : prints "0 0\n" "type octile\nheight 64\nwidth 64\nmap\n" ≡ bytes "refused 12 5\n"
   -- a trial line is its moves (`-` if none), decisions, learned, kept cost, travel
   pub at-goal : onHall "0 0\n" ≡ bytes "- 0 0 0 0\nsettled 1\n"
-  pub defaults : onHall "6 0\n" ≡ bytes "2176 4 28 48 48\n2176 4 14 48 48\n2176 4 0 48 48\nsettled 3\n"
+  pub defaults : onHall "6 0\n" ≡ bytes "220066 6 40 60 60\n220066 6 26 60 60\n220066 6 12 60 60\n220066 6 6 60 60\n220066 6 0 60 60\nsettled 5\n"
   -- a path longer than width and height together
-  pub long-path : prints "0 12 1 1 1 1000000 1\n" "type octile\nheight 4\nwidth 4\nmap\n.@..\n....\n@@@.\n....\n" ≡ bytes "4220244566 10 74 104 104\nunsettled 1\n"
+  pub long-path : prints "0 12 1 1 1 1000000 1\n" "type octile\nheight 4\nwidth 4\nmap\n.@..\n....\n@@@.\n....\n" ≡ bytes "42202444666 11 80 110 110\nunsettled 1\n"
   -- a floor wider than high
   pub oblong : prints "3 7\n" "type octile\nheight 2\nwidth 4\nmap\n....\n@@@.\n" ≡ bytes "4 1 0 10 10\nsettled 1\n"
   -- its table is the opening one, by q
-  pub scaled : onHall "6 0 1 1 2 0 10\n" ≡ bytes "262176 8 46 48 68\n2176 4 0 48 48\nsettled 2\n"
+  pub scaled : onHall "6 0 1 1 2 0 10\n" ≡ bytes "262266220466220066 22 68 60 180\n220066 6 0 60 60\nsettled 2\n"
   -- the last line is `settled` or `unsettled` and the trials made
-  pub unsettled : onHall "6 0 1 1 1 0 1\n" ≡ bytes "262176 8 42 48 68\nunsettled 1\n"
+  pub unsettled : onHall "6 0 1 1 1 0 1\n" ≡ bytes "262266220466220066 22 84 60 180\nunsettled 1\n"
   -- numbers in decimal
   pub decimals : map decimal (0 ∷ 9 ∷ 10 ∷ 99 ∷ 100 ∷ 917280 ∷ 18446744073709551615 ∷ [])
       ≡ bytes "0" ∷ bytes "9" ∷ bytes "10" ∷ bytes "99" ∷ bytes "100" ∷ bytes "917280" ∷ bytes "18446744073709551615" ∷ []

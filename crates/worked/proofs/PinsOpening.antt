@@ -15,7 +15,7 @@ use Rattle.answers.specs.declared.Ran.the-variants as Rn
 use Rattle.model.specs.Opening.{openJob, openRun, openTable, filled}
 use Rattle.model.specs.Ride.{trial, run}
 use Rattle.model.specs.Compute.{compute}
-use Rattle.worked.proofs.Hall.{hall, job, openingOf, figures, fresh, no, shut, blank}
+use Rattle.worked.proofs.Hall.{hall, job, openingOf, figures, fresh, no, shut, boxed, blank}
 
 -- filling the table of a free floor
 abbrev fills : (width height bytes table : ℕ) → Verdict
@@ -82,12 +82,14 @@ pub record PinsOpening : Type 0 where
   pub job-5-6 : openJob (goalAt 0) shut 6 (set (set figures 5 917281) 8 917281) ≡ no 5 (P.Cell 5)
   pub job-6-7 : openJob (goalAt 0) shut 6 (set figures 1 11) ≡ no 6 P.Nowhere
   -- 7: a cell that can reach the goal is above its true figure; names the lowest
-  pub seven-lowest : openJob (goalAt 0) hall 6 (set (set figures 7 39) 5 25) ≡ no 7 (P.Cell 5)
+  pub seven-lowest : openJob (goalAt 0) hall 6 (set (set figures 7 51) 5 31) ≡ no 7 (P.Cell 5)
   pub seven-goal : openJob (goalAt 0) hall 6 (set figures 0 1) ≡ no 7 (P.Cell 0)
-  pub seven-last : openJob (goalAt 0) hall 6 (set figures 8 35) ≡ no 7 (P.Cell 8)
+  pub seven-last : openJob (goalAt 0) hall 6 (set figures 8 41) ≡ no 7 (P.Cell 8)
   -- its true figure is q times its true distance
-  pub seven-scaled : openJob (job 1 1 2 0) hall 6 (set (openingOf (job 1 1 2 0) hall) 7 77) ≡ no 7 (P.Cell 7)
-  pub seven-met : openJob (job 1 1 2 0) hall 6 (set (openingOf (job 1 1 2 0) hall) 7 76) ≡ Vd.Done
+  pub seven-scaled : openJob (job 1 1 2 0) hall 6 (set (openingOf (job 1 1 2 0) hall) 7 101) ≡ no 7 (P.Cell 7)
+  pub seven-met : openJob (job 1 1 2 0) hall 6 (set (openingOf (job 1 1 2 0) hall) 7 100) ≡ Vd.Done
+  -- 6: no walk from the start, here since each diagonal from it passes two blocked cells
+  pub shut-in : openJob (goalAt 0) boxed 4 figures ≡ no 6 P.Nowhere
   -- cells that cannot reach it, and blocked ones, may stand as high as the ceiling
   pub unreaching : openJob (goalAt 0) shut 1 (set (set figures 3 917280) 6 917280) ≡ Vd.Done
   -- a trial also judges its path list, after 1 and before 3
@@ -161,6 +163,7 @@ pinsOpening = record {
   seven-last = refl;
   seven-scaled = refl;
   seven-met = refl;
+  shut-in = refl;
   unreaching = refl;
   trial-1-2 = refl;
   trial-2-3 = refl;

@@ -69,12 +69,12 @@ pub record PinsTable : Type 0 where
   -- bytes ahead of the first record are older material and are ignored
   pub older : Read (9 ∷ 8 ∷ 7 ∷ workedFile) learnt
   -- The finder of the records, trailer left off; a faulty trailer gives the empty part
-  pub found : findRecords (9 ∷ 8 ∷ workedFile) ≡ entry 6 48 ++ entry 7 38
+  pub found : findRecords (9 ∷ 8 ∷ workedFile) ≡ entry 5 30 ++ entry 6 60 ++ entry 7 50 ++ entry 8 40
   pub found-none : findRecords (entry 6 48 ++ ending 0 16) ≡ []
-  pub found-faulty : findRecords (set workedFile 27 85) ≡ []
+  pub found-faulty : findRecords (set workedFile 39 85) ≡ []
   -- the trailer's check tells that apart from a count of 0
   pub check-none : checkTrailer (ending 0 16) ≡ Vd.Done
-  pub check-faulty : checkTrailer (set workedFile 27 85) ≡ no 13 P.Nowhere
+  pub check-faulty : checkTrailer (set workedFile 39 85) ≡ no 13 P.Nowhere
   -- 13: under 16 bytes
   pub short : map reads ([] ∷ drop 1 (ending 0 16) ∷ []) ≡ no 13 P.Nowhere ∷ no 13 P.Nowhere ∷ []
   -- letters
@@ -89,7 +89,7 @@ pub record PinsTable : Type 0 where
   pub past-start : reads (drop 1 workedFile) ≡ no 13 P.Nowhere
   pub check-past : checkTrailer (drop 1 workedFile) ≡ no 13 P.Nowhere
   -- 14: width, height, goal or q not this job's; after 13 and before the records
-  pub thirteen-first : Unread floor 2 0 (set workedFile 27 85) (replicate 9 5) 13 P.Nowhere
+  pub thirteen-first : Unread floor 2 0 (set workedFile 39 85) (replicate 9 5) 13 P.Nowhere
   pub width-other : map (with 0) (2 ∷ 4 ∷ []) ≡ no 14 P.Nowhere ∷ no 14 P.Nowhere ∷ []
   pub height-other : map (with 1) (2 ∷ 4 ∷ []) ≡ no 14 P.Nowhere ∷ no 14 P.Nowhere ∷ []
   pub goal-other : map (with 3) (1 ∷ []) ++ map (with 2) (1 ∷ []) ≡ no 14 P.Nowhere ∷ no 14 P.Nowhere ∷ []
@@ -147,8 +147,8 @@ pub record PinsTable : Type 0 where
   pub blocked-above : Unwritten floor 1 0 (set (set figures 3 11) 8 27) [] 16 (P.Cell 3)
   pub blocked-below : Unwritten floor 1 0 (set figures 4 13) [] 16 (P.Cell 4)
   -- 17: no room
-  pub no-room : Unwritten floor 1 0 learnt (replicate 27 5) 17 P.Nowhere
-  pub room : writeTable floor 1 (0 ∷ []) learnt (replicate 28 5) ≡ record { answer = Wr.Length 28; buffer = workedFile }
+  pub no-room : Unwritten floor 1 0 learnt (replicate 39 5) 17 P.Nowhere
+  pub room : writeTable floor 1 (0 ∷ []) learnt (replicate 40 5) ≡ record { answer = Wr.Length 40; buffer = workedFile }
   -- Figures that differ from the opening figure: none
   pub write-none : writeTable floor 1 (0 ∷ []) figures (replicate 17 5) ≡ record { answer = Wr.Length 16; buffer = ending 0 16 ++ 5 ∷ [] }
   -- up to the ceiling, the first cell and the last; numbers are big-endian

@@ -1,4 +1,4 @@
-//! Floors of every kind: open, racks and aisles, rooms with doors, mazes, snakes, short walls, and random ones.
+//! Floors of every kind: open, racks and aisles, rooms with doors, mazes, snakes, short walls, posts, and random ones.
 
 use super::dice::Dice;
 
@@ -10,16 +10,18 @@ pub enum Kind {
     Maze,
     Snake,
     Walls,
+    Posts,
     Random,
 }
 
-pub const KINDS: [(&str, Kind); 7] = [
+pub const KINDS: [(&str, Kind); 8] = [
     ("open", Kind::Open),
     ("racks", Kind::Racks),
     ("rooms", Kind::Rooms),
     ("maze", Kind::Maze),
     ("snake", Kind::Snake),
     ("walls", Kind::Walls),
+    ("posts", Kind::Posts),
     ("random", Kind::Random),
 ];
 
@@ -79,7 +81,7 @@ fn sizes_by(weights: [u64; 5], dice: &mut Dice) -> (usize, usize) {
 }
 
 pub fn kind(dice: &mut Dice) -> Kind {
-    KINDS[dice.weighted(&[10, 15, 13, 13, 11, 10, 28])].1
+    KINDS[dice.weighted(&[10, 14, 12, 12, 10, 9, 9, 24])].1
 }
 
 /// The bytes of a floor. A blocked byte is mostly 1, sometimes anything but 0.
@@ -112,6 +114,7 @@ fn grid(kind: Kind, width: usize, height: usize, dice: &mut Dice) -> Grid {
         Kind::Maze => maze(width, height, dice),
         Kind::Snake => snake(width, height, dice),
         Kind::Walls => walls(width, height, dice),
+        Kind::Posts => posts(width, height, dice),
         Kind::Random => random(width, height, dice),
     }
 }
@@ -204,6 +207,22 @@ fn walls(width: usize, height: usize, dice: &mut Dice) -> Grid {
                 grid.set(x, y, true);
             }
             (x, y) = (x + right, y + down);
+        }
+    }
+    grid
+}
+
+/// Posts that stand corner to corner in slanting lines, which no cart passes between, and single ones, which it goes round.
+fn posts(width: usize, height: usize, dice: &mut Dice) -> Grid {
+    let mut grid = Grid::filled(width, height, false);
+    for _ in 0..width * height / 20 + 1 {
+        let (mut x, mut y) = (dice.index(width), dice.index(height));
+        let left = dice.chance(50);
+        for _ in 0..dice.from_to(1, 6) {
+            if x < width && y < height {
+                grid.set(x, y, true);
+            }
+            (x, y) = (if left { x.wrapping_sub(1) } else { x + 1 }, y + 1);
         }
     }
     grid

@@ -1,6 +1,7 @@
 //! The seeded generator: an input of `aisle` or `calls` for every seed, the same each time.
 
 pub mod aisle_inputs;
+pub mod bends;
 pub mod call_inputs;
 pub mod dice;
 pub mod drafts;

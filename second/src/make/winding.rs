@@ -1,11 +1,13 @@
 //! Decisions with telling routes: windows where the cheapest walk needs more moves than the ring, or where ways tie.
 
+use super::bends;
 use super::dice::Dice;
 use super::floors::{self, Kind};
 use super::jobs::{self, Kit, TableKind};
 use crate::decision::State;
 use crate::floor::{Floor, MOVE_COST};
 use crate::lookahead::Window;
+use crate::opening::distances;
 
 #[derive(Clone, Copy, PartialEq, Eq)]
 enum Wish {
@@ -19,6 +21,9 @@ enum Wish {
 
 /// A kit and a state whose next decision takes such a route, forward or back, if one is found in time.
 pub fn kit_and_state(dice: &mut Dice) -> (Kit, State, Option<u16>) {
+    if dice.chance(30) {
+        return bent(dice);
+    }
     let wish = dice.pick(&[Wish::MoreMoves, Wish::MoreMoves, Wish::WestAndEast, Wish::Tie]);
     let mut kit = winding_kit(dice);
     let mut window = Window::new();
@@ -44,6 +49,21 @@ pub fn kit_and_state(dice: &mut Dice) -> (Kit, State, Option<u16>) {
     }
     let current = dice.pick(&kit.free_cells()) as u64;
     (kit, State { current, u: 0, length: 0 }, None)
+}
+
+/// A decision on one of two ways round a block, mostly at the depth that tells them apart.
+fn bent(dice: &mut Dice) -> (Kit, State, Option<u16>) {
+    let bend = bends::bend(dice);
+    let mut kit = jobs::kit_on(bend.floor, bend.width, bend.height, dice);
+    kit.depth = if dice.chance(70) { bend.depth } else { dice.from_to(3, 8) };
+    let floor = Floor::new(kit.width, kit.height, &kit.floor);
+    let mut window = Window::new();
+    let looked = kit.goal != bend.start && window.look(&floor, bend.start, kit.goal, kit.depth as usize);
+    if !looked || !window.on_last_ring(bend.end) {
+        kit.goal = bend.end;
+        kit.distance = distances(&floor, kit.goal);
+    }
+    point_at(kit, bend.start, bend.end, dice)
 }
 
 /// A littered floor or one with short walls, and a deep lookahead.

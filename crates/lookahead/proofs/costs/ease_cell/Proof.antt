@@ -3,7 +3,6 @@
 use Prim.Native.Nat.{_-_, _≤_}
 use mathlib.Core.Path.{_≡_, sym, _∙_, subst}
 use native.Mathlib.Omega.{arith}
-use Rattle.model.proofs.Moves.{free-few}
 use Rattle.floor.specs.Moves.{flat}
 use Rattle.lookahead.proofs.Lowering.{lowered-none, eased-more}
 use Rattle.lookahead.specs.Costs.{Lowered, Easing}
@@ -18,7 +17,7 @@ abbrev μ-loop : tie.MeasureT-loop
 μ-loop width height floor base mark cost₀ c w changed spot any₀ m₀ cost any m = 8 - m
 
 spot-of-requires : tie.Need-spot-of-requires Inv-loop μ-loop
-spot-of-requires c κs = let a = c .before .before .before in (a .pre .0 .wide, free-few _ _ (a .pre .0) (a .pre .1 .0 .free (a .args .c) (a .pre .1 .1 .0)))
+spot-of-requires c κs = let a = c .before .before .before in (a .pre .0, a .pre .1 .0 .free (a .args .c) (a .pre .1 .1 .0))
 
 loop-holds : tie.Need-loop-holds Inv-loop μ-loop
 loop-holds c =
@@ -31,8 +30,7 @@ ease-requires c κs =
     let at-loop = c .before .before in
     let p = at-loop .before .before .before .before .before .pre in
     let l = at-loop .loop .inv .1 in
-    let free = p .1 .0 .free _ (p .1 .1 .0) in
-    (p .0, (l .costs, (record { marked = p .1 .1 .0; placed = record { free = free; spot = at-loop .before .spot-of .ensures _ } }, (omega arith, l .so .0))))
+    (p .0, (l .costs, (record { marked = p .1 .1 .0; placed = at-loop .before .spot-of .ensures }, (omega arith, l .so .0))))
 
 loop-again : tie.Need-loop-again Inv-loop μ-loop
 loop-again c =

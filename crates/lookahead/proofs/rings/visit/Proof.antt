@@ -4,8 +4,7 @@ use Prim.Native.Nat.{_-_, _≤_}
 use mathlib.Core.Path.{_≡_, sym, _∙_, subst}
 use native.Mathlib.Omega.{arith}
 use lib.ListN.{length}
-use Rattle.model.proofs.Moves.{free-few}
-use Rattle.floor.specs.Moves.{flat, Placed}
+use Rattle.floor.specs.Moves.{flat}
 use Rattle.lookahead.proofs.Grow.{left-none, left-more}
 use Rattle.lookahead.specs.Marks.{state, Left}
 use Rattle.lookahead.proofs.rings.visit.Statement.{statement}
@@ -19,7 +18,7 @@ abbrev μ-loop : tie.MeasureT-loop
 μ-loop width height floor base mark₀ cost₀ list₀ n c k w spot end₀ m₀ mark cost list end m = 8 - m
 
 spot-of-requires : tie.Need-spot-of-requires Inv-loop μ-loop
-spot-of-requires c κs = let a = c .before .before .before .before in (a .pre .0 .wide, free-few _ _ (a .pre .0) (a .pre .1 .1 .free))
+spot-of-requires c κs = let a = c .before .before .before .before in (a .pre .0, a .pre .1 .1 .free)
 
 loop-holds : tie.Need-loop-holds Inv-loop μ-loop
 loop-holds c = let a = c .before .before .before .before .before in (omega arith, left-none _ _ _ _ _ _ (a .pre .1 .0) (a .pre .1 .1 .costs))
@@ -34,8 +33,7 @@ extend-requires c κs =
     let o = a .pre .1 .1 in
     let L = at-loop .loop .inv .1 in
     let k = L .grew .kept .marks (a .args .c) (omega (arith, o .marked, o .ring .first)) in
-    let P : Placed (flat (a .args .width) (a .args .height) (a .args .floor .now)) (a .args .c) _ = record { free = o .free; spot = at-loop .before .spot-of .ensures _ } in
-    (a .pre .0, (L .grew .room, (record { placed = P; ring = o .ring; marked = k ∙ o .marked; costs = L .stays }, omega arith)))
+    (a .pre .0, (L .grew .room, (record { placed = at-loop .before .spot-of .ensures; ring = o .ring; marked = k ∙ o .marked; costs = L .stays }, omega arith)))
 
 loop-again : tie.Need-loop-again Inv-loop μ-loop
 loop-again c =

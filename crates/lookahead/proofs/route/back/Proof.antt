@@ -3,7 +3,6 @@
 use Prim.Native.Nat.{_-_, _≤_}
 use mathlib.Core.Path.{_≡_, refl, subst}
 use native.Mathlib.Omega.{arith}
-use Rattle.model.proofs.Moves.{free-few}
 use Rattle.floor.specs.Moves.{flat}
 use Rattle.lookahead.proofs.Linking.{linked-none, linked-prior}
 use Rattle.lookahead.specs.Way.{Linked}
@@ -17,7 +16,7 @@ abbrev μ-loop : tie.MeasureT-loop
 μ-loop width height floor base mark cost x spot b₀ j₀ b j = 8 - j
 
 spot-of-requires : tie.Need-spot-of-requires Inv-loop μ-loop
-spot-of-requires c κs = let a = c .before .before .before in (a .pre .0 .wide, free-few _ _ (a .pre .0) (a .pre .1 .0 .free (a .args .x) (a .pre .1 .1 .0)))
+spot-of-requires c κs = let a = c .before .before .before in (a .pre .0, a .pre .1 .0 .free (a .args .x) (a .pre .1 .1 .0))
 
 loop-holds : tie.Need-loop-holds Inv-loop μ-loop
 loop-holds c =
@@ -27,8 +26,7 @@ loop-holds c =
 consider-requires : tie.Need-consider-requires Inv-loop μ-loop
 consider-requires c κs =
     let p = c .before .before .before .before .before .before .pre in
-    let x = c .before .before .before .before .before .before .args .x in
-    (p .0, (p .1 .0, (record { marked = p .1 .1 .0; placed = record { free = p .1 .0 .free x (p .1 .1 .0); spot = c .before .before .spot-of .ensures _ } }, (omega arith, c .before .loop .inv .1))))
+    (p .0, (p .1 .0, (record { marked = p .1 .1 .0; placed = c .before .before .spot-of .ensures }, (omega arith, c .before .loop .inv .1))))
 
 loop-again : tie.Need-loop-again Inv-loop μ-loop
 loop-again c = (omega arith, c .consider .ensures)

@@ -2,7 +2,7 @@
 -- Assumes nothing.
 use Prim.Native.Nat.{_-_, _<_}
 use Rattle.floor.specs.Moves.{flat}
-use Rattle.model.proofs.Moves.{free-below, free-few}
+use Rattle.model.proofs.Moves.{free-below}
 use Rattle.opening.proofs.Sweeping.{BestTo, best-none, best-more, best-all, step-leading}
 use Rattle.opening.specs.Search.{throughStep}
 use borrow.Author.Needs.{needs}
@@ -28,9 +28,7 @@ abbrev at-start : tie.At-loop Inv-loop μ-loop → tie.Start Inv-loop μ-loop
 at-start e = e .before .before .before .before .before
 
 spot-of-requires : tie.Need-spot-of-requires Inv-loop μ-loop
-spot-of-requires c κs =
-    let s = c .before .before in
-    (s .pre .0 .wide, free-few (flat (s .args .width) (s .args .height) (now (s .args .floor))) (s .args .cell) (s .pre .0) (s .pre .2))
+spot-of-requires c κs = let s = c .before .before in (s .pre .0, s .pre .2)
 
 mul-best : tie.Need-mul-best Inv-loop μ-loop
 mul-best c = let h = inside (c .before .before .before) in search needs
@@ -38,7 +36,7 @@ mul-best c = let h = inside (c .before .before .before) in search needs
 step-from-requires : tie.Need-step-from-requires Inv-loop μ-loop
 step-from-requires c κs =
     let p = at-start (c .before) .pre in
-    (p .0, (record { free = p .2; spot = c .before .before .before .spot-of .ensures _ }, omega arith))
+    (p .0, (c .before .before .before .spot-of .ensures, omega arith))
 
 through-requires : tie.Need-through-requires Inv-loop μ-loop
 through-requires c κs = let p = at-start (c .before .before) .pre in step-leading _ _ _ _ (p .0) (p .1) _ (c .step-from .ensures)
