@@ -1,20 +1,22 @@
--- One move worked out: how far each of the eight goes, where it leads from a cell at its column and row, and when it is a wall.
+-- One move worked out: how far each of the eight goes, which sides of a cell are free, where a move leads by them, and when it is a wall.
 -- Assumes nothing.
 use mathlib.Core.Path.{_≡_, refl, sym, ap, ap₂, _∙_, subst}
-use mathlib.Core.Bool.{Bool, true, false, cond}
+use mathlib.Core.Bool.{Bool, true, false, true≢false, cond, not, _&&_}
+use mathlib.Core.Logic.{_⊎_, inl, inr}
 use Prim.Native.Nat.{ℕ, zero, suc, _+_, _-_, _*_, _%_, _≤_, _<_}
 use native.Mathlib.Omega.{arith}
 use native.Mathlib.Nat.{add-mul, suc-mul, mul-le-mul-right, mod-lt}
-use borrow.Author.Tests.{lt-ltb, eq-eqb, eqb-true}
+use borrow.Author.Tests.{lt-ltb, le-ltb, ltb-true, eq-eqb, eqb-true, not-true, not-false}
 use lib.Dec.{eqb, ltb}
 use lib.ListN.{length, getD}
 use Rattle.model.specs.Basics.{choose}
 use Rattle.model.specs.Floor.{Floor, Sized, size, column, row, free, straight, diagonal, corner, clear, price, ahead, allowed, east, south}
 use Rattle.model.specs.Grounds.{clear-true}
 use Rattle.model.proofs.Cells.{cell-lt, row-lt, cell-at}
-use Rattle.model.proofs.Moves.{all8, toll, east-le, south-le, Inside, both, both-of, free-below, free-few, sized-cells, ahead-lt, corner-beside, corner-across, allowed-inside, allowed-free, allowed-corners, allowed-true, price-ahead}
+use Rattle.model.proofs.Moves.{all8, odd-or-along, toll, east-le, south-le, Inside, both, both-of, free-below, sized-cells, ahead-lt, corner-beside, corner-across, allowed-inside, allowed-free, allowed-corners, allowed-true, price-ahead}
+use Rattle.floor.specs.declared.Spot.{Spot}
 use Rattle.floor.specs.declared.Step.the-variants.{To, Wall}
-use Rattle.floor.specs.Moves.{stepOf, Inner, At, Roomy, Leaves, Stays}
+use Rattle.floor.specs.Moves.{stepOf, northFree, westFree, eastFree, southFree, Placed, Clear, RowClear, ColumnClear, Unless}
 
 -- the eight moves by tests: how far each goes, and what it costs
 pub east-by : (m : ℕ) → m < 8 → cond (eqb (m % 4) 0) 1 (cond (ltb m 4) 2 0) ≡ east m
@@ -26,49 +28,86 @@ south-by = all8 (λ m. cond (eqb (m % 4) 2) 1 (cond (ltb m 2) 0 (cond (ltb m 6) 
 pub toll-by : (m : ℕ) → m < 8 → cond (eqb (m % 2) 0) straight diagonal ≡ toll m
 toll-by = all8 (λ m. cond (eqb (m % 2) 0) straight diagonal ≡ toll m) refl refl refl refl refl refl refl refl
 
--- the rows, moved by so many
-rows-moved : (w y s : ℕ) → 1 ≤ y + s → (y + s - 1) * w + w ≡ y * w + s * w
-rows-moved w y s h =
+-- the cell at a column and row, moved by so many columns and rows
+moved : (w x y e s : ℕ) → 1 ≤ x + e → 1 ≤ y + s → (y + s - 1) * w + (x + e - 1) + (w + 1) ≡ y * w + x + s * w + e
+moved w x y e s p q =
     let t : suc (y + s - 1) ≡ y + s = omega arith in
     omega (arith, ap (λ k. k * w) t, suc-mul (y + s - 1) w, add-mul y s w)
 
--- a free cell has byte 0, and a cell of the floor with byte 0 is free
+-- a free cell has byte 0, and whether a cell of the floor is free is told by its byte
 free-byte : (f : Floor) (c : ℕ) → free f c ≡ true → getD (f .bytes) c 0 ≡ 0
 unfolding free
 free-byte f c h = eqb-true _ 0 (both (ltb c (size f)) (eqb (getD (f .bytes) c 0) 0) h .1)
 
-byte-free : (f : Floor) (c : ℕ) → c < size f → getD (f .bytes) c 0 ≡ 0 → free f c ≡ true
+byte-tells : (f : Floor) (c : ℕ) → c < size f → free f c ≡ eqb (getD (f .bytes) c 0) 0
 unfolding free
-byte-free f c l h = both-of (ltb c (size f)) (eqb (getD (f .bytes) c 0) 0) (lt-ltb c _ l) (eq-eqb _ 0 h)
+byte-tells f c l = ap (λ t. t && eqb (getD (f .bytes) c 0) 0) (lt-ltb c (size f) l)
 
--- a cell's column and row are small
-pub small : (f : Floor) → Sized f → (x col line : ℕ) → At f x col line → (col < 4096) × (line < 4096)
-small f z x col line A = (
-  omega (arith, A .column, mod-lt x (z .wide), z .narrow),
-  omega (arith, A .row, row-lt (f .width) (f .height) x (z .wide) (A .on), z .low),
-)
+-- ---- the ways out of a cell: past the edge there is none, and else the byte tells
 
--- the four straight cells beside an inner cell are on the floor; with byte 0 they make it roomy
-module _ (f : Floor) (z : Sized f) (x col line : ℕ) (A : At f x col line) (I : Inner (f .width) (f .height) col line) where
-  at-rows : line * f .width + col ≡ x
-  at-rows = ap₂ (λ r c. r * f .width + c) (A .row) (A .column) ∙ cell-at (f .width) x
+side-off : (t b : Bool) → t ≡ false → false ≡ (t && b)
+side-off t b e = sym (ap (λ k. k && b) e)
 
-  pub beside-inner : (f .width ≤ x) × (1 ≤ x) × (x + 1 < size f) × (x + f .width < size f)
-  beside-inner = (
-    omega (arith, at-rows, mul-le-mul-right (f .width) (I .north)),
-    omega (arith, at-rows, I .west),
-    omega (arith, at-rows, cell-lt (f .width) (f .height) (col + 1) line (omega (arith, I .east)) (omega (arith, I .south))),
-    omega (arith, at-rows, suc-mul line (f .width), cell-lt (f .width) (f .height) col (suc line) (omega (arith, I .east)) (omega (arith, I .south))),
-  )
+side-byte : (f : Floor) (t : Bool) (c : ℕ) → t ≡ true → c < size f → eqb (getD (f .bytes) c 0) 0 ≡ (t && free f c)
+side-byte f t c e l = sym (ap (λ k. k && free f c) e ∙ byte-tells f c l)
 
-  pub roomy-is : getD (f .bytes) (x - f .width) 0 ≡ 0 → getD (f .bytes) (x - 1) 0 ≡ 0 → getD (f .bytes) (x + 1) 0 ≡ 0 → getD (f .bytes) (x + f .width) 0 ≡ 0 → Roomy f x
-  roomy-is n w e s = record {
-    inner = subst (λ r. Inner (f .width) (f .height) (column f x) r) (A .row) (subst (λ c. Inner (f .width) (f .height) c line) (A .column) I);
-    north = byte-free f (x - f .width) (omega (arith, A .on)) n;
-    west = byte-free f (x - 1) (omega (arith, A .on)) w;
-    east = byte-free f (x + 1) (beside-inner .2) e;
-    south = byte-free f (x + f .width) (beside-inner .3) s;
-  }
+module _ (f : Floor) (z : Sized f) (x : ℕ) (on : x < size f) where
+  pub in-row : column f x < f .width
+  in-row = mod-lt x (z .wide)
+
+  pub in-column : row f x < f .height
+  in-column = row-lt (f .width) (f .height) x (z .wide) on
+
+  pub north-off : row f x ≡ 0 → false ≡ northFree f x
+  north-off e = side-off (ltb 0 (row f x)) (free f (x - f .width)) (le-ltb 0 (row f x) (omega (arith, e)))
+
+  pub west-off : column f x ≡ 0 → false ≡ westFree f x
+  west-off e = side-off (ltb 0 (column f x)) (free f (x - 1)) (le-ltb 0 (column f x) (omega (arith, e)))
+
+  pub east-off : f .width ≤ column f x + 1 → false ≡ eastFree f x
+  east-off h = side-off (ltb (column f x + 1) (f .width)) (free f (x + 1)) (le-ltb (column f x + 1) (f .width) h)
+
+  pub south-off : f .height ≤ row f x + 1 → false ≡ southFree f x
+  south-off h = side-off (ltb (row f x + 1) (f .height)) (free f (x + f .width)) (le-ltb (row f x + 1) (f .height) h)
+
+  -- the cell beside it, where there is one, is on the floor
+  pub north-on : 1 ≤ row f x → f .width ≤ x
+  north-on h = omega (arith, cell-at (f .width) x, mul-le-mul-right (f .width) h)
+
+  pub west-on : 1 ≤ column f x → 1 ≤ x
+  west-on h = omega (arith, cell-at (f .width) x)
+
+  pub east-on : column f x + 1 < f .width → x + 1 < size f
+  east-on h = omega (arith, cell-at (f .width) x, cell-lt (f .width) (f .height) (column f x + 1) (row f x) h in-column)
+
+  pub south-on : row f x + 1 < f .height → x + f .width < size f
+  south-on h = omega (arith, cell-at (f .width) x, suc-mul (row f x) (f .width), cell-lt (f .width) (f .height) (column f x) (suc (row f x)) in-row (omega (arith, h)))
+
+  pub north-byte : 1 ≤ row f x → eqb (getD (f .bytes) (x - f .width) 0) 0 ≡ northFree f x
+  north-byte h = side-byte f (ltb 0 (row f x)) (x - f .width) (lt-ltb 0 (row f x) h) (omega (arith, on))
+
+  pub west-byte : 1 ≤ column f x → eqb (getD (f .bytes) (x - 1) 0) 0 ≡ westFree f x
+  west-byte h = side-byte f (ltb 0 (column f x)) (x - 1) (lt-ltb 0 (column f x) h) (omega (arith, on))
+
+  pub east-byte : column f x + 1 < f .width → eqb (getD (f .bytes) (x + 1) 0) 0 ≡ eastFree f x
+  east-byte h = side-byte f (ltb (column f x + 1) (f .width)) (x + 1) (lt-ltb (column f x + 1) (f .width) h) (east-on h)
+
+  pub south-byte : row f x + 1 < f .height → eqb (getD (f .bytes) (x + f .width) 0) 0 ≡ southFree f x
+  south-byte h = side-byte f (ltb (row f x + 1) (f .height)) (x + f .width) (lt-ltb (row f x + 1) (f .height) h) (south-on h)
+
+-- ---- whether a side that a move needs is not free
+
+module _ {n : ℕ} {low high : Bool} where
+  pub unless-low : n ≡ 0 → Unless (Clear n low high) (not low)
+  unless-low e = record { holds = λ h. (λ q. not-false low h, λ q. absurd (omega (arith, e, q))); fails = λ h c. true≢false (sym (c .0 e) ∙ not-true low h) }
+
+  pub unless-high : n ≡ 2 → Unless (Clear n low high) (not high)
+  unless-high e = record { holds = λ h. (λ q. absurd (omega (arith, e, q)), λ q. not-false high h); fails = λ h c. true≢false (sym (c .1 e) ∙ not-true high h) }
+
+  pub unless-neither : (n ≡ 0 → ⊥) → (n ≡ 2 → ⊥) → Unless (Clear n low high) false
+  unless-neither a b = record { holds = λ h. (λ q. absurd (a q), λ q. absurd (b q)); fails = λ h. absurd (true≢false (sym h)) }
+
+-- ---- a move by the ways out
 
 -- what holds of 0, 1 and 2
 three : (P : ℕ → Type 0) → P 0 → P 1 → P 2 → (n : ℕ) → n ≤ 2 → P n
@@ -77,149 +116,141 @@ three P a b c (suc zero) l = b
 three P a b c (suc (suc zero)) l = c
 three P a b c (suc (suc (suc n))) l = absurd (omega arith)
 
--- a move that is not allowed is a wall
-wall : (f : Floor) (x m : ℕ) → (allowed f x m ≡ true → ⊥) → Wall ≡ stepOf f x m
-unfolding stepOf
-wall f x m n = go (allowed f x m) n
-  where
-    go : (t : Bool) → (t ≡ true → ⊥) → Wall ≡ choose t (To (ahead f x m) (price f x (ahead f x m))) Wall
-    go true n = absurd (n refl)
-    go false n = refl
+-- the straight cells that the move m needs are free
+abbrev pub Sided : Spot → ℕ → Type 0
+Sided at m = RowClear at m × ColumnClear at m
 
--- a move stays on the floor just where it stays inside, and else it is a wall
-module _ (f : Floor) (x m col line : ℕ) (A : At f x col line) where
-  pub stays-inside : Stays (f .width) (f .height) col line m → Inside f x m
-  stays-inside i =
-      record { west = omega (arith, i .west, A .column); east = omega (arith, i .east, A .column); north = omega (arith, i .north, A .row); south = omega (arith, i .south, A .row) }
-
-  inside-stays : Inside f x m → Stays (f .width) (f .height) col line m
-  inside-stays i =
-      record { west = omega (arith, i .west, A .column); east = omega (arith, i .east, A .column); north = omega (arith, i .north, A .row); south = omega (arith, i .south, A .row) }
-
-  pub wall-off : Sized f → (Stays (f .width) (f .height) col line m → ⊥) → Wall ≡ stepOf f x m
-  wall-off z n = wall f x m (λ e. n (inside-stays (allowed-inside f z x m e)))
-
--- each move from a roomy cell stays on the floor
-pub leaves-roomy : {f : Floor} {x m : ℕ} → Sized f → free f x ≡ true → Roomy f x → m < 8 → Leaves f x m
-leaves-roomy {m = m} z h o l = record {
-  sized = z;
-  here = h;
-  inside = record {
-    west = omega (arith, o .inner .west);
-    east = omega (arith, o .inner .east, east-le m l);
-    north = omega (arith, o .inner .north);
-    south = omega (arith, o .inner .south, south-le m l);
-  };
-  less = l;
-}
-
--- the straight cells beside it and the cell moved into are sums
-module _ {f : Floor} {x m : ℕ} (L : Leaves f x m) where
+module _ {f : Floor} {x : ℕ} {at : Spot} (z : Sized f) (P : Placed f x at) (m : ℕ) (l : m < 8) where
   abbrev y : ℕ
   y = ahead f x m
 
-  beside-sum : corner f x y + 1 ≡ x + east m
-  beside-sum = omega (arith, corner-beside f x m (L .inside), L .inside .west, cell-at (f .width) x)
+  below : x < size f
+  below = free-below f x (P .free)
 
-  across-sum : corner f y x + f .width ≡ x + south m * f .width
-  across-sum = omega (arith, corner-across f x m (L .inside), rows-moved (f .width) (row f x) (south m) (L .inside .north), cell-at (f .width) x)
+  -- a side that is free: it is on the floor
+  north-is : at .north ≡ true → (1 ≤ row f x) × (free f (x - f .width) ≡ true)
+  north-is e = let (t, h) = both (ltb 0 (row f x)) (free f (x - f .width)) (sym (P .north) ∙ e) in (ltb-true 0 (row f x) t, h)
 
-  ahead-sum : y + x ≡ corner f x y + corner f y x
-  unfolding ahead
-  ahead-sum = omega (arith, corner-beside f x m (L .inside), corner-across f x m (L .inside), cell-at (f .width) x)
+  west-is : at .west ≡ true → (1 ≤ column f x) × (free f (x - 1) ≡ true)
+  west-is e = let (t, h) = both (ltb 0 (column f x)) (free f (x - 1)) (sym (P .west) ∙ e) in (ltb-true 0 (column f x) t, h)
 
-  -- with room below
-  pub beside-room : (x < 4096) × (m < 8) × (1 ≤ x + east m)
-  beside-room = (free-few f x (L .sized) (L .here), L .less, omega (arith, beside-sum))
+  east-is : at .east ≡ true → (column f x + 1 < f .width) × (free f (x + 1) ≡ true)
+  east-is e = let (t, h) = both (ltb (column f x + 1) (f .width)) (free f (x + 1)) (sym (P .east) ∙ e) in (ltb-true (column f x + 1) (f .width) t, h)
 
-  pub across-room : (x < 4096) × (f .width ≤ 64) × (m < 8) × (f .width ≤ x + south m * f .width)
-  across-room = (free-few f x (L .sized) (L .here), L .sized .narrow, L .less, omega (arith, across-sum))
+  south-is : at .south ≡ true → (row f x + 1 < f .height) × (free f (x + f .width) ≡ true)
+  south-is e = let (t, h) = both (ltb (row f x + 1) (f .height)) (free f (x + f .width)) (sym (P .south) ∙ e) in (ltb-true (row f x + 1) (f .height) t, h)
 
-  -- all three are on the floor
-  beside-lt : corner f x y < size f
-  beside-lt =
-      cell-lt (f .width) (f .height) (column f y) (row f x) (mod-lt y (L .sized .wide))
-      (row-lt (f .width) (f .height) x (L .sized .wide) (free-below f x (L .here)))
+  -- with the sides that it needs, a move stays on the floor
+  sided-inside : Sided at m → Inside f x m
+  sided-inside s = record {
+    west = three (λ e. (e ≡ 0 → at .west ≡ true) → 1 ≤ column f x + e) (λ h. omega (arith, west-is (h refl) .0)) (λ h. omega arith) (λ h. omega arith) (east m) (east-le m l) (s .0 .0);
+    east = three (λ e. (e ≡ 2 → at .east ≡ true) → column f x + e ≤ f .width) (λ h. omega (arith, in-row f z x below)) (λ h. omega (arith, in-row f z x below))
+        (λ h. omega (arith, east-is (h refl) .0)) (east m) (east-le m l) (s .0 .1);
+    north = three (λ n. (n ≡ 0 → at .north ≡ true) → 1 ≤ row f x + n) (λ h. omega (arith, north-is (h refl) .0)) (λ h. omega arith) (λ h. omega arith) (south m) (south-le m l) (s .1 .0);
+    south = three (λ n. (n ≡ 2 → at .south ≡ true) → row f x + n ≤ f .height) (λ h. omega (arith, in-column f z x below)) (λ h. omega (arith, in-column f z x below))
+        (λ h. omega (arith, south-is (h refl) .0)) (south m) (south-le m l) (s .1 .1);
+  }
 
-  across-lt : corner f y x < size f
-  across-lt =
-      cell-lt (f .width) (f .height) (column f x) (row f y) (mod-lt x (L .sized .wide))
-      (row-lt (f .width) (f .height) y (L .sized .wide) (ahead-lt f x m (L .inside)))
+  -- the straight cells beside a move that stays on the floor are sums
+  module _ (i : Inside f x m) where
+    beside-sum : corner f x y + 1 ≡ x + east m
+    beside-sum = omega (arith, corner-beside f x m i, i .west, cell-at (f .width) x)
 
-  -- those beside a move from a roomy cell are free: each is one of its four, or the cell itself
-  one-of : (c d : ℕ) → c ≡ d → free f d ≡ true → free f c ≡ true
-  one-of c d e h = ap (free f) e ∙ h
+    across-sum : corner f y x + f .width ≡ x + south m * f .width
+    across-sum = omega (arith, corner-across f x m i, moved (f .width) (column f x) (row f x) 1 (south m) (omega arith) (i .north), cell-at (f .width) x)
 
-  roomy-beside : Roomy f x → free f (corner f x y) ≡ true
-  roomy-beside o =
-      three (λ e. (c : ℕ) → c + 1 ≡ x + e → free f c ≡ true) (λ c q. one-of c (x - 1) (omega (arith, q)) (o .west)) (λ c q. one-of c x (omega (arith, q)) (L .here))
-      (λ c q. one-of c (x + 1) (omega (arith, q)) (o .east)) (east m) (east-le m (L .less)) (corner f x y) beside-sum
+    ahead-sum : y + (f .width + 1) ≡ x + south m * f .width + east m
+    unfolding ahead
+    ahead-sum = omega (arith, moved (f .width) (column f x) (row f x) (east m) (south m) (i .west) (i .north), cell-at (f .width) x)
 
-  roomy-across : Roomy f x → free f (corner f y x) ≡ true
-  roomy-across o =
-      three (λ s. (c : ℕ) → c + f .width ≡ x + s * f .width → free f c ≡ true) (λ c q. one-of c (x - f .width) (omega (arith, q)) (o .north))
-      (λ c q. one-of c x (omega (arith, q)) (L .here)) (λ c q. one-of c (x + f .width) (omega (arith, q)) (o .south)) (south m) (south-le m (L .less)) (corner f y x) across-sum
+    -- the sum that leads to the cell moved into has room below and above
+    pub room : (f .width + 1 ≤ x + south m * f .width + east m) × (x + south m * f .width + east m ≤ 8192)
+    room = (omega (arith, ahead-sum), omega (arith, ahead-sum, ahead-lt f x m i, sized-cells z, z .narrow))
 
--- and as code works them out
-pub record Led (f : Floor) (x m b a d : ℕ) : Type 0 where
-  pub leaves : Leaves f x m
-  pub beside : b ≡ x + east m - 1
-  pub across : a ≡ x + south m * f .width - f .width
-  pub to : d ≡ b + a - x
+  -- a move that is not allowed is a wall
+  wall : (allowed f x m ≡ true → ⊥) → Wall ≡ stepOf f x m
+  unfolding stepOf
+  wall n = go (allowed f x m) n
+    where
+      go : (t : Bool) → (t ≡ true → ⊥) → Wall ≡ choose t (To (ahead f x m) (price f x (ahead f x m))) Wall
+      go true n = absurd (n refl)
+      go false n = refl
 
-module _ {f : Floor} {x m b a d : ℕ} (L : Led f x m b a d) where
-  beside-is : corner f x (ahead f x m) ≡ b
-  beside-is = omega (arith, beside-sum (L .leaves), L .beside)
+  -- an allowed move has the sides that it needs
+  module _ (e : allowed f x m ≡ true) where
+    allowed-in : Inside f x m
+    allowed-in = allowed-inside f z x m e
 
-  across-is : corner f (ahead f x m) x ≡ a
-  across-is = omega (arith, across-sum (L .leaves), L .across)
+    as-free : (c d : ℕ) → c ≡ d → free f c ≡ true → free f d ≡ true
+    as-free c d q h = subst (λ k. free f k ≡ true) q h
 
-  -- the two sum up with room below and above
-  pub sum-room : (x ≤ b + a) × (b + a < 8192)
-  sum-room = (
-    omega (arith, ahead-sum (L .leaves), beside-is, across-is),
-    omega (arith, beside-is, across-is, beside-lt (L .leaves), across-lt (L .leaves), sized-cells (L .leaves .sized)),
-  )
+    allowed-row : RowClear at m
+    allowed-row =
+        let i = allowed-in in
+        let sum = beside-sum i in
+        let h = allowed-corners f z x m e .0 in (
+          λ s. P .west ∙ both-of (ltb 0 (column f x)) (free f (x - 1)) (lt-ltb 0 (column f x) (omega (arith, i .west, s))) (as-free (corner f x y) (x - 1) (omega (arith, sum, s)) h),
+          λ s. P .east ∙ both-of (ltb (column f x + 1) (f .width)) (free f (x + 1)) (lt-ltb (column f x + 1) (f .width) (omega (arith, i .east, s)))
+              (as-free (corner f x y) (x + 1) (omega (arith, sum, s)) h),
+        )
 
-  ahead-is : ahead f x m ≡ d
-  ahead-is = omega (arith, ahead-sum (L .leaves), beside-is, across-is, L .to)
+    allowed-column : ColumnClear at m
+    allowed-column =
+        let i = allowed-in in
+        let sum = across-sum i in
+        let h = allowed-corners f z x m e .1 in (
+          λ s. P .north ∙ both-of (ltb 0 (row f x)) (free f (x - f .width)) (lt-ltb 0 (row f x) (omega (arith, i .north, s)))
+              (as-free (corner f y x) (x - f .width) (omega (arith, sum, ap (λ k. k * f .width) s)) h),
+          λ s. P .south ∙ both-of (ltb (row f x + 1) (f .height)) (free f (x + f .width)) (lt-ltb (row f x + 1) (f .height) (omega (arith, i .south, s)))
+              (as-free (corner f y x) (x + f .width) (omega (arith, sum, ap (λ k. k * f .width) s)) h),
+        )
 
-  -- in a list as long as the floor
-  pub reached : (d < length (f .bytes)) × (b < length (f .bytes)) × (a < length (f .bytes))
-  reached =
-      let cells = L .leaves .sized .cells in (
-        omega (arith, cells, ahead-lt f x m (L .leaves .inside), ahead-is),
-        omega (arith, cells, beside-lt (L .leaves), beside-is),
-        omega (arith, cells, across-lt (L .leaves), across-is),
-      )
+  pub wall-row : (RowClear at m → ⊥) → Wall ≡ stepOf f x m
+  wall-row n = wall (λ e. n (allowed-row e))
 
-  -- a blocked one is a wall
-  pub wall-ahead : (getD (f .bytes) d 0 ≡ 0 → ⊥) → Wall ≡ stepOf f x m
-  wall-ahead n = wall f x m (λ h. n (free-byte f d (subst (λ k. free f k ≡ true) ahead-is (allowed-free f (L .leaves .sized) x m h))))
+  pub wall-column : (ColumnClear at m → ⊥) → Wall ≡ stepOf f x m
+  wall-column n = wall (λ e. n (allowed-column e))
 
-  pub wall-beside : (getD (f .bytes) b 0 ≡ 0 → ⊥) → Wall ≡ stepOf f x m
-  wall-beside n = wall f x m (λ h. n (free-byte f b (subst (λ k. free f k ≡ true) beside-is (allowed-corners f (L .leaves .sized) x m h .0))))
+  -- with them the straight cells beside the move are free
+  module _ (s : Sided at m) where
+    pub inside : Inside f x m
+    inside = sided-inside s
 
-  pub wall-across : (getD (f .bytes) a 0 ≡ 0 → ⊥) → Wall ≡ stepOf f x m
-  wall-across n = wall f x m (λ h. n (free-byte f a (subst (λ k. free f k ≡ true) across-is (allowed-corners f (L .leaves .sized) x m h .1))))
+    one-of : (c d : ℕ) → c ≡ d → free f d ≡ true → free f c ≡ true
+    one-of c d e h = ap (free f) e ∙ h
 
-  -- with all three free the move leads there, at its toll
-  byte-clear : (c : ℕ) → c < length (f .bytes) → getD (f .bytes) c 0 ≡ 0 → free f c ≡ true
-  byte-clear c h = byte-free f c (omega (arith, h, L .leaves .sized .cells))
+    beside-free : free f (corner f x y) ≡ true
+    beside-free =
+        three (λ e. (e ≡ 0 → at .west ≡ true) → (e ≡ 2 → at .east ≡ true) → (c : ℕ) → c + 1 ≡ x + e → free f c ≡ true)
+        (λ w e c q. one-of c (x - 1) (omega (arith, q)) (west-is (w refl) .1)) (λ w e c q. one-of c x (omega (arith, q)) (P .free))
+        (λ w e c q. one-of c (x + 1) (omega (arith, q)) (east-is (e refl) .1)) (east m) (east-le m l) (s .0 .0) (s .0 .1) (corner f x y) (beside-sum inside)
 
-  module _ (v : ℕ) (q : v ≡ toll m) (hd : getD (f .bytes) d 0 ≡ 0) where
-    step-clear : free f (corner f x (ahead f x m)) ≡ true → free f (corner f (ahead f x m) x) ≡ true → To d v ≡ stepOf f x m
-    unfolding stepOf
-    step-clear fb fa =
-        let z = L .leaves .sized in
-        let i = L .leaves .inside in
-        let l = L .leaves .less in
-        let o : clear f x (ahead f x m) ≡ true = clear-true f x (ahead f x m) (L .leaves .here) (ap (free f) ahead-is ∙ byte-clear d (reached .0) hd) fb fa in
-        ap (To d) q
-        ∙ sym (ap (λ t. choose t (To (ahead f x m) (price f x (ahead f x m))) Wall) (allowed-true f z x m l i o) ∙ ap₂ To ahead-is (price-ahead f z x m l i o))
+    across-free : free f (corner f y x) ≡ true
+    across-free =
+        three (λ k. (k ≡ 0 → at .north ≡ true) → (k ≡ 2 → at .south ≡ true) → (c : ℕ) → c + f .width ≡ x + k * f .width → free f c ≡ true)
+        (λ n t c q. one-of c (x - f .width) (omega (arith, q)) (north-is (n refl) .1)) (λ n t c q. one-of c x (omega (arith, q)) (P .free))
+        (λ n t c q. one-of c (x + f .width) (omega (arith, q)) (south-is (t refl) .1)) (south m) (south-le m l) (s .1 .0) (s .1 .1) (corner f y x) (across-sum inside)
 
-    pub step-to : getD (f .bytes) b 0 ≡ 0 → getD (f .bytes) a 0 ≡ 0 → To d v ≡ stepOf f x m
-    step-to hb ha = step-clear (ap (free f) beside-is ∙ byte-clear b (reached .1) hb) (ap (free f) across-is ∙ byte-clear a (reached .2) ha)
+    module _ (d : ℕ) (e : d ≡ x + south m * f .width + east m - (f .width + 1)) where
+      ahead-is : y ≡ d
+      ahead-is = omega (arith, ahead-sum inside, e)
 
-    pub step-roomy : Roomy f x → To d v ≡ stepOf f x m
-    step-roomy o = step-clear (roomy-beside (L .leaves) o) (roomy-across (L .leaves) o)
+      pub reached : d < length (f .bytes)
+      reached = omega (arith, ahead-lt f x m inside, ahead-is, z .cells)
+
+      -- of a diagonal the byte of the cell moved into tells; a straight one leads to a cell beside it
+      pub wall-ahead : ((m % 2 ≡ 1 → getD (f .bytes) d 0 ≡ 0) → ⊥) → Wall ≡ stepOf f x m
+      wall-ahead n = wall (λ h. n (λ odd. free-byte f d (subst (λ k. free f k ≡ true) ahead-is (allowed-free f z x m h))))
+
+      ahead-free : (m % 2 ≡ 1 → getD (f .bytes) d 0 ≡ 0) → (m % 2 ≡ 1) ⊎ ((east m ≡ 1) ⊎ (south m ≡ 1)) → free f y ≡ true
+      ahead-free h (inl odd) = ap (free f) ahead-is ∙ byte-tells f d (omega (arith, reached, z .cells)) ∙ eq-eqb _ 0 (h odd)
+      ahead-free h (inr (inl e)) = one-of y (corner f y x) (omega (arith, e, ahead-sum inside, across-sum inside)) across-free
+      ahead-free h (inr (inr k)) = one-of y (corner f x y) (omega (arith, ap (λ n. n * f .width) k, ahead-sum inside, beside-sum inside)) beside-free
+
+      -- with all that it needs free the move leads there, at its toll
+      pub step-to : (v : ℕ) → v ≡ toll m → (m % 2 ≡ 1 → getD (f .bytes) d 0 ≡ 0) → To d v ≡ stepOf f x m
+      unfolding stepOf
+      step-to v q h =
+          let o : clear f x y ≡ true = clear-true f x y (P .free) (ahead-free h (odd-or-along m l)) beside-free across-free in
+          ap (To d) q
+          ∙ sym (ap (λ t. choose t (To (ahead f x m) (price f x (ahead f x m))) Wall) (allowed-true f z x m l inside o) ∙ ap₂ To ahead-is (price-ahead f z x m l inside o))

@@ -1,11 +1,11 @@
 -- One move as code finds it: the model's `allowed`, `ahead` and `price` as one answer.
 use mathlib.Core.Path.{_≡_}
-use mathlib.Core.Bool.{Bool, true, false}
+use mathlib.Core.Bool.{Bool, true, false, _&&_}
 use mathlib.Core.List.{List}
-use Prim.Native.Nat.{ℕ, _+_, _-_, _≤_, _<_}
+use Prim.Native.Nat.{ℕ, _+_, _-_}
+use lib.Dec.{ltb}
 use Rattle.model.specs.Basics.{choose}
-use Rattle.model.specs.Floor.{Floor, Sized, size, column, row, free, price, east, south, ahead, allowed}
-use Rattle.model.proofs.Moves.{Inside}
+use Rattle.model.specs.Floor.{Floor, column, row, free, price, east, south, ahead, allowed}
 use Rattle.floor.specs.declared.Spot.{Spot}
 use Rattle.floor.specs.declared.Step.{Step}
 use Rattle.floor.specs.declared.Step.the-variants.{To, Wall}
@@ -18,47 +18,39 @@ flat width height bytes = record { width = width; height = height; bytes = bytes
 unfoldable pub stepOf : Floor → ℕ → ℕ → Step
 stepOf f x m = choose (allowed f x m) (To (ahead f x m) (price f x (ahead f x m))) Wall
 
--- from this column and row no move leads off a floor of this width and height
-pub record Inner (width height col line : ℕ) : Type 0 where
-  pub west : 1 ≤ col
-  pub east : col + 2 ≤ width
-  pub north : 1 ≤ line
-  pub south : line + 2 ≤ height
+-- whether the straight cell on each side of x is on the floor and free
+abbrev pub northFree : Floor → ℕ → Bool
+northFree f x = ltb 0 (row f x) && free f (x - f .width)
 
--- the cell x of the floor stands at this column and row
-pub record At (f : Floor) (x col line : ℕ) : Type 0 where
-  pub on : x < size f
-  pub column : col ≡ column f x
-  pub row : line ≡ row f x
+abbrev pub westFree : Floor → ℕ → Bool
+westFree f x = ltb 0 (column f x) && free f (x - 1)
 
--- no move from x leads off the floor, and the four straight cells beside it are free
-pub record Roomy (f : Floor) (x : ℕ) : Type 0 where
-  pub inner : Inner (f .width) (f .height) (column f x) (row f x)
-  pub north : free f (x - f .width) ≡ true
-  pub west : free f (x - 1) ≡ true
-  pub east : free f (x + 1) ≡ true
-  pub south : free f (x + f .width) ≡ true
+abbrev pub eastFree : Floor → ℕ → Bool
+eastFree f x = ltb (column f x + 1) (f .width) && free f (x + 1)
 
--- a free cell, where it stands, and what is known of it
+abbrev pub southFree : Floor → ℕ → Bool
+southFree f x = ltb (row f x + 1) (f .height) && free f (x + f .width)
+
+-- a free cell and the ways out of it
 pub record Placed (f : Floor) (x : ℕ) (at : Spot) : Type 0 where
   pub free : free f x ≡ true
-  pub spot : At f x (at .col) (at .row)
-  pub roomy : at .roomy ≡ true → Roomy f x
+  pub north : at .north ≡ northFree f x
+  pub west : at .west ≡ westFree f x
+  pub east : at .east ≡ eastFree f x
+  pub south : at .south ≡ southFree f x
 
--- a free cell and a move that stays on the floor
-pub record Leaves (f : Floor) (x m : ℕ) : Type 0 where
-  pub sized : Sized f
-  pub here : free f x ≡ true
-  pub inside : Inside f x m
-  pub less : m < 8
+-- of a move that goes n one way, counted so that 1 is not at all: the side that it goes to is free
+abbrev pub Clear : ℕ → (low high : Bool) → Type 0
+Clear n low high = (n ≡ 0 → low ≡ true) × (n ≡ 2 → high ≡ true)
 
--- the move m from this column and row stays on the floor, and whether it does not
-pub record Stays (width height col line m : ℕ) : Type 0 where
-  pub west : 1 ≤ col + east m
-  pub east : col + east m ≤ width
-  pub north : 1 ≤ line + south m
-  pub south : line + south m ≤ height
+-- the straight cell in the row of x that the move m needs, on its way or beside it, is free; and that in its column
+abbrev pub RowClear : Spot → ℕ → Type 0
+RowClear at m = Clear (east m) (at .west) (at .east)
 
-pub record Off (width height col line m : ℕ) (r : Bool) : Type 0 where
-  pub on : r ≡ false → Stays width height col line m
-  pub off : r ≡ true → Stays width height col line m → ⊥
+abbrev pub ColumnClear : Spot → ℕ → Type 0
+ColumnClear at m = Clear (south m) (at .north) (at .south)
+
+-- r says that A does not hold
+pub record Unless (A : Type 0) (r : Bool) : Type 0 where
+  pub holds : r ≡ false → A
+  pub fails : r ≡ true → A → ⊥

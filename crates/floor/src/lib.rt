@@ -2,13 +2,14 @@
 ghost use mathlib.Core.Path.{_≡_};
 ghost use mathlib.Core.Bool.{true};
 ghost use mathlib.Core.List.{List};
-ghost use Prim.Native.Nat.{ℕ, _+_, _-_, _<_, _≤_, _*_, min};
+ghost use Prim.Native.Nat.{ℕ, _<_, _≤_, _*_, _%_, min};
+ghost use lib.ListN.{length, getD};
 ghost use Rattle.model.specs.Basics.{member};
 ghost use Rattle.model.specs.Checks.{finest};
 ghost use Rattle.model.specs.Floor.{Sized, free, apart, goalsOf};
 ghost use Rattle.model.specs.Floor as model;
 ghost use Rattle.model.proofs.Moves.{toll};
-ghost use Rattle.floor.specs.Moves.{flat, Inner, At, Roomy, Leaves, Placed, Off, stepOf};
+ghost use Rattle.floor.specs.Moves.{flat, northFree, westFree, eastFree, southFree, Placed, RowClear, ColumnClear, Unless, stepOf};
 
 // What a move leads to: the cell moved into and what the move costs, or nothing that may be moved into.
 pub enum Step {
@@ -16,12 +17,12 @@ pub enum Step {
     Wall,
 }
 
-// Where a free cell stands: its column and its row. Of a roomy cell it is known that no move leads off the floor and that the four straight
-// cells beside it are free, so that of a move from it only the cell moved into is looked at.
+// The ways out of a free cell: whether the straight cell on each side of it is on the floor and free. A diagonal move needs two of them, those beside it.
 pub struct Spot {
-    pub col: usize,
-    pub row: usize,
-    pub roomy: bool,
+    pub north: bool,
+    pub west: bool,
+    pub east: bool,
+    pub south: bool,
 }
 
 // A straight move costs 10, a diagonal one 14; the least and the dearest price of a move.
@@ -96,144 +97,122 @@ fn toll(m: usize) -> u16
     if m % 2 == 0 { STRAIGHT } else { DIAGONAL }
 }
 
-// Whether no move leads off the floor from a cell at this column and row.
-fn is_inner(width: usize, height: usize, col: usize, row: usize) -> bool
-    requires { ⌜ (col < 4096) × (row < 4096) ⌝ }
-    ensures { λ r. ⌜ (r ≡ true → Inner width height col row) ⌝ }
+// Whether the cell to the north of a cell of this row is on the floor and free; and so to the west, the east and the south.
+fn north_free(width: usize, height: usize, floor: &[u8], cell: usize, row: usize) -> bool
+    requires { ⌜ Sized (flat width height (now floor)) ⌝ ∗ ⌜ (cell < width * height) × (row ≡ model.row (flat width height (now floor)) cell) ⌝ }
+    ensures { λ r. ⌜ r ≡ northFree (flat width height (now (floor .entry))) cell ⌝ }
+{
+    if row == 0 {
+        return false;
+    }
+    floor[cell - width] == 0
+}
+
+fn west_free(width: usize, height: usize, floor: &[u8], cell: usize, col: usize) -> bool
+    requires { ⌜ Sized (flat width height (now floor)) ⌝ ∗ ⌜ (cell < width * height) × (col ≡ model.column (flat width height (now floor)) cell) ⌝ }
+    ensures { λ r. ⌜ r ≡ westFree (flat width height (now (floor .entry))) cell ⌝ }
 {
     if col == 0 {
         return false;
     }
-    if row == 0 {
-        return false;
-    }
+    floor[cell - 1] == 0
+}
+
+fn east_free(width: usize, height: usize, floor: &[u8], cell: usize, col: usize) -> bool
+    requires { ⌜ Sized (flat width height (now floor)) ⌝ ∗ ⌜ (cell < width * height) × (col ≡ model.column (flat width height (now floor)) cell) ⌝ }
+    ensures { λ r. ⌜ r ≡ eastFree (flat width height (now (floor .entry))) cell ⌝ }
+{
     if width <= col + 1 {
         return false;
     }
-    row + 1 < height
+    floor[cell + 1] == 0
 }
 
-// Whether a cell at this column and row is roomy.
-fn is_roomy(width: usize, height: usize, floor: &[u8], cell: usize, col: usize, row: usize) -> bool
-    requires { ⌜ Sized (flat width height (now floor)) ⌝ ∗ ⌜ At (flat width height (now floor)) cell col row ⌝ }
-    ensures { λ r. ⌜ (r ≡ true → Roomy (flat width height (now (floor .entry))) cell) ⌝ }
+fn south_free(width: usize, height: usize, floor: &[u8], cell: usize, row: usize) -> bool
+    requires { ⌜ Sized (flat width height (now floor)) ⌝ ∗ ⌜ (cell < width * height) × (row ≡ model.row (flat width height (now floor)) cell) ⌝ }
+    ensures { λ r. ⌜ r ≡ southFree (flat width height (now (floor .entry))) cell ⌝ }
 {
-    if is_inner(width, height, col, row) {
-        if floor[cell - width] != 0 {
-            return false;
-        }
-        if floor[cell - 1] != 0 {
-            return false;
-        }
-        if floor[cell + 1] != 0 {
-            return false;
-        }
-        return floor[cell + width] == 0;
+    if height <= row + 1 {
+        return false;
     }
-    false
+    floor[cell + width] == 0
 }
 
-// Where a free cell stands.
+// The ways out of a free cell.
 pub fn spot_of(width: usize, height: usize, floor: &[u8], cell: usize) -> Spot
     requires { ⌜ Sized (flat width height (now floor)) ⌝ ∗ ⌜ free (flat width height (now floor)) cell ≡ true ⌝ }
     ensures { λ r. ⌜ Placed (flat width height (now (floor .entry))) cell r ⌝ }
 {
     let col = cell % width;
     let row = cell / width;
-    let roomy = is_roomy(width, height, floor, cell, col, row);
     Spot {
-        col: col,
-        row: row,
-        roomy: roomy,
+        north: north_free(width, height, floor, cell, row),
+        west: west_free(width, height, floor, cell, col),
+        east: east_free(width, height, floor, cell, col),
+        south: south_free(width, height, floor, cell, row),
     }
 }
 
-// Whether the move m leads off the floor.
-fn leads_off(width: usize, height: usize, at: Spot, m: usize) -> bool
-    requires { ⌜ (at .col < 4096) × (at .row < 4096) × (m < 8) ⌝ }
-    ensures { λ r. ⌜ Off width height (at .col) (at .row) m r ⌝ }
+// Whether the move m from a cell needs the straight cell to its west or east, and that is not free; and so to its north or south.
+fn row_barred(at: Spot, m: usize) -> bool
+    requires { ⌜ m < 8 ⌝ }
+    ensures { λ r. ⌜ Unless (RowClear at m) r ⌝ }
 {
-    let x = at.col + east(m);
-    let y = at.row + south(m);
-    if x == 0 {
-        return true;
+    let e = east(m);
+    if e == 0 {
+        return !at.west;
     }
-    if width < x {
-        return true;
+    if e == 2 {
+        return !at.east;
     }
-    if y == 0 {
-        return true;
-    }
-    height < y
+    false
 }
 
-// The straight cells beside the move m from a cell: the one in its row, and the one in its column. Of a straight move they are its two ends.
-fn beside(cell: usize, m: usize) -> usize
-    requires { ⌜ (cell < 4096) × (m < 8) × (1 ≤ cell + model.east m) ⌝ }
-    ensures { λ r. ⌜ r ≡ cell + model.east m - 1 ⌝ }
+fn column_barred(at: Spot, m: usize) -> bool
+    requires { ⌜ m < 8 ⌝ }
+    ensures { λ r. ⌜ Unless (ColumnClear at m) r ⌝ }
 {
-    cell + east(m) - 1
+    let s = south(m);
+    if s == 0 {
+        return !at.north;
+    }
+    if s == 2 {
+        return !at.south;
+    }
+    false
 }
 
-fn across(width: usize, cell: usize, m: usize) -> usize
-    requires { ⌜ (cell < 4096) × (width ≤ 64) × (m < 8) × (width ≤ cell + model.south m * width) ⌝ }
-    ensures { λ r. ⌜ r ≡ cell + model.south m * width - width ⌝ }
+// Whether the move m is a diagonal and the cell that it leads to is blocked. (Of a straight one that cell is one of the four.)
+fn is_taken(floor: &[u8], to: usize, m: usize) -> bool
+    requires { ⌜ to < length (now floor) ⌝ }
+    ensures { λ r. ⌜ Unless (m % 2 ≡ 1 → getD (now (floor .entry)) to 0 ≡ 0) r ⌝ }
 {
-    cell + south(m) * width - width
+    if m % 2 == 0 {
+        return false;
+    }
+    floor[to] != 0
 }
 
-// The move m from a roomy cell, which stays on the floor.
-fn step_roomy(width: usize, height: usize, floor: &[u8], cell: usize, m: usize) -> Step
-    requires { ⌜ Leaves (flat width height (now floor)) cell m ⌝ ∗ ⌜ Roomy (flat width height (now floor)) cell ⌝ }
-    ensures { λ r. ⌜ r ≡ stepOf (flat width height (now (floor .entry))) cell m ⌝ }
-{
-    let to = beside(cell, m) + across(width, cell, m) - cell;
-    if floor[to] != 0 {
-        return Step::Wall;
-    }
-    let cost = toll(m);
-    Step::To {
-        cell: to,
-        cost: cost,
-    }
-}
-
-// The move m from a free cell, where it stays on the floor.
-fn step_inside(width: usize, height: usize, floor: &[u8], cell: usize, m: usize) -> Step
-    requires { ⌜ Leaves (flat width height (now floor)) cell m ⌝ }
-    ensures { λ r. ⌜ r ≡ stepOf (flat width height (now (floor .entry))) cell m ⌝ }
-{
-    let side = beside(cell, m);
-    let face = across(width, cell, m);
-    let to = side + face - cell;
-    if floor[to] != 0 {
-        return Step::Wall;
-    }
-    if floor[side] != 0 {
-        return Step::Wall;
-    }
-    if floor[face] != 0 {
-        return Step::Wall;
-    }
-    let cost = toll(m);
-    Step::To {
-        cell: to,
-        cost: cost,
-    }
-}
-
-// The move m from a free cell, whose column and row the spot has.
+// The move m from a free cell, by the ways out of it.
 pub fn step_from(width: usize, height: usize, floor: &[u8], cell: usize, at: Spot, m: usize) -> Step
     requires { ⌜ Sized (flat width height (now floor)) ⌝ ∗ ⌜ Placed (flat width height (now floor)) cell at ⌝ ∗ ⌜ m < 8 ⌝ }
     ensures { λ r. ⌜ r ≡ stepOf (flat width height (now (floor .entry))) cell m ⌝ }
 {
-    if at.roomy {
-        return step_roomy(width, height, floor, cell, m);
-    }
-    if leads_off(width, height, at, m) {
+    if row_barred(at, m) {
         return Step::Wall;
     }
-    step_inside(width, height, floor, cell, m)
+    if column_barred(at, m) {
+        return Step::Wall;
+    }
+    let to = cell + south(m) * width + east(m) - (width + 1);
+    if is_taken(floor, to, m) {
+        return Step::Wall;
+    }
+    let cost = toll(m);
+    Step::To {
+        cell: to,
+        cost: cost,
+    }
 }
 
 // How far apart two numbers are.

@@ -17,7 +17,7 @@ use Rattle.model.specs.Floor.{Floor, Sized, column, row, free, clear, pr
 use Rattle.model.specs.Grounds.{both-comm, both-first, fareBetween, fare-low, fare-high, fare-same, fare-clear, clear-ends, clear-true, price-fare, price-clear, price-free, free-inside, groundOf}
 use Rattle.model.specs.Checks.{floorOf, goals}
 use Rattle.model.proofs.Cells.{cell-at}
-use Rattle.model.proofs.Moves.{is-true, all8, Inside, corner-beside, corner-across, allowed-inside, allowed-some, allowed-free, allowed-corners, allowed-true}
+use Rattle.model.proofs.Moves.{is-true, all8, odd-or-along, Inside, corner-beside, corner-across, allowed-inside, allowed-some, allowed-free, allowed-corners, allowed-true}
 use Rattle.model.proofs.Refusals.{IsOpening}
 use Rattle.model.proofs.Demand.{refused-as-unsound-only-when-above}
 
@@ -48,7 +48,7 @@ AlongRow k m = (east k ≡ east m) × (south k ≡ 1)
 abbrev AlongColumn : (k m : ℕ) → Type 0
 AlongColumn k m = (east k ≡ 1) × (south k ≡ south m)
 
--- a diagonal has one of each beside it; a straight move is one of the two itself
+-- a diagonal has one of each beside it
 abbrev Sides : ℕ → Type 0
 Sides m = (AlongColumn (before m) m × AlongRow (after m) m) ⊎ (AlongRow (before m) m × AlongColumn (after m) m)
 
@@ -59,9 +59,6 @@ diagonal-sides =
     (λ e. absurd (omega arith)) (λ e. inr ((refl, refl), (refl, refl)))
     (λ e. absurd (omega arith)) (λ e. inl ((refl, refl), (refl, refl)))
     (λ e. absurd (omega arith)) (λ e. inr ((refl, refl), (refl, refl)))
-
-odd-or-along : (m : ℕ) → m < 8 → (m % 2 ≡ 1) ⊎ ((east m ≡ 1) ⊎ (south m ≡ 1))
-odd-or-along = all8 (λ m. (m % 2 ≡ 1) ⊎ ((east m ≡ 1) ⊎ (south m ≡ 1))) (inr (inl refl)) (inl refl) (inr (inr refl)) (inl refl) (inr (inl refl)) (inl refl) (inr (inr refl)) (inl refl)
 
 module _ (f : Floor) (z : Sized f) (x m : ℕ) (l : m < 8) where
   abbrev y : ℕ

@@ -1,9 +1,10 @@
 -- The eight moves and the price of a move: where a move leads, what it costs, the way back, and that each price is one move's.
 -- Code knows movement by these laws alone. Assumes nothing.
 use mathlib.Core.Path.{_≡_, refl, ap, ap₂, sym, _∙_, subst}
+use mathlib.Core.Logic.{_⊎_, inl, inr}
 use mathlib.Core.List.{[], _∷_}
 use mathlib.Core.Bool.{Bool, true, false, _&&_}
-use Prim.Native.Nat.{ℕ, zero, suc, _+_, _-_, _*_, _≤_, _<_}
+use Prim.Native.Nat.{ℕ, zero, suc, _+_, _-_, _*_, _%_, _≤_, _<_}
 use native.Mathlib.Omega.{arith}
 use native.Mathlib.Nat.{mod-lt}
 use lib.Dec.{T, leb, eqb, lit≤, lit<}
@@ -55,6 +56,11 @@ east-le = all8 (λ m. east m ≤ 2) (lit≤ tt) (lit≤ tt) (lit≤ tt) (lit≤ 
 
 pub south-le : (m : ℕ) → m < 8 → south m ≤ 2
 south-le = all8 (λ m. south m ≤ 2) (lit≤ tt) (lit≤ tt) (lit≤ tt) (lit≤ tt) (lit≤ tt) (lit≤ tt) (lit≤ tt) (lit≤ tt)
+
+-- a move is a diagonal one, its number being odd, or goes along its column or along its row
+pub odd-or-along : (m : ℕ) → m < 8 → (m % 2 ≡ 1) ⊎ ((east m ≡ 1) ⊎ (south m ≡ 1))
+odd-or-along =
+    all8 (λ m. (m % 2 ≡ 1) ⊎ ((east m ≡ 1) ⊎ (south m ≡ 1))) (inr (inl refl)) (inl refl) (inr (inr refl)) (inl refl) (inr (inl refl)) (inl refl) (inr (inr refl)) (inl refl)
 
 -- a straight move costs 10, a diagonal one 14
 abbrev pub toll : ℕ → ℕ

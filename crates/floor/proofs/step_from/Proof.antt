@@ -1,34 +1,86 @@
--- `floor::step_from` meets its contract: a move from a roomy cell, a move off the floor, and one that stays on it.
+-- `floor::step_from` meets its contract: each test that fails makes a wall, and past them the cell is the model's, at the toll of the move.
 -- Assumes nothing.
+use mathlib.Core.Path.{_≡_, ap, ap₂}
+use Prim.Native.Nat.{_+_, _-_, _*_, _≤_}
+use native.Mathlib.Omega.{arith}
 use borrow.Author.Needs.{needs}
-use Rattle.floor.proofs.Stepping.{small, stays-inside, wall-off, leaves-roomy}
+use Rattle.model.specs.Floor.{east, south}
+use Rattle.floor.proofs.Stepping.{Sided, inside, room, reached, wall-row, wall-column, wall-ahead, step-to}
 use Rattle.floor.proofs.step_from.Statement.{statement}
 use Rattle.floor.proofs.step_from.Tie as tie
 
-step-roomy-requires : tie.Need-step-roomy-requires
-step-roomy-requires c κs =
-    let s = c .before .before in
-    let p = s .pre .1 .0 in
-    let r = p .roomy (c .if1 .taken) in
-    (leaves-roomy (s .pre .0) (p .free) r (s .pre .1 .1), r)
+-- past the first two tests the straight cells that the move needs are free
+abbrev start : tie.Else2 → tie.Start
+start c = c .before .before .before .before .before
 
-leads-off-requires : tie.Need-leads-off-requires
-leads-off-requires c κs = let s = c .before .before in let h = small _ (s .pre .0) _ _ _ (s .pre .1 .0 .spot) in (h .0, h .1, s .pre .1 .1)
+sided : (c : tie.Else2) → let a = start c .args in Sided (a .at) (a .m)
+sided c = (c .before .before .before .row-barred .ensures .holds (c .before .before .if1 .left), c .before .column-barred .ensures .holds (c .if2 .left))
+
+-- so the sum that leads to the cell has room below and above
+space : (c : tie.Else2) →
+    let a = start c .args in
+    (a .width + 1 ≤ a .cell + south (a .m) * a .width + east (a .m)) × (a .cell + south (a .m) * a .width + east (a .m) ≤ 8192)
+space c = let s = start c in room (s .pre .0) (s .pre .1 .0) _ (s .pre .1 .1) (inside (s .pre .0) (s .pre .1 .0) _ (s .pre .1 .1) (sided c))
+
+-- the rows moved, times the width
+rows : (c : tie.After-south) → let a = start (c .before) .args in c .south .result * a .width ≡ south (a .m) * a .width
+rows c = ap (λ k. k * start (c .before) .args .width) (c .south .ensures)
+
+-- and it is the model's
+led : (c : tie.After-east) →
+    let a = start (c .before .before) .args in
+    a .cell + c .before .south .result * a .width + c .east .result - (a .width + 1) ≡ a .cell + south (a .m) * a .width + east (a .m) - (a .width + 1)
+led c =
+    let a = start (c .before .before) .args in
+    ap₂ (λ p q. a .cell + p * a .width + q - (a .width + 1)) (c .before .south .ensures) (c .east .ensures)
+
+returns : tie.Need-returns
+returns c =
+    let s = c .before .before .before in
+    wall-row (s .pre .0) (s .pre .1 .0) _ (s .pre .1 .1) (c .before .row-barred .ensures .fails (c .if1 .taken))
 
 returns-2 : tie.Need-returns-2
 returns-2 c =
-    let s = c .before .before .before .before in
-    wall-off _ _ _ _ _ (s .pre .1 .0 .spot) (s .pre .0) (c .before .leads-off .ensures .off (c .if2 .taken))
+    let s = c .before .before .before .before .before in
+    wall-column (s .pre .0) (s .pre .1 .0) _ (s .pre .1 .1) (c .before .column-barred .ensures .fails (c .if2 .taken))
 
-step-inside-requires : tie.Need-step-inside-requires
-step-inside-requires c κs =
-    let s = c .before .before .before .before in
-    let p = s .pre .1 .0 in record {
-      sized = s .pre .0;
-      here = p .free;
-      inside = stays-inside _ _ _ _ _ (p .spot) (c .before .leads-off .ensures .on (c .if2 .left));
-      less = s .pre .1 .1;
-    }
+is-taken-requires : tie.Need-is-taken-requires
+is-taken-requires c κs =
+    let off = c .before .before in
+    let s = start off in
+    reached (s .pre .0) (s .pre .1 .0) _ (s .pre .1 .1) (sided off) _ (led c)
+
+returns-3 : tie.Need-returns-3
+returns-3 c =
+    let at-east = c .before .before in
+    let off = at-east .before .before in
+    let s = start off in
+    wall-ahead (s .pre .0) (s .pre .1 .0) _ (s .pre .1 .1) (sided off) _ (led at-east) (c .before .is-taken .ensures .fails (c .if3 .taken))
+
+returns-4 : tie.Need-returns-4
+returns-4 c =
+    let at-else = c .before in
+    let at-east = at-else .before .before in
+    let off = at-east .before .before in
+    let s = start off in
+    step-to (s .pre .0) (s .pre .1 .0) _ (s .pre .1 .1) (sided off) _ (led at-east) _ (c .toll .ensures) (at-else .before .is-taken .ensures .holds (at-else .if3 .left))
 
 pub step-from-spec : {M : Type 1} → statement M
-step-from-spec = tie.close (tie.spec step-roomy-requires (λ c. search needs) leads-off-requires returns-2 step-inside-requires (λ c. search needs))
+step-from-spec =
+    tie.close
+    (tie.spec
+    (λ c κs. search needs)
+    returns
+    (λ c κs. search needs)
+    returns-2
+    (λ c κs. search needs)
+    (λ c. omega (arith, space (c .before) .1, rows c))
+    (λ c. omega (arith, space (c .before) .1, rows c))
+    (λ c κs. search needs)
+    (λ c. omega (arith, space (c .before .before) .1, rows (c .before), c .east .ensures))
+    (λ c. search needs)
+    (λ c. omega (arith, space (c .before .before) .0, rows (c .before), c .east .ensures))
+    is-taken-requires
+    returns-3
+    (λ c κs. search needs)
+    returns-4)

@@ -1,0 +1,18 @@
+-- `floor::column_barred` meets its contract.
+-- Assumes nothing.
+use native.Mathlib.Omega.{arith}
+use borrow.Author.Needs.{needs}
+use Rattle.floor.proofs.Stepping.{unless-low, unless-high, unless-neither}
+use Rattle.floor.proofs.column_barred.Statement.{statement}
+use Rattle.floor.proofs.column_barred.Tie as tie
+
+pub column-barred-spec : {M : Type 1} → statement M
+column-barred-spec =
+    tie.close
+    (tie.spec
+    (λ c κs. search needs)
+    (λ c. unless-low (omega (arith, c .before .if1 .taken, c .before .before .south .ensures)))
+    (λ c. unless-high (omega (arith, c .before .if2 .taken, c .before .before .before .south .ensures)))
+    (λ c.
+    let given = c .before .before .south .ensures in
+    unless-neither (λ q. omega (arith, q, given, c .before .if1 .left)) (λ q. omega (arith, q, given, c .if2 .left))))

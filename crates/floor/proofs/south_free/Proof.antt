@@ -1,0 +1,17 @@
+-- `floor::south_free` meets its contract.
+-- Assumes nothing.
+use native.Mathlib.Omega.{arith}
+use borrow.Author.Needs.{needs}
+use Rattle.floor.proofs.Stepping.{in-column, south-off, south-on, south-byte}
+use Rattle.floor.proofs.south_free.Statement.{statement}
+use Rattle.floor.proofs.south_free.Tie as tie
+
+pub south-free-spec : {M : Type 1} → statement M
+south-free-spec =
+    tie.close
+    (tie.spec
+    (λ c. omega (arith, in-column _ (c .pre .0) _ (c .pre .1 .0), c .pre .0 .low))
+    (λ c. let s = c .before in south-off _ (s .pre .0) _ (s .pre .1 .0) (omega arith))
+    (λ c. search needs)
+    (λ c. let s = c .before .before in omega (arith, south-on _ (s .pre .0) _ (s .pre .1 .0) (omega arith), s .pre .0 .cells))
+    (λ c. let s = c .before .before in south-byte _ (s .pre .0) _ (s .pre .1 .0) (omega arith)))
