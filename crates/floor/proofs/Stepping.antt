@@ -58,12 +58,6 @@ module _ (f : Floor) (z : Sized f) (x : ℕ) (on : x < size f) where
   pub in-column : row f x < f .height
   in-column = row-lt (f .width) (f .height) x (z .wide) on
 
-  pub north-off : row f x ≡ 0 → false ≡ northFree f x
-  north-off e = side-off (ltb 0 (row f x)) (free f (x - f .width)) (le-ltb 0 (row f x) (omega (arith, e)))
-
-  pub west-off : column f x ≡ 0 → false ≡ westFree f x
-  west-off e = side-off (ltb 0 (column f x)) (free f (x - 1)) (le-ltb 0 (column f x) (omega (arith, e)))
-
   pub east-off : f .width ≤ column f x + 1 → false ≡ eastFree f x
   east-off h = side-off (ltb (column f x + 1) (f .width)) (free f (x + 1)) (le-ltb (column f x + 1) (f .width) h)
 
@@ -140,6 +134,9 @@ module _ {f : Floor} {x : ℕ} {at : Spot} (z : Sized f) (P : Placed f x at) (m 
   south-is : at .south ≡ true → (row f x + 1 < f .height) × (free f (x + f .width) ≡ true)
   south-is e = let (t, h) = both (ltb (row f x + 1) (f .height)) (free f (x + f .width)) (sym (P .south) ∙ e) in (ltb-true (row f x + 1) (f .height) t, h)
 
+  as-free : (c d : ℕ) → c ≡ d → free f c ≡ true → free f d ≡ true
+  as-free c d q h = subst (λ k. free f k ≡ true) q h
+
   -- with the sides that it needs, a move stays on the floor
   sided-inside : Sided at m → Inside f x m
   sided-inside s = record {
@@ -181,9 +178,6 @@ module _ {f : Floor} {x : ℕ} {at : Spot} (z : Sized f) (P : Placed f x at) (m 
     allowed-in : Inside f x m
     allowed-in = allowed-inside f z x m e
 
-    as-free : (c d : ℕ) → c ≡ d → free f c ≡ true → free f d ≡ true
-    as-free c d q h = subst (λ k. free f k ≡ true) q h
-
     allowed-row : RowClear at m
     allowed-row =
         let i = allowed-in in
@@ -216,20 +210,17 @@ module _ {f : Floor} {x : ℕ} {at : Spot} (z : Sized f) (P : Placed f x at) (m 
     pub inside : Inside f x m
     inside = sided-inside s
 
-    one-of : (c d : ℕ) → c ≡ d → free f d ≡ true → free f c ≡ true
-    one-of c d e h = ap (free f) e ∙ h
-
     beside-free : free f (corner f x y) ≡ true
     beside-free =
         three (λ e. (e ≡ 0 → at .west ≡ true) → (e ≡ 2 → at .east ≡ true) → (c : ℕ) → c + 1 ≡ x + e → free f c ≡ true)
-        (λ w e c q. one-of c (x - 1) (omega (arith, q)) (west-is (w refl) .1)) (λ w e c q. one-of c x (omega (arith, q)) (P .free))
-        (λ w e c q. one-of c (x + 1) (omega (arith, q)) (east-is (e refl) .1)) (east m) (east-le m l) (s .0 .0) (s .0 .1) (corner f x y) (beside-sum inside)
+        (λ w e c q. as-free (x - 1) c (omega (arith, q)) (west-is (w refl) .1)) (λ w e c q. as-free x c (omega (arith, q)) (P .free))
+        (λ w e c q. as-free (x + 1) c (omega (arith, q)) (east-is (e refl) .1)) (east m) (east-le m l) (s .0 .0) (s .0 .1) (corner f x y) (beside-sum inside)
 
     across-free : free f (corner f y x) ≡ true
     across-free =
         three (λ k. (k ≡ 0 → at .north ≡ true) → (k ≡ 2 → at .south ≡ true) → (c : ℕ) → c + f .width ≡ x + k * f .width → free f c ≡ true)
-        (λ n t c q. one-of c (x - f .width) (omega (arith, q)) (north-is (n refl) .1)) (λ n t c q. one-of c x (omega (arith, q)) (P .free))
-        (λ n t c q. one-of c (x + f .width) (omega (arith, q)) (south-is (t refl) .1)) (south m) (south-le m l) (s .1 .0) (s .1 .1) (corner f y x) (across-sum inside)
+        (λ n t c q. as-free (x - f .width) c (omega (arith, q)) (north-is (n refl) .1)) (λ n t c q. as-free x c (omega (arith, q)) (P .free))
+        (λ n t c q. as-free (x + f .width) c (omega (arith, q)) (south-is (t refl) .1)) (south m) (south-le m l) (s .1 .0) (s .1 .1) (corner f y x) (across-sum inside)
 
     module _ (d : ℕ) (e : d ≡ x + south m * f .width + east m - (f .width + 1)) where
       ahead-is : y ≡ d
@@ -244,8 +235,8 @@ module _ {f : Floor} {x : ℕ} {at : Spot} (z : Sized f) (P : Placed f x at) (m 
 
       ahead-free : (m % 2 ≡ 1 → getD (f .bytes) d 0 ≡ 0) → (m % 2 ≡ 1) ⊎ ((east m ≡ 1) ⊎ (south m ≡ 1)) → free f y ≡ true
       ahead-free h (inl odd) = ap (free f) ahead-is ∙ byte-tells f d (omega (arith, reached, z .cells)) ∙ eq-eqb _ 0 (h odd)
-      ahead-free h (inr (inl e)) = one-of y (corner f y x) (omega (arith, e, ahead-sum inside, across-sum inside)) across-free
-      ahead-free h (inr (inr k)) = one-of y (corner f x y) (omega (arith, ap (λ n. n * f .width) k, ahead-sum inside, beside-sum inside)) beside-free
+      ahead-free h (inr (inl e)) = as-free (corner f y x) y (omega (arith, e, ahead-sum inside, across-sum inside)) across-free
+      ahead-free h (inr (inr k)) = as-free (corner f x y) y (omega (arith, ap (λ n. n * f .width) k, ahead-sum inside, beside-sum inside)) beside-free
 
       -- with all that it needs free the move leads there, at its toll
       pub step-to : (v : ℕ) → v ≡ toll m → (m % 2 ≡ 1 → getD (f .bytes) d 0 ≡ 0) → To d v ≡ stepOf f x m
