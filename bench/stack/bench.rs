@@ -1,10 +1,11 @@
-// Bytes of stack that each public call needs on a 64 × 64 floor at depth 8, measured on a painted stack; the greatest over the cases named.
+// Bytes of stack that each public call needs on a 64 × 64 floor at depth 8, and the search for true distances, measured on a painted stack; the greatest over the cases named.
 use std::ffi::c_void;
 
 // The exports of crates/probe; a slice is its first entry and its length.
 extern "C" {
     fn probe_nothing() -> usize;
     fn probe_open(width: usize, height: usize, start: usize, goal: usize, q: usize, floor: *const u8, floor_len: usize, table: *const u32, table_len: usize) -> usize;
+    fn probe_distances(width: usize, height: usize, goal: usize, floor: *const u8, floor_len: usize, dist: *mut u32, dist_len: usize) -> usize;
     fn probe_decide(
         width: usize, height: usize, current: usize, learned: usize, length: usize, goal: usize, depth: usize, p: usize, q: usize, quota: usize,
         floor: *const u8, floor_len: usize, table: *mut u32, table_len: usize, path: *mut u16, path_len: usize, moves: *mut u8, moves_len: usize,
@@ -93,6 +94,12 @@ fn fill(map: &Map) -> usize {
 
 fn open(map: &Map) -> usize {
     need(|| assert!(unsafe { probe_open(SIDE, SIDE, 0, map.goal, Q, map.floor.as_ptr(), CELLS, map.table.as_ptr(), CELLS) } == 0))
+}
+
+// The search for true distances alone, its list lent.
+fn distances(map: &Map) -> usize {
+    let mut dist = vec![0; CELLS];
+    need(|| assert!(unsafe { probe_distances(SIDE, SIDE, map.goal, map.floor.as_ptr(), CELLS, dist.as_mut_ptr(), CELLS) } > 0))
 }
 
 // The first decision of a trial and, with a path of one cell behind it, a second one: the quota decides whether that goes forward or backs out.
@@ -194,8 +201,9 @@ fn main() {
         ("find_records", need(|| assert!(unsafe { probe_find(whole.as_ptr(), whole.len()) } == 6 * CELLS))),
         ("check_trailer", need(|| assert!(unsafe { probe_trailer(whole.as_ptr(), whole.len()) } == 0))),
         ("fill_opening", most(&fill)),
+        ("find_distances", most(&distances)),
         ("run_counts", either(&|map, quota| counted(map, SIDE, quota))),
     ] {
-        println!("{name:14}{bytes:8}");
+        println!("{name:15}{bytes:7}");
     }
 }

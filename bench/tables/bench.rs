@@ -1,8 +1,7 @@
-// Microseconds for opening a job, and for reading and writing a table of 4,096 records, the proved calls beside plain Rust in one run.
+// Microseconds for reading and writing a table of 4,096 records, the proved calls beside plain Rust in one run.
 use std::time::Instant;
 
 extern "C" {
-    fn probe_open(width: usize, height: usize, start: usize, goal: usize, q: usize, floor: *const u8, floor_len: usize, table: *const u32, table_len: usize) -> usize;
     fn probe_read(
         width: usize, height: usize, goal: usize, q: usize, floor: *const u8, floor_len: usize,
         file: *const u8, file_len: usize, table: *mut u32, table_len: usize,
@@ -116,16 +115,6 @@ fn micros(mut call: impl FnMut() -> usize) -> f64 {
 fn main() {
     let (goal, q) = (CELLS - 1, 16);
     let open = vec![0u8; CELLS];
-    let snake: Vec<u8> = (0..CELLS).map(|c| (c / SIDE % 2 == 1 && c % SIDE != if c / SIDE % 4 == 1 { SIDE - 1 } else { 0 }) as u8).collect();
-    for (name, floor) in [("open", &open), ("snake", &snake)] {
-        let goal = if name == "open" { goal } else { CELLS - SIDE - SIDE };
-        let goal = (0..=goal).rev().find(|&c| floor[c] == 0).unwrap();
-        let table: Vec<u32> = (0..CELLS).map(|x| opening(goal, q, x)).collect();
-        let answer = unsafe { probe_open(SIDE, SIDE, 0, goal, q, floor.as_ptr(), CELLS, table.as_ptr(), CELLS) };
-        assert!(answer == 0, "{name}: {answer}");
-        let took = micros(|| unsafe { probe_open(SIDE, SIDE, 0, goal, q, floor.as_ptr(), CELLS, table.as_ptr(), CELLS) });
-        println!("open a 64 x 64 {name:6} {took:9.1} us");
-    }
     let table: Vec<u32> = (0..CELLS).map(|x| opening(goal, q, x) + 1).collect();
     let (mut a, mut b) = (vec![0u8; 32768], vec![0u8; 32768]);
     let n = unsafe { probe_write(SIDE, SIDE, goal, q, open.as_ptr(), CELLS, table.as_ptr(), CELLS, a.as_mut_ptr(), a.len()) };

@@ -2,14 +2,16 @@
 -- Assumes nothing.
 use mathlib.Core.Path.{_≡_, refl, sym, ap, _∙_, subst}
 use mathlib.Core.Bool.{Bool, true, false}
-use Prim.Native.Nat.{ℕ, _≤_, _<_}
+use Prim.Native.Nat.{ℕ, zero, suc, _%_, _≤_, _<_}
 use native.Mathlib.Omega.{arith}
+use borrow.Author.Tests.{eq-eqb}
 use Rattle.model.specs.Basics.{choose}
 use Rattle.model.specs.Floor.{Floor, Sized, free, leastPrice, dearestPrice, price, ahead, allowed, heading, opposite}
 use Rattle.model.specs.Grounds.{price-low, price-high}
-use Rattle.model.proofs.Moves.{allowed-some, allowed-free, free-few, opposite-ahead, opposite-allowed, opposite-lt, price-move, heading-is}
+use Rattle.model.proofs.Meaning.{price-means}
+use Rattle.model.proofs.Moves.{toll, all8, price-toll, allowed-inside, allowed-some, allowed-free, free-few, opposite-ahead, opposite-allowed, opposite-lt, price-move, heading-is}
 use Rattle.floor.specs.declared.Step.the-variants.{To, Wall}
-use Rattle.floor.specs.Moves.{stepOf}
+use Rattle.floor.specs.Moves.{kinds, cost, canCost, stepOf}
 
 pub wall≢to : (d v : ℕ) → Wall ≡ To d v → ⊥
 wall≢to d v e = let z : _≡_ {A = ℕ} 0 1 = cc in omega arith
@@ -60,3 +62,40 @@ unfolding stepOf
 price-step f z x d h =
     let (m, l, t, a) = price-move f z x d h in
     (m, l, ap (λ k. choose k (To (ahead f x m) (price f x (ahead f x m))) Wall) t ∙ ap (λ k. To k (price f x k)) a)
+
+-- ---- the costs
+
+pub cost-high : (k : ℕ) → k < kinds → cost k ≤ dearestPrice
+cost-high zero h = omega arith
+cost-high (suc zero) h = omega arith
+cost-high (suc (suc k)) h = absurd (omega arith)
+
+pub cost-some : (k : ℕ) → k < kinds → 1 ≤ cost k
+cost-some zero h = omega arith
+cost-some (suc zero) h = omega arith
+cost-some (suc (suc k)) h = absurd (omega arith)
+
+toll-cost : (m : ℕ) → m < 8 → toll m ≡ cost (m % 2)
+toll-cost = all8 (λ m. toll m ≡ cost (m % 2)) refl refl refl refl refl refl refl refl
+
+-- each price is one of them
+pub price-cost : (f : Floor) → Sized f → (a b : ℕ) → 1 ≤ price f a b → (k : ℕ) × (k < kinds) × (price f a b ≡ cost k)
+price-cost f z a b h = let (m, l, t, e, p) = price-means f z a b h in (m % 2, omega arith, p ∙ toll-cost m l)
+
+-- and a move has none that it cannot have
+pub step-can : {f : Floor} → Sized f → (x m b k : ℕ) → m < 8 → k < kinds → stepOf f x m ≡ To b (cost k) → canCost m k ≡ true
+step-can {f} z x m b k l h e =
+    let u = stepped f z x m b (cost k) e in
+    let t : cost (m % 2) ≡ cost k = sym (toll-cost m l) ∙ sym (price-toll f z x m l (allowed-inside f z x m (u .allowed)) (allowed-some f z x m (u .allowed))) ∙ ap (price f x) (u .cell) ∙ u .price in
+    eq-eqb (m % 2) (k % 2) (by (m % 2) k (omega arith) h t)
+  where
+    by : (j k : ℕ) → j < 2 → k < kinds → cost j ≡ cost k → j ≡ k % 2
+    by zero zero i h t = refl
+    by zero (suc zero) i h t = absurd (omega arith)
+    by zero (suc (suc k)) i h t = absurd (omega arith)
+    by (suc zero) zero i h t = absurd (omega arith)
+    by (suc zero) (suc zero) i h t = refl
+    by (suc zero) (suc (suc k)) i h t = absurd (omega arith)
+    by (suc (suc j)) zero i h t = absurd (omega arith)
+    by (suc (suc j)) (suc zero) i h t = absurd (omega arith)
+    by (suc (suc j)) (suc (suc k)) i h t = absurd (omega arith)

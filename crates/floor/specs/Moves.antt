@@ -1,11 +1,12 @@
 -- One move as code finds it: the model's `allowed`, `ahead` and `price` as one answer.
 use mathlib.Core.Path.{_≡_}
 use mathlib.Core.Bool.{Bool, true, false, _&&_}
-use mathlib.Core.List.{List}
-use Prim.Native.Nat.{ℕ, _+_, _-_}
-use lib.Dec.{ltb}
+use mathlib.Core.List.{List, [], _∷_}
+use Prim.Native.Nat.{ℕ, _+_, _-_, _%_}
+use lib.Dec.{ltb, eqb}
+use lib.ListN.{length, getD}
 use Rattle.model.specs.Basics.{choose}
-use Rattle.model.specs.Floor.{Floor, column, row, free, price, east, south, ahead, allowed}
+use Rattle.model.specs.Floor.{Floor, column, row, free, straight, diagonal, price, east, south, ahead, allowed}
 use Rattle.floor.specs.declared.Spot.{Spot}
 use Rattle.floor.specs.declared.Step.{Step}
 use Rattle.floor.specs.declared.Step.the-variants.{To, Wall}
@@ -17,6 +18,20 @@ flat width height bytes = record { width = width; height = height; bytes = bytes
 -- the move m from x: the cell that it leads to and its cost, or nothing that may be moved into
 unfoldable pub stepOf : Floor → ℕ → ℕ → Step
 stepOf f x m = choose (allowed f x m) (To (ahead f x m) (price f x (ahead f x m))) Wall
+
+-- what a move can cost, as one short list; how many costs that are, and the k-th of them
+abbrev pub costs : List ℕ
+costs = straight ∷ diagonal ∷ []
+
+abbrev pub kinds : ℕ
+kinds = length costs
+
+abbrev pub cost : ℕ → ℕ
+cost k = getD costs k 0
+
+-- whether the move m can have the k-th cost: straight moves have even numbers, and so have their costs
+abbrev pub canCost : ℕ → ℕ → Bool
+canCost m k = eqb (m % 2) (k % 2)
 
 -- whether the straight cell on each side of x is on the floor and free
 abbrev pub northFree : Floor → ℕ → Bool

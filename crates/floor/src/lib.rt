@@ -6,10 +6,10 @@ ghost use Prim.Native.Nat.{ℕ, _<_, _≤_, _*_, _%_, min};
 ghost use lib.ListN.{length, getD};
 ghost use Rattle.model.specs.Basics.{member};
 ghost use Rattle.model.specs.Checks.{finest};
-ghost use Rattle.model.specs.Floor.{Sized, free, apart, goalsOf};
+ghost use Rattle.model.specs.Floor.{Sized, free, apart, dearestPrice, goalsOf};
 ghost use Rattle.model.specs.Floor as model;
 ghost use Rattle.model.proofs.Moves.{toll};
-ghost use Rattle.floor.specs.Moves.{flat, northFree, westFree, eastFree, southFree, Placed, RowClear, ColumnClear, Unless, stepOf};
+ghost use Rattle.floor.specs.Moves.{flat, kinds, cost, canCost, northFree, westFree, eastFree, southFree, Placed, RowClear, ColumnClear, Unless, stepOf};
 
 // What a move leads to: the cell moved into and what the move costs, or nothing that may be moved into.
 pub enum Step {
@@ -34,7 +34,12 @@ pub const LEAST_PRICE: u16 = STRAIGHT;
 
 pub const DEAREST_PRICE: u16 = DIAGONAL;
 
-// The first two in more bits, for figures.
+// What a move can cost, as one short list, and how many costs that are.
+const COSTS: [u16; KINDS] = [STRAIGHT, DIAGONAL];
+
+pub const KINDS: usize = 2;
+
+// The first two prices in more bits, for figures.
 const STRAIGHTS: usize = STRAIGHT as usize;
 
 const DIAGONALS: usize = DIAGONAL as usize;
@@ -95,6 +100,21 @@ fn toll(m: usize) -> u16
     ensures { λ r. ⌜ r ≡ toll m ⌝ }
 {
     if m % 2 == 0 { STRAIGHT } else { DIAGONAL }
+}
+
+// The k-th of the costs that a move can have.
+pub fn cost_at(k: usize) -> u16
+    requires { ⌜ k < kinds ⌝ }
+    ensures { λ r. ⌜ (r ≡ cost k) × (r ≤ dearestPrice) ⌝ }
+{
+    COSTS[k]
+}
+
+// Whether the move m can have the k-th cost: straight moves have even numbers, and so have their costs.
+pub fn can_cost(m: usize, k: usize) -> bool
+    ensures { λ r. ⌜ r ≡ canCost m k ⌝ }
+{
+    m % 2 == k % 2
 }
 
 // Whether the cell to the north of a cell of this row is on the floor and free; and so to the west, the east and the south.

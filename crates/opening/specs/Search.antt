@@ -1,65 +1,92 @@
--- The search for true distances: a step lowers one cell to what one move gives, and the search ends when no move gives less.
--- Neither the order of the cells nor the number of sweeps is promised.
-use Prim.Native.Nat.{ℕ, _+_, _-_, _≤_, _<_, min}
+-- The search for true distances, in rising order: a cell gets its distance once, when it is first reached.
+-- What it keeps is said of functions: d the distance of a cell, q the cell at a place of the queue, p the place of a cost. Chain says how one list holds them.
+use Prim.Native.Nat.{ℕ, _+_, _-_, _*_, _≤_, _<_}
 use mathlib.Core.Path.{_≡_}
-use mathlib.Core.Bool.{Bool, true, false}
-use mathlib.Core.List.{List, [], _∷_}
-use lib.ListN.{length, getD, set}
-use Rattle.model.specs.Floor.{Floor, size, price}
-use Rattle.floor.specs.declared.Step.{Step}
-use Rattle.floor.specs.declared.Step.the-variants.{To, Wall}
-use Rattle.opening.specs.Distances.{far}
+use mathlib.Core.List.{List}
+use lib.Dec.{T, ltb}
+use Rattle.learning.specs.Path.{total}
+use Rattle.learning.specs.Walk.{Arrives}
+use Rattle.learning.specs.Ground.{Goal, netOf, pick}
+use Rattle.model.specs.Floor.{Floor, size, dearestPrice, price}
+use Rattle.model.specs.Grounds.{groundOf, isGoal}
+use Rattle.floor.specs.Moves.{kinds, cost, stepOf}
+use Rattle.floor.specs.declared.Step.the-variants.{To}
 
--- what a move gives, where it is less than the best found so far; and that a move leads to a place of the list
-abbrev pub throughStep : Step → List ℕ → ℕ → ℕ
-throughStep (To b c) d best = min (c + getD d b 0) best
-throughStep Wall d best = best
+-- what stands for a distance before a cell has one: more than any distance
+abbrev pub none : ℕ
+none = 524287
 
-abbrev pub Leading : Step → List ℕ → Type 0
-Leading (To b c) d = (b < length d) × (c + getD d b 0 < 4294967296)
-Leading Wall d = Unit {0}
+-- how many of the cells have no distance
+abbrev pub unset : Floor → (ℕ → ℕ) → ℕ
+unset f d = total (size f) (λ x. pick (ltb (d x) none) 0 1)
 
--- a list with a place for each cell, and no number above `far`
-pub record Spread (f : Floor) (d : List ℕ) : Type 0 where
-  pub long : length d ≡ size f
-  pub high : (x : ℕ) → getD d x 0 ≤ far
+-- the queue: its first n places hold the cells that have a distance, in rising order and none above v
+pub record Queue (f : Floor) (d q : ℕ → ℕ) (n v : ℕ) : Type 0 where
+  -- as many cells have no distance as are not in the queue: so each is in it once, and there is room for the others
+  pub left : n + unset f d ≡ size f
+  -- what stands in it is a cell
+  pub on : (i : ℕ) → i < n → q i < size f
+  -- its distance is at most the dearest move for each place before it, so less than `none`
+  pub near : (i : ℕ) → i < n → d (q i) ≤ dearestPrice * i
+  -- the nearer first
+  pub sorted : (j : ℕ) → j < n → (i : ℕ) → i ≤ j → d (q i) ≤ d (q j)
+  -- none above v, which is the last distance given
+  pub high : (i : ℕ) → i < n → d (q i) ≤ v
+  -- a cell that has a distance stands in it
+  pub found : (x : ℕ) → x < size f → d x < none → (i : ℕ) × (i < n) × (q i ≡ x)
+  -- no cell has more than `none`
+  pub most : (x : ℕ) → x < size f → d x ≤ none
 
--- r is the least of the number at x and what the moves from x give
-pub record Best (f : Floor) (d : List ℕ) (x r : ℕ) : Type 0 where
-  pub low : r ≤ getD d x 0
-  pub closed : (b : ℕ) → 1 ≤ price f x b → r ≤ price f x b + getD d b 0
-  pub met : r < getD d x 0 → (b : ℕ) × (1 ≤ price f x b) × (r ≡ price f x b + getD d b 0)
+-- each distance is that of a walk
+pub record Going (f : Floor) (goals : List ℕ) (d : ℕ → ℕ) : Type 0 where
+  -- a goal has 0
+  pub zeros : (z : ℕ) → T (isGoal f goals z) → d z ≤ 0
+  -- a distance is the cost of a walk to a goal
+  pub met : (x : ℕ) → x < size f → d x < none → Arrives (netOf (groundOf f goals)) (Goal (groundOf f goals)) x (d x)
 
--- no move from x gives less than the number at x
-abbrev pub Quiet : Floor → List ℕ → ℕ → Type 0
-Quiet f d x = (b : ℕ) → 1 ≤ price f x b → getD d x 0 ≤ price f x b + getD d b 0
+-- the places: up to p k the moves of the k-th cost have been followed
+pub record Places (f : Floor) (d q : ℕ → ℕ) (n v : ℕ) (p : ℕ → ℕ) : Type 0 where
+  -- none is beyond the queue's end
+  pub upto : (k : ℕ) → k < kinds → p k ≤ n
+  -- where a move was followed, it leads to no more than its cost adds
+  pub done : (k : ℕ) → k < kinds → (i : ℕ) → i < p k → (b : ℕ) → price f (q i) b ≡ cost k → d b ≤ d (q i) + cost k
+  -- what the next moves of a cost reach is no nearer than v
+  pub ahead : (k : ℕ) → k < kinds → p k < n → v ≤ d (q (p k)) + cost k
 
--- one list comes from the other by steps, each of which lowers a cell to what a move gives
-pub data Lowered (f : Floor) (d : List ℕ) : List ℕ → Type 0 where
-  none : Lowered f d d
-  more : {e : List ℕ} → Lowered f d e → (x b : ℕ) → x < size f → 1 ≤ price f x b → price f x b + getD e b 0 < getD e x 0
-      → Lowered f d (set e x (price f x b + getD e b 0))
+-- what the search keeps; v is the last distance given
+pub record Searching (f : Floor) (goals : List ℕ) (d q : ℕ → ℕ) (n : ℕ) (p : ℕ → ℕ) : Type 0 where
+  pub v : ℕ
+  pub queue : Queue f d q n v
+  pub going : Going f goals d
+  pub places : Places f d q n v p
 
-unfoldable pub total : List ℕ → ℕ
-total [] = 0
-total (x ∷ xs) = x + total xs
+-- what the moves of cost c reach from the place i of the queue, and `none` from its end
+abbrev pub offer : (d q : ℕ → ℕ) → (n i c : ℕ) → ℕ
+offer d q n i c = pick (ltb i n) (d (q i) + c) none
 
--- what the visit of the cell x came to: something was lowered, or nothing changed and x is quiet
-abbrev pub Relaxed : Floor → ℕ → Bool → (d e : List ℕ) → Type 0
-Relaxed f x true d e = Lowered f d e × (total e < total d)
-Relaxed f x false d e = (e ≡ d) × Quiet f d x
+-- the step to take: the k-th cost, whose place is before the queue's end and gives v, the least
+pub record Next (d q : ℕ → ℕ) (n : ℕ) (p : ℕ → ℕ) (k v : ℕ) : Type 0 where
+  pub one : k < kinds
+  pub before : p k < n
+  pub is : v ≡ d (q (p k)) + cost k
+  pub low : (j : ℕ) → j < kinds → p j < n → v ≤ d (q (p j)) + cost j
 
--- the k-th of n cells in rising or in falling order
-abbrev pub inOrder : ℕ → Bool → ℕ → ℕ
-inOrder n true k = n - 1 - k
-inOrder n false k = k
+-- what following moves of cost c from the cell x adds: new cells at the queue's end, each at distance v, and nothing else
+pub record Grown (f : Floor) (x c v : ℕ) (d q : ℕ → ℕ) (n : ℕ) (d′ q′ : ℕ → ℕ) (n′ : ℕ) : Type 0 where
+  pub more : n ≤ n′
+  -- the queue and the distances that were there stay
+  pub same : (i : ℕ) → i < n → q′ i ≡ q i
+  pub kept : (y : ℕ) → d y < none → d′ y ≡ d y
+  pub lower : (y : ℕ) → d′ y ≤ d y
+  -- a new cell has the distance v, and a move of cost c joins it to x
+  pub new : (i : ℕ) → i < n′ → n ≤ i → (d′ (q′ i) ≡ v) × (price f x (q′ i) ≡ c)
 
--- what the visits of the first k cells came to
-abbrev pub Swept : Floor → (down changed : Bool) → ℕ → (d e : List ℕ) → Type 0
-Swept f down true k d e = Lowered f d e × (total e < total d)
-Swept f down false k d e = (e ≡ d) × ((j : ℕ) → j < k → Quiet f d (inOrder (size f) down j))
+-- the first m moves from x have been followed: what a move of cost c leads to has a distance, at most v
+pub record Followed (f : Floor) (x c v m : ℕ) (d q : ℕ → ℕ) (n : ℕ) (d′ q′ : ℕ → ℕ) (n′ : ℕ) : Type 0 where
+  pub queue : Queue f d′ q′ n′ v
+  pub grown : Grown f x c v d q n d′ q′ n′
+  pub closed : (k : ℕ) → k < m → (b : ℕ) → stepOf f x k ≡ To b c → d′ b ≤ v
 
--- nothing is left to lower
-pub record Settled (f : Floor) (d e : List ℕ) : Type 0 where
-  pub lowered : Lowered f d e
-  pub quiet : (x : ℕ) → x < size f → Quiet f e x
+-- how far the places can still go, together: each passes each cell once
+abbrev pub toGo : Floor → (ℕ → ℕ) → ℕ
+toGo f p = total kinds (λ k. size f - p k)

@@ -1,130 +1,245 @@
-// The search for true distances: cells are relaxed in sweeps, until a sweep lowers nothing.
+// The search for true distances, in rising order: a cell gets its distance once, when it is first reached. The cells that have theirs form one queue,
+// the nearest first; for each cost that a move can have, a place in the queue says up to where the moves of that cost have been followed.
+// One list holds all of it: the entry of a cell is its distance × 8,192 + the next cell of the queue.
 ghost use mathlib.Core.Path.{_≡_};
-ghost use mathlib.Core.Bool.{true, _||_};
-ghost use Prim.Native.Nat.{_*_, _<_};
-ghost use lib.ListN.{length};
+ghost use Prim.Native.Nat.{ℕ, _+_, _*_, _≤_, _<_};
+ghost use lib.ListN.{length, getD, set};
 ghost use Rattle.learning.specs.Ground.{listOf};
-ghost use Rattle.model.specs.Floor.{Sized, free, goalsOf};
-ghost use Rattle.floor.specs.Moves.{flat};
-ghost use Rattle.opening.specs.Distances.{far, Distances};
-ghost use Rattle.opening.specs.Search.{throughStep, Leading, Spread, Best, Relaxed, inOrder, Swept, Settled};
+ghost use Rattle.learning.proofs.Certificate.{Certified};
+ghost use Rattle.model.specs.Floor.{Sized, goalsOf};
+ghost use Rattle.model.specs.Grounds.{groundOf};
+ghost use Rattle.floor.specs.Moves.{flat, kinds, cost, Placed, stepOf};
+ghost use Rattle.opening.specs.Distances.{Distances};
+ghost use Rattle.opening.specs.Search.{none};
+ghost use Rattle.opening.specs.Chain.{links, end, entry, distAt, nextAt, blank, entered, Entered, Enterable, Follows, Readable, offerOf, Least, caught, movedOn, plain};
 use floor::CEILING;
+use floor::KINDS;
+use floor::Spot;
 use floor::Step;
 
 // What stands for a distance where no walk to the goal exists: the ceiling, which is more than any distance.
 pub const FAR: u32 = CEILING as u32;
 
-// A cost in more bits.
-fn widen(cost: u16) -> u32
-    ensures { λ r. ⌜ (r ≡ cost) × (r < 65536) ⌝ }
+// How many links an entry can tell apart; the link of the queue's last cell, which is no cell; what stands for a distance before a cell has one.
+const LINKS: u32 = 8192;
+
+const END: usize = 8191;
+
+const NONE: u32 = 524287;
+
+// An entry: a distance, and the next cell of the queue.
+fn entry(v: u32, next: usize) -> u32
+    requires { ⌜ (v ≤ none) × (next < links) ⌝ }
+    ensures { λ r. ⌜ r ≡ entry v next ⌝ }
 {
-    cost as u32
+    v * LINKS + next as u32
 }
 
-// The lesser of the best found so far and what a move gives: its cost and the distance from where it leads.
-fn through(step: Step, dist: &[u32], best: u32) -> u32
-    requires { ⌜ Leading step (now dist) ⌝ }
-    ensures { λ r. ⌜ r ≡ throughStep step (now (dist .entry)) best ⌝ }
+// The distance of the cell x.
+fn dist_at(list: &[u32], x: usize) -> u32
+    requires { ⌜ x < length (now list) ⌝ }
+    ensures { λ r. ⌜ (r ≡ distAt (now (list .entry)) x) × (r ≤ none) ⌝ }
 {
-    match step {
-        Step::Wall => best,
-        Step::To { cell, cost } => {
-            let d = widen(cost) + dist[cell];
-            if d < best {
-                return d;
-            }
-            best
-        }
+    list[x] / LINKS
+}
+
+// The cell after x in the queue.
+fn next_at(list: &[u32], x: usize) -> usize
+    requires { ⌜ x < length (now list) ⌝ }
+    ensures { λ r. ⌜ r ≡ nextAt (now (list .entry)) x ⌝ }
+{
+    notation::wide32(list[x] % LINKS)
+}
+
+// A cell gets the distance v and goes to the queue's end.
+fn enter(list: &mut [u32], last: usize, cell: usize, v: u32)
+    requires { ⌜ (last < length (now list)) × (cell < length (now list)) × (cell < 4096) × (v < none) ⌝ }
+    ensures { λ r. ⌜ now (list .exit) ≡ entered (now (list .entry)) last cell v ⌝ }
+{
+    list[last] = entry(dist_at(&list[..], last), cell);
+    list[cell] = entry(v, END);
+}
+
+// The cell that a step of this cost leads to gets the distance v, if it has none: the queue's last.
+fn reach(step: Step, cost: u16, v: u32, list: &mut [u32], last: usize) -> usize
+    requires { ⌜ Enterable step v (now list) last ⌝ }
+    ensures { λ r. ⌜ Entered step cost v (now (list .entry)) last (now (list .exit)) r ⌝ }
+{
+    let Step::To { cell, cost: c } = step else {
+        return last;
+    };
+    if c != cost {
+        return last;
     }
+    if dist_at(&list[..], cell) < NONE {
+        return last;
+    }
+    enter(list, last, cell, v);
+    cell
 }
 
-// The least of a free cell's own distance and what its moves give.
-fn best_from(width: usize, height: usize, floor: &[u8], dist: &[u32], cell: usize) -> u32
-    requires { ⌜ Sized (flat width height (now floor)) × Spread (flat width height (now floor)) (now dist) × (free (flat width height (now floor)) cell ≡ true) ⌝ }
-    ensures { λ r. ⌜ Best (flat width height (now (floor .entry))) (now (dist .entry)) cell r ⌝ }
+// The move m from a cell, if it has the k-th cost.
+fn pass(
+    width: usize,
+    height: usize,
+    floor: &[u8],
+    cell: usize,
+    spot: Spot,
+    m: usize,
+    k: usize,
+    v: u32,
+    list: &mut [u32],
+    last: usize,
+) -> usize
+    requires { ⌜ Sized (flat width height (now floor)) × Placed (flat width height (now floor)) cell spot × (m < 8) × (k < kinds) ⌝
+        ∗ ⌜ (length (now list) ≡ width * height) × (last < width * height) × (v < none) ⌝ }
+    ensures { λ r. ⌜ Entered (stepOf (flat width height (now (floor .entry))) cell m) (cost k) v (now (list .entry)) last (now (list .exit)) r ⌝ }
 {
+    if !floor::can_cost(m, k) {
+        return last;
+    }
+    let step = floor::step_from(width, height, floor, cell, spot, m);
+    reach(step, floor::cost_at(k), v, list, last)
+}
+
+// Follows the moves of the k-th cost from a cell: what they reach first has the distance v. The queue's last. (A goal may be blocked, and then no move leads from it.)
+fn follow(
+    width: usize,
+    height: usize,
+    floor: &[u8],
+    cell: usize,
+    k: usize,
+    v: u32,
+    list: &mut [u32],
+    last: usize,
+) -> usize
+    requires { ⌜ Sized (flat width height (now floor)) × (cell < width * height) × (k < kinds) ⌝
+        ∗ ⌜ (length (now list) ≡ width * height) × (last < width * height) × (v < none) ⌝ }
+    ensures { λ r. ⌜ Follows (flat width height (now (floor .entry))) cell (cost k) v 8 (now (list .entry)) last (now (list .exit)) r ⌝ }
+{
+    if !floor::is_free(width, height, floor, cell) {
+        return last;
+    }
     let spot = floor::spot_of(width, height, floor, cell);
-    let mut best = dist[cell];
+    let mut end = last;
     let mut m = 0;
     while m < 8 {
-        let step = floor::step_from(width, height, floor, cell, spot, m);
-        best = through(step, dist, best);
+        end = pass(width, height, floor, cell, spot, m, k, v, list, end);
         m += 1;
+    }
+    end
+}
+
+// What the moves of the k-th cost reach from a place: the distance there and the cost. NONE at the queue's end.
+fn offer(list: &[u32], place: usize, k: usize) -> u32
+    requires { ⌜ Readable (now list) place × (k < kinds) ⌝ }
+    ensures { λ r. ⌜ r ≡ offerOf (now (list .entry)) place (cost k) ⌝ }
+{
+    if place == END {
+        return NONE;
+    }
+    dist_at(list, place) + floor::cost_at(k) as u32
+}
+
+// Which of two costs has the lesser offer.
+fn lesser(list: &[u32], places: &[usize], a: usize, b: usize) -> usize
+    requires { ⌜ length (now places) ≡ kinds ⌝ ∗ ⌜ ((k : ℕ) → k < kinds → Readable (now list) (getD (now places) k 0)) ⌝ ∗ ⌜ (b < kinds) × Least (now list) (now places) b a ⌝ }
+    ensures { λ r. ⌜ Least (now (list .entry)) (now (places .entry)) (b + 1) r ⌝ }
+{
+    let ours = offer(list, places[a], a);
+    let theirs = offer(list, places[b], b);
+    if theirs < ours { b } else { a }
+}
+
+// The cost of the least offer.
+fn least(list: &[u32], places: &[usize]) -> usize
+    requires { ⌜ length (now places) ≡ kinds ⌝ ∗ ⌜ ((k : ℕ) → k < kinds → Readable (now list) (getD (now places) k 0)) ⌝ }
+    ensures { λ r. ⌜ Least (now (list .entry)) (now (places .entry)) kinds r ⌝ }
+{
+    let mut best = 0;
+    let mut k = 1;
+    while k < KINDS {
+        best = lesser(list, places, best, k);
+        k += 1;
     }
     best
 }
 
-// Lowers the distance of a cell to what its moves give: whether that was less.
-fn relax(width: usize, height: usize, floor: &[u8], dist: &mut [u32], cell: usize) -> bool
-    requires { ⌜ Sized (flat width height (now floor)) × Spread (flat width height (now floor)) (now dist) × (cell < width * height) ⌝ }
-    ensures { λ r. ⌜ Relaxed (flat width height (now (floor .entry))) cell r (now (dist .entry)) (now (dist .exit)) ⌝ }
+// A place that stood at the queue's end stands at the cell that came next.
+fn caught(place: usize, next: usize) -> usize
+    ensures { λ r. ⌜ r ≡ caught next place ⌝ }
 {
-    if !floor::is_free(width, height, floor, cell) {
-        return false;
-    }
-    let best = best_from(width, height, floor, &dist[..], cell);
-    if best < dist[cell] {
-        dist[cell] = best;
-        return true;
-    }
-    false
+    if place == END { next } else { place }
 }
 
-// The k-th of n cells in rising or in falling order.
-fn in_order(n: usize, down: bool, k: usize) -> usize
-    requires { ⌜ k < n ⌝ }
-    ensures { λ r. ⌜ (r ≡ inOrder n down k) × (r < n) ⌝ }
+// And so each of the places.
+fn catch_up(places: &mut [usize], next: usize)
+    ensures { λ r. ⌜ now (places .exit) ≡ listOf (length (now (places .entry))) (λ k. caught next (getD (now (places .entry)) k 0)) ⌝ }
 {
-    if down {
-        return n - 1 - k;
-    }
-    k
-}
-
-// Whether one of two is true.
-fn either(a: bool, b: bool) -> bool
-    ensures { λ r. ⌜ r ≡ (a || b) ⌝ }
-{
-    if a { true } else { b }
-}
-
-// Relaxes every cell once: whether a distance was lowered.
-fn sweep(width: usize, height: usize, floor: &[u8], dist: &mut [u32], down: bool) -> bool
-    requires { ⌜ Sized (flat width height (now floor)) × Spread (flat width height (now floor)) (now dist) ⌝ }
-    ensures { λ r. ⌜ Swept (flat width height (now (floor .entry))) down r (width * height) (now (dist .entry)) (now (dist .exit)) ⌝ }
-{
-    let n = width * height;
-    let mut changed = false;
     let mut k = 0;
-    while k < n {
-        let cell = in_order(n, down, k);
-        let lowered = relax(width, height, floor, dist, cell);
-        changed = either(changed, lowered);
+    while k < places.len() {
+        places[k] = caught(places[k], next);
         k += 1;
     }
-    changed
 }
 
-// Sweeps in rising and in falling order by turns, until one lowers nothing.
-fn settle(width: usize, height: usize, floor: &[u8], dist: &mut [u32])
-    requires { ⌜ Sized (flat width height (now floor)) × Spread (flat width height (now floor)) (now dist) ⌝ }
-    ensures { λ r. ⌜ Settled (flat width height (now (floor .entry))) (now (dist .entry)) (now (dist .exit)) ⌝ }
+// The places after the k-th cost was followed from its cell: it moves on, and those that stood at the queue's end, behind the last, catch up.
+fn move_on(list: &[u32], places: &mut [usize], k: usize, cell: usize, last: usize)
+    requires { ⌜ (k < length (now places)) × (cell < length (now list)) × (last < length (now list)) ⌝ }
+    ensures { λ r. ⌜ now (places .exit) ≡ movedOn (now (list .entry)) (now (places .entry)) k cell last ⌝ }
 {
-    let mut again = true;
-    let mut down = false;
-    while again {
-        again = sweep(width, height, floor, dist, down);
-        down = !down;
+    catch_up(places, next_at(list, last));
+    places[k] = next_at(list, cell);
+}
+
+// From the goal to every cell that can be reached: the least offer is followed, and its place moves on, until every place is at the queue's end.
+fn spread(width: usize, height: usize, floor: &[u8], goal: usize, list: &mut [u32])
+    requires { ⌜ Sized (flat width height (now floor)) × (goal < width * height) × (now list ≡ listOf (width * height) (λ x. blank)) ⌝ }
+    ensures { λ r. ⌜ Certified (groundOf (flat width height (now (floor .entry))) (goalsOf goal)) none (distAt (now (list .exit))) ⌝ }
+{
+    list[goal] = entry(0, END);
+    let mut places = [goal; KINDS];
+    let mut last = goal;
+    let mut left = KINDS * (width * height);
+    while 0 < left {
+        let k = least(&list[..], &places);
+        let cell = places[k];
+        if cell == END {
+            return;
+        }
+        let v = offer(&list[..], cell, k);
+        let end = follow(width, height, floor, cell, k, v, list, last);
+        move_on(&list[..], &mut places, k, cell, last);
+        last = end;
+        left -= 1;
     }
 }
 
-// Every place holds FAR.
-fn fill_far(dist: &mut [u32])
-    ensures { λ r. ⌜ now (dist .exit) ≡ listOf (length (now (dist .entry))) (λ x. far) ⌝ }
+// No cell has a distance.
+fn clear(list: &mut [u32])
+    ensures { λ r. ⌜ now (list .exit) ≡ listOf (length (now (list .entry))) (λ x. blank) ⌝ }
 {
     let mut i = 0;
-    while i < dist.len() {
-        dist[i] = FAR;
+    while i < list.len() {
+        list[i] = entry(NONE, END);
+        i += 1;
+    }
+}
+
+// A distance, and FAR where there is none.
+fn plain(d: u32) -> u32
+    ensures { λ r. ⌜ r ≡ plain d ⌝ }
+{
+    if d < NONE { d } else { FAR }
+}
+
+// Every entry becomes its distance.
+fn unpack(list: &mut [u32])
+    ensures { λ r. ⌜ now (list .exit) ≡ listOf (length (now (list .entry))) (λ x. plain (distAt (now (list .entry)) x)) ⌝ }
+{
+    let mut i = 0;
+    while i < list.len() {
+        list[i] = plain(dist_at(&list[..], i));
         i += 1;
     }
 }
@@ -134,7 +249,7 @@ pub fn find_distances(width: usize, height: usize, floor: &[u8], goal: usize, di
     requires { ⌜ Sized (flat width height (now floor)) × (length (now dist) ≡ width * height) × (goal < width * height) ⌝ }
     ensures { λ r. ⌜ Distances (flat width height (now (floor .entry))) (goalsOf goal) (now (dist .exit)) ⌝ }
 {
-    fill_far(dist);
-    dist[goal] = 0;
-    settle(width, height, floor, dist);
+    clear(dist);
+    spread(width, height, floor, goal, dist);
+    unpack(dist);
 }

@@ -12,7 +12,7 @@ use Rattle.answers.specs.declared.Verdict.the-variants as Vd
 use Rattle.answers.specs.declared.Report.{Report}
 use Rattle.answers.specs.declared.Tried.the-variants as Td
 use Rattle.answers.specs.declared.Ran.the-variants as Rn
-use Rattle.model.specs.Opening.{openJob, openRun, openTable, filled}
+use Rattle.model.specs.Opening.{distances, openJob, openRun, openTable, filled}
 use Rattle.model.specs.Ride.{trial, run}
 use Rattle.model.specs.Compute.{compute}
 use Rattle.worked.proofs.Hall.{hall, job, openingOf, figures, fresh, no, shut, boxed, blank}
@@ -37,6 +37,13 @@ runs depth path trials records = openRun (job depth 1 1 0) hall 6 figures (repli
 
 abbrev goalAt : ℕ → Job
 goalAt goal = record { width = 3; height = 3; goal = goal; depth = 1; p = 1; q = 1; quota = 1000 }
+
+-- opening a job on four cells, two by two, from start to the cell 0, with the last cell's figure; and the true distances there
+abbrev square : Job
+square = record { width = 2; height = 2; goal = 0; depth = 1; p = 1; q = 1; quota = 0 }
+
+abbrev across : List ℕ → (start figure : ℕ) → Verdict
+across bytes start figure = openJob square bytes start (0 ∷ 10 ∷ 10 ∷ figure ∷ [])
 
 -- a refused trial and a refused run leave their lists as lent
 abbrev TrialRefused : Job → List ℕ → (start : ℕ) → (table path : List ℕ) → (number : ℕ) → Place → Type 0
@@ -90,6 +97,16 @@ pub record PinsOpening : Type 0 where
   pub seven-met : openJob (job 1 1 2 0) hall 6 (set (openingOf (job 1 1 2 0) hall) 7 100) ≡ Vd.Done
   -- 6: no walk from the start, here since each diagonal from it passes two blocked cells
   pub shut-in : openJob (goalAt 0) boxed 4 figures ≡ no 6 P.Nowhere
+  -- a true distance is 14 by a diagonal, and 20 by two straights where a cell beside the diagonal is blocked; with both blocked there is none (57 stands for that)
+  pub by-diagonal : distances square (0 ∷ 0 ∷ 0 ∷ 0 ∷ []) ≡ 0 ∷ 10 ∷ 10 ∷ 14 ∷ []
+  pub by-straights : distances square (0 ∷ 1 ∷ 0 ∷ 0 ∷ []) ≡ 0 ∷ 57 ∷ 10 ∷ 20 ∷ []
+  pub by-none : distances square (0 ∷ 1 ∷ 1 ∷ 0 ∷ []) ≡ 0 ∷ 57 ∷ 57 ∷ 57 ∷ []
+  pub diagonal-met : across (0 ∷ 0 ∷ 0 ∷ 0 ∷ []) 3 14 ≡ Vd.Done
+  pub diagonal-above : across (0 ∷ 0 ∷ 0 ∷ 0 ∷ []) 3 15 ≡ no 7 (P.Cell 3)
+  pub straights-met : across (0 ∷ 1 ∷ 0 ∷ 0 ∷ []) 3 20 ≡ Vd.Done
+  pub straights-above : across (0 ∷ 1 ∷ 0 ∷ 0 ∷ []) 3 21 ≡ no 7 (P.Cell 3)
+  pub none-from : across (0 ∷ 1 ∷ 1 ∷ 0 ∷ []) 3 14 ≡ no 6 P.Nowhere
+  pub none-beside : across (0 ∷ 1 ∷ 1 ∷ 0 ∷ []) 0 917280 ≡ Vd.Done
   -- cells that cannot reach it, and blocked ones, may stand as high as the ceiling
   pub unreaching : openJob (goalAt 0) shut 1 (set (set figures 3 917280) 6 917280) ≡ Vd.Done
   -- a trial also judges its path list, after 1 and before 3
@@ -164,6 +181,15 @@ pinsOpening = record {
   seven-scaled = refl;
   seven-met = refl;
   shut-in = refl;
+  by-diagonal = refl;
+  by-straights = refl;
+  by-none = refl;
+  diagonal-met = refl;
+  diagonal-above = refl;
+  straights-met = refl;
+  straights-above = refl;
+  none-from = refl;
+  none-beside = refl;
   unreaching = refl;
   trial-1-2 = refl;
   trial-2-3 = refl;

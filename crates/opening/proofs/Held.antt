@@ -1,0 +1,169 @@
+-- What the search keeps in its list and its places: the start, the least offer, a step, and the end, where the distances are true.
+-- Assumes nothing.
+use Prim.Native.Nat.{ℕ, _+_, _-_, _*_, _/_, _≤_, _<_}
+use mathlib.Core.Path.{_≡_, refl, sym, ap, _∙_, subst}
+use mathlib.Core.Bool.{Bool, true, false}
+use mathlib.Core.List.{List}
+use native.Mathlib.Decide.{ℕ-discrete}
+use native.Mathlib.Omega.{arith}
+use borrow.Author.Tests.{lt-ltb, le-ltb, eq-eqb, ne-eqb}
+use lib.Dec.{T}
+use lib.ListN.{length, getD, set, length-set, replicate, getD-replicate}
+use lib.Seq.{getD-set-same, getD-set-other}
+use Rattle.learning.specs.Ground.{pick, listOf, reachOf, distOf}
+use Rattle.learning.proofs.Ground.{reach-true}
+use Rattle.learning.proofs.Certificate.{Certified, certificate, dist-high}
+use Rattle.learning.proofs.Spread.{list-at, list-length}
+use Rattle.learning.proofs.Sums.{total-each, total-part}
+use Rattle.model.specs.Floor.{Floor, size, Sized, dearestPrice, goalsOf}
+use Rattle.model.specs.Grounds.{groundOf}
+use Rattle.floor.specs.Moves.{kinds, cost}
+use Rattle.opening.specs.Distances.{far, Distances}
+use Rattle.opening.specs.Search.{none, Followed, offer, Next}
+use Rattle.opening.specs.Chain.{links, end, entry, distAt, nextAt, blank, cellAt, Chain, Follows, Readable, offerOf, Least, caught, movedOn, Held, plain}
+use Rattle.opening.proofs.Queue.{Put, put-at, none-large, queue-few}
+use Rattle.opening.proofs.Rising.{searching-start, step-queue, step-slow, searching-step, all-followed, step-falls, none-left, next}
+use Rattle.opening.proofs.Chain.{dist-here, dist-else, next-here, cell-in, cell-out}
+use Rattle.opening.proofs.Offers.{place-before, place-end, place-readable, place-offer}
+
+-- ---- what the search keeps
+
+-- the start: the goal alone
+pub held-start : {f : Floor} {goal : ℕ} {l : List ℕ} → Sized f → goal < size f → l ≡ listOf (size f) (λ x. blank)
+    → Held f (goalsOf goal) (set l goal (entry 0 end)) goal (replicate kinds goal) (kinds * size f)
+unfolding distAt
+held-start {f} {goal} {l} z inside empty =
+    let fits : goal < length l = omega (arith, ap length empty, list-length (size f) (λ x. blank)) in
+    let (q, R) = put-at (λ i. 0) 0 goal in
+    let next = next-here l goal 0 end fits (omega arith) in
+    record {
+      sized = z;
+      long = length-set l goal (entry 0 end) ∙ ap length empty ∙ list-length (size f) (λ x. blank);
+      whole = refl;
+      q = q;
+      n = 1;
+      p = λ k. 0;
+      searching = searching-start z goal inside {b = distAt l} (λ x h. ap (λ w. w / links) (ap (λ y. getD y x 0) empty ∙ list-at (size f) (λ x. blank) x 0 h))
+          (record { here = dist-here l goal 0 end fits (omega arith); else = dist-else l goal (entry 0 end) }) R (λ k. 0) (λ k h. refl);
+      chain = record {
+        some = omega arith;
+        final = R .here;
+        linked = λ i h. let e : i ≡ 0 = omega arith in ap (nextAt (set l goal (entry 0 end))) (ap q e ∙ R .here) ∙ next ∙ sym (cell-out q 1 (i + 1) (omega arith));
+      };
+      stands = λ k h. getD-replicate kinds k goal 0 h ∙ sym (R .here);
+      steps = sym (total-each kinds (size f) (λ k. size f - 0) (λ k h. omega arith));
+    }
+
+module _ {f : Floor} {goals l : List ℕ} {last : ℕ} {ps : List ℕ} {left : ℕ} (H : Held f goals l last ps left) where
+  pub held-readable : (k : ℕ) → k < kinds → Readable l (getD ps k 0)
+  held-readable k h = place-readable (H .sized) l (H .long) (H .searching .queue) (H .p k) (H .stands k h)
+
+  -- a place is the queue's end, or before it
+  at-end : (k : ℕ) → k < kinds → getD ps k 0 ≡ end → H .n ≤ H .p k
+  at-end k h = place-end (H .sized) l (H .long) (H .searching .queue) (H .p k) (H .stands k h)
+
+  before-end : (k : ℕ) → k < kinds → (getD ps k 0 ≡ end → ⊥) → H .p k < H .n
+  before-end k h = place-before (H .sized) l (H .long) (H .searching .queue) (H .p k) (H .stands k h)
+
+  pub held-last : last < size f
+  held-last = omega (arith, H .chain .final, H .searching .queue .on (H .n - 1) (omega (arith, H .chain .some)))
+
+  -- the least offer: at the queue's end all is found, before it is the step to take
+  module _ {r : ℕ} (L : Least l ps kinds r) where
+    offers : (k : ℕ) → k < kinds → offerOf l (getD ps k 0) (cost k) ≡ offer (distAt l) (H .q) (H .n) (H .p k) (cost k)
+    offers k h = place-offer (H .sized) l (H .long) (H .searching .queue) (H .p k) (H .stands k h) (cost k)
+
+    low : (j : ℕ) → j < kinds → offer (distAt l) (H .q) (H .n) (H .p r) (cost r) ≤ offer (distAt l) (H .q) (H .n) (H .p j) (cost j)
+    low j h = omega (arith, L .low j h, offers r (L .one), offers j h)
+
+    pub held-none : getD ps r 0 ≡ end → Certified (groundOf f goals) none (distAt l)
+    held-none e = none-left (H .sized) (H .searching) (L .one) low (at-end r (L .one) e)
+
+    pub held-next : {v : ℕ} → v ≡ offerOf l (getD ps r 0) (cost r) → (getD ps r 0 ≡ end → ⊥) → Next (distAt l) (H .q) (H .n) (H .p) r v
+    held-next {v} o h =
+        subst (Next (distAt l) (H .q) (H .n) (H .p) r) (sym (o ∙ offers r (L .one)))
+        (next (H .sized) (H .searching) (L .one) low (before-end r (L .one) h))
+
+  -- a step
+  module _ {r v : ℕ} (N : Next (distAt l) (H .q) (H .n) (H .p) r v) where
+    cell : getD ps r 0 ≡ H .q (H .p r)
+    cell = H .stands r (N .one) ∙ cell-in (H .q) (H .n) (H .p r) (N .before)
+
+    pub step-on : getD ps r 0 < size f
+    step-on = omega (arith, cell, H .searching .queue .on (H .p r) (N .before))
+
+    pub step-small : v < none
+    step-small = omega (arith, step-slow (H .sized) (H .searching) N, none-large (H .sized) (H .n) (queue-few (H .sized) (H .searching .queue)))
+
+    pub held-step : {l′ : List ℕ} {last′ : ℕ} → Follows f (getD ps r 0) (cost r) v 8 l last l′ last′ → Held f goals l′ last′ (movedOn l′ ps r (getD ps r 0) last) (left - 1)
+    held-step {l′} {last′} F =
+        let S = H .searching in
+        let (q′, n′, G, C) = F .keeps (H .q) (H .n) (step-queue (H .sized) S N) (H .chain) (step-slow (H .sized) S N) in
+        let (p′, P) = put-at (H .p) r (H .p r + 1) in
+        record {
+          sized = H .sized;
+          long = F .long;
+          whole = length-set up r (nextAt l′ (getD ps r 0)) ∙ long;
+          q = q′;
+          n = n′;
+          p = p′;
+          searching = searching-step (H .sized) S N (subst (λ x. Followed f x (cost r) v 8 (distAt l) (H .q) (H .n) (distAt l′) q′ n′) cell G) P;
+          chain = C;
+          stands = λ k h. by q′ n′ p′ P (G .grown .more) (G .grown .same) C k h (ℕ-discrete k r);
+          steps = omega (arith, H .steps, step-falls (H .sized) S N P);
+        }
+      where
+        up : List ℕ
+        up = listOf (length ps) (λ k. caught (nextAt l′ last) (getD ps k 0))
+
+        long : length up ≡ kinds
+        long = list-length (length ps) (λ k. caught (nextAt l′ last) (getD ps k 0)) ∙ H .whole
+
+        by : (q′ : ℕ → ℕ) (n′ : ℕ) (p′ : ℕ → ℕ) → Put (H .p) r (H .p r + 1) p′ → H .n ≤ n′ → ((i : ℕ) → i < H .n → q′ i ≡ H .q i) → Chain l′ q′ n′ last′
+            → (k : ℕ) → k < kinds → Dec (k ≡ r) → getD (movedOn l′ ps r (getD ps r 0) last) k 0 ≡ cellAt q′ n′ (p′ k)
+        by q′ n′ p′ P m s C k h (yes u) =
+            ap (λ k. getD (movedOn l′ ps r (getD ps r 0) last) k 0) u ∙ getD-set-same up r (nextAt l′ (getD ps r 0)) 0 (omega (arith, N .one, long))
+            ∙ ap (nextAt l′) (cell ∙ sym (s (H .p r) (N .before))) ∙ C .linked (H .p r) (omega (arith, N .before)) ∙ ap (cellAt q′ n′) (sym (ap p′ u ∙ P .here))
+        by q′ n′ p′ P m s C k h (no u) =
+            getD-set-other up r k (nextAt l′ (getD ps r 0)) 0 u ∙ list-at (length ps) (λ k. caught (nextAt l′ last) (getD ps k 0)) k 0 (omega (arith, H .whole))
+            ∙ at (ℕ-discrete (getD ps k 0) end) ∙ ap (cellAt q′ n′) (sym (P .else k u))
+          where
+            at : Dec (getD ps k 0 ≡ end) → caught (nextAt l′ last) (getD ps k 0) ≡ cellAt q′ n′ (H .p k)
+            at (yes g) =
+                let e : H .n - 1 < H .n = omega (arith, H .chain .some) in
+                let i : H .n - 1 + 1 ≡ H .p k = omega (arith, at-end k h g, H .searching .places .upto k h) in
+                ap (λ t. pick t (nextAt l′ last) (getD ps k 0)) (eq-eqb (getD ps k 0) end g)
+                ∙ ap (nextAt l′) (sym (s (H .n - 1) e ∙ H .chain .final)) ∙ C .linked (H .n - 1) (omega arith) ∙ ap (cellAt q′ n′) i
+            at (no g) =
+                let i = before-end k h g in
+                ap (λ t. pick t (nextAt l′ last) (getD ps k 0)) (ne-eqb (getD ps k 0) end g) ∙ H .stands k h ∙ cell-in (H .q) (H .n) (H .p k) i
+                ∙ sym (cell-in q′ n′ (H .p k) (omega arith) ∙ s (H .p k) i)
+
+  -- no steps left: every place is at the queue's end
+  pub held-done : left ≤ 0 → Certified (groundOf f goals) none (distAt l)
+  held-done h = all-followed (H .sized) (H .searching)
+      (λ k o. omega (arith, H .steps, total-part kinds k (λ k. size f - H .p k) o, queue-few (H .sized) (H .searching .queue)))
+
+-- ---- the end
+
+-- the distances alone are the true ones
+pub certified-distances : {f : Floor} {goals l′ : List ℕ} (l : List ℕ) → Sized f → length l ≡ size f → Certified (groundOf f goals) none (distAt l)
+    → l′ ≡ listOf (length l) (λ x. plain (distAt l x)) → Distances f goals l′
+certified-distances {f} {goals} {l′} l z long C e = record {
+  long = ap length e ∙ list-length (length l) (λ x. plain (distAt l x)) ∙ long;
+  each = λ x h. ap (λ y. getD y x 0) e ∙ list-at (length l) (λ x. plain (distAt l x)) x 0 (omega arith) ∙ by x (reachOf (groundOf f goals) x) refl (found x h);
+}
+  where
+    found : (x : ℕ) → x < size f → distAt l x ≡ pick (reachOf (groundOf f goals) x) (distOf (groundOf f goals) x) none
+    found = certificate (groundOf f goals) none (distAt l) (none-large z (size f) (omega arith)) C
+
+    by : (x : ℕ) (b : Bool) → reachOf (groundOf f goals) x ≡ b → distAt l x ≡ pick (reachOf (groundOf f goals) x) (distOf (groundOf f goals) x) none
+        → plain (distAt l x) ≡ pick (reachOf (groundOf f goals) x) (distOf (groundOf f goals) x) far
+    by x true r t =
+        let u : distAt l x ≡ distOf (groundOf f goals) x = rw r at t in
+        let high : distOf (groundOf f goals) x ≤ dearestPrice * (size f - 1) = dist-high (groundOf f goals) x (reach-true (groundOf f goals) x (subst T (sym r) tt)) in
+        let near : distAt l x < none = omega (arith, u, high, none-large z (size f - 1) (omega arith)) in
+        rw (r, lt-ltb (distAt l x) none near) u
+    by x false r t =
+        let u : distAt l x ≡ none = rw r at t in
+        rw (r, le-ltb (distAt l x) none (omega arith))

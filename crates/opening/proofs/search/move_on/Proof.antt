@@ -1,0 +1,28 @@
+-- `opening::search::move_on` meets its contract.
+-- Assumes nothing.
+use Rattle.learning.specs.Ground.{listOf}
+use Rattle.opening.specs.Chain.{caught}
+use borrow.Author.Needs.{needs}
+use lib.ListN.{length, getD, set}
+use mathlib.Core.Path.{ap, ap₂, _∙_}
+use Rattle.opening.proofs.search.move_on.Statement.{statement}
+use Rattle.opening.proofs.search.move_on.Tie as tie
+
+returns : tie.Need-returns
+returns c =
+    let s = c .before .before .before in
+    let a = s .before .before .before .before .before .args in
+    ap₂ (λ ps w. set ps (a .k) w)
+    (s .catch-up .ensures ∙ ap (λ n. listOf (length (a .places .now)) (λ k. caught n (getD (a .places .now) k 0))) (s .before .next-at .ensures)) (c .next-at2 .ensures)
+
+pub move-on-spec : {M : Type 1} → statement M
+move-on-spec =
+    tie.close
+    (tie.spec
+    (λ c κs. search needs)
+    (λ c κs. search needs)
+    (λ c κs. search needs)
+    (λ c. search needs)
+    (λ c. search needs)
+    (λ c. search needs)
+    returns)

@@ -1,0 +1,39 @@
+-- `opening::search::pass` meets its contract, by whether the move can have the cost.
+-- Assumes nothing.
+use Rattle.opening.proofs.Chain.{enterable, passed-over}
+use Rattle.opening.specs.Chain.{Entered}
+use borrow.Author.Needs.{needs}
+use borrow.Author.Tests.{not-true}
+use mathlib.Core.Path.{sym, _∙_, subst₂}
+use Rattle.opening.proofs.search.pass.Statement.{statement}
+use Rattle.opening.proofs.search.pass.Tie as tie
+
+returns : tie.Need-returns
+returns c =
+    let p = c .before .before .before .before .pre in
+    passed-over (p .0 .0) _ _ _ (p .0 .2) (p .0 .3) (sym (c .before .can-cost .ensures) ∙ not-true _ (c .if1 .taken))
+
+reach-requires : tie.Need-reach-requires
+reach-requires c κs =
+    let s = c .before .before in
+    let p = s .before .before .before .before .before .pre in
+    enterable (p .0 .0) _ _ _ (s .step-from .ensures) (p .1 .0) (p .1 .1) (p .1 .2)
+
+returns-2 : tie.Need-returns-2
+returns-2 c =
+    let r = c .before .before .reach in
+    let s = c .before .before .before .before in
+    let a = s .before .before .before .before .before .before .args in
+    subst₂ (λ u w. Entered u w (a .v) (a .list .now) (a .last) (r .last .1 .1 .1 .0) (r .result)) (s .before .step-from .ensures) (s .cost-at .ensures .0) (r .ensures)
+
+pub pass-spec : {M : Type 1} → statement M
+pass-spec =
+    tie.close
+    (tie.spec
+    (λ c κs. search needs)
+    returns
+    (λ c κs. search needs)
+    (λ c κs. search needs)
+    reach-requires
+    (λ c. search needs)
+    returns-2)

@@ -1,0 +1,55 @@
+-- `opening::search::reach` meets its contract, by what the step is, its cost, and whether the cell has a distance.
+-- Assumes nothing.
+use Prim.Native.Nat.{_<_}
+use Rattle.floor.proofs.Steps.{wall≢to, same-to}
+use Rattle.floor.specs.declared.Step.the-variants.{To}
+use Rattle.opening.specs.Chain.{distAt, Entered, stays, enters}
+use borrow.Author.Needs.{needs}
+use lib.ListN.{length}
+use mathlib.Core.Path.{_≡_, sym, ap, _∙_, subst}
+use native.Mathlib.Omega.{arith}
+use Rattle.opening.proofs.search.reach.Statement.{statement}
+use Rattle.opening.proofs.search.reach.Tie as tie
+
+abbrev at-start : tie.After-step → tie.Start
+at-start c = c .before .before .before
+
+-- the step leads to a cell, which has a place in the list
+inside : (c : tie.After-step) → (c .step .given .0 .0 < length (at-start c .args .list .now)) × (c .step .given .0 .0 < 4096)
+inside c = at-start c .pre .inside _ _ (c .step .given .1)
+
+returns-3 : tie.Need-returns-3
+returns-3 c =
+    let t = c .before .before .before .before .before in
+    stays (λ b e. omega (arith, c .before .dist-at .ensures .0, ap (distAt (at-start t .args .list .now)) (same-to (sym (t .step .given .1) ∙ e) .0)))
+
+enter-requires : tie.Need-enter-requires
+enter-requires c κs =
+    let t = c .before .before .before .before .before .before in
+    let p = at-start t .pre in
+    (p .final, inside t .0, inside t .1, p .small)
+
+returns-4 : tie.Need-returns-4
+returns-4 c =
+    let d = c .before .before .before .before .before in
+    let t = d .before .before .before .before in
+    let a = at-start t .args in
+    let cell = t .step .given .0 .0 in
+    let same : t .step .given .0 .1 .0 ≡ a .cost = omega arith in
+    subst (λ l. Entered (a .step) (a .cost) (a .v) (a .list .now) (a .last) l cell) (sym (c .before .before .enter .ensures))
+    (enters cell (t .step .given .1 ∙ ap (To cell) same) (omega (arith, d .dist-at .ensures .0)))
+
+pub reach-spec : {M : Type 1} → statement M
+reach-spec =
+    tie.close
+    (tie.spec
+    (λ c. search needs)
+    (λ c. search needs)
+    (λ c. stays (λ b t. absurd (wall≢to b _ (sym (c .enum-told .given .1) ∙ t))))
+    (λ c. stays (λ b t. absurd (omega (arith, same-to (sym (c .before .before .step .given .1) ∙ t) .1))))
+    (λ c κs. inside (c .before .before .before) .0)
+    (λ c. search needs)
+    returns-3
+    enter-requires
+    (λ c. search needs)
+    returns-4)
