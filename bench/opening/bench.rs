@@ -3,7 +3,7 @@ use std::cmp::Reverse;
 use std::collections::BinaryHeap;
 use std::time::Instant;
 
-// The exports of crates/probe; a slice is its first entry and its length.
+// The exports of crates/probe and crates/probe_search; a slice is its first entry and its length.
 extern "C" {
     fn probe_open(width: usize, height: usize, start: usize, goal: usize, q: usize, floor: *const u8, floor_len: usize, table: *const u32, table_len: usize) -> usize;
     fn probe_distances(width: usize, height: usize, goal: usize, floor: *const u8, floor_len: usize, dist: *mut u32, dist_len: usize) -> usize;

@@ -1,7 +1,7 @@
 // Bytes of stack that each public call needs on a 64 × 64 floor at depth 8, and the search for true distances, measured on a painted stack; the greatest over the cases named.
 use std::ffi::c_void;
 
-// The exports of crates/probe; a slice is its first entry and its length.
+// The exports of crates/probe and crates/probe_search; a slice is its first entry and its length.
 extern "C" {
     fn probe_nothing() -> usize;
     fn probe_open(width: usize, height: usize, start: usize, goal: usize, q: usize, floor: *const u8, floor_len: usize, table: *const u32, table_len: usize) -> usize;

@@ -1,9 +1,4 @@
 // Each public call for a caller in another language, on plain numbers and lists: what the benches measure.
-ghost use mathlib.Core.Path.{_≡_};
-ghost use Prim.Native.Nat.{_*_, _<_};
-ghost use lib.ListN.{length};
-ghost use Rattle.model.specs.Floor.{Sized};
-ghost use Rattle.floor.specs.Moves.{flat};
 ghost use Rattle.run.specs.Numbers.{Counted};
 use answers::FloorRead;
 use answers::Job;
@@ -26,21 +21,6 @@ pub extern "C" fn probe_open(
 ) -> usize {
     let job = job_of(width, height, goal, 1, 1, q, 0);
     number(opening::open(job, floor, start, table))
-}
-
-// The true distances alone, in a list that is lent: how many.
-#[no_mangle]
-pub extern "C" fn probe_distances(
-    width: usize,
-    height: usize,
-    goal: usize,
-    floor: &[u8],
-    dist: &mut [u32],
-) -> usize
-    requires { ⌜ Sized (flat width height (now floor)) × (length (now dist) ≡ width * height) × (goal < width * height) ⌝ }
-{
-    opening::find_distances(width, height, floor, goal, dist);
-    dist.len()
 }
 
 // The number that reading a table file answers.
