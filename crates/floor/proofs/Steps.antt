@@ -65,15 +65,17 @@ price-step f z x d h =
 
 -- ---- the costs
 
+-- what holds of each of them
+each-cost : (P : ℕ → Type 0) → P 0 → P 1 → (k : ℕ) → k < kinds → P k
+each-cost P a b zero h = a
+each-cost P a b (suc zero) h = b
+each-cost P a b (suc (suc k)) h = absurd (omega arith)
+
 pub cost-high : (k : ℕ) → k < kinds → cost k ≤ dearestPrice
-cost-high zero h = omega arith
-cost-high (suc zero) h = omega arith
-cost-high (suc (suc k)) h = absurd (omega arith)
+cost-high = each-cost (λ k. cost k ≤ dearestPrice) (omega arith) (omega arith)
 
 pub cost-some : (k : ℕ) → k < kinds → 1 ≤ cost k
-cost-some zero h = omega arith
-cost-some (suc zero) h = omega arith
-cost-some (suc (suc k)) h = absurd (omega arith)
+cost-some = each-cost (λ k. 1 ≤ cost k) (omega arith) (omega arith)
 
 toll-cost : (m : ℕ) → m < 8 → toll m ≡ cost (m % 2)
 toll-cost = all8 (λ m. toll m ≡ cost (m % 2)) refl refl refl refl refl refl refl refl
@@ -86,16 +88,10 @@ price-cost f z a b h = let (m, l, t, e, p) = price-means f z a b h in (m % 2, om
 pub step-can : {f : Floor} → Sized f → (x m b k : ℕ) → m < 8 → k < kinds → stepOf f x m ≡ To b (cost k) → canCost m k ≡ true
 step-can {f} z x m b k l h e =
     let u = stepped f z x m b (cost k) e in
-    let t : cost (m % 2) ≡ cost k = sym (toll-cost m l) ∙ sym (price-toll f z x m l (allowed-inside f z x m (u .allowed)) (allowed-some f z x m (u .allowed))) ∙ ap (price f x) (u .cell) ∙ u .price in
-    eq-eqb (m % 2) (k % 2) (by (m % 2) k (omega arith) h t)
+    let paid = price-toll f z x m l (allowed-inside f z x m (u .allowed)) (allowed-some f z x m (u .allowed)) in
+    eq-eqb (m % 2) (k % 2) (by k h (m % 2) (omega arith) (sym (paid ∙ toll-cost m l) ∙ ap (price f x) (u .cell) ∙ u .price))
   where
-    by : (j k : ℕ) → j < 2 → k < kinds → cost j ≡ cost k → j ≡ k % 2
-    by zero zero i h t = refl
-    by zero (suc zero) i h t = absurd (omega arith)
-    by zero (suc (suc k)) i h t = absurd (omega arith)
-    by (suc zero) zero i h t = absurd (omega arith)
-    by (suc zero) (suc zero) i h t = refl
-    by (suc zero) (suc (suc k)) i h t = absurd (omega arith)
-    by (suc (suc j)) zero i h t = absurd (omega arith)
-    by (suc (suc j)) (suc zero) i h t = absurd (omega arith)
-    by (suc (suc j)) (suc (suc k)) i h t = absurd (omega arith)
+    by : (k : ℕ) → k < kinds → (j : ℕ) → j < kinds → cost j ≡ cost k → j ≡ k % 2
+    by = each-cost (λ k. (j : ℕ) → j < kinds → cost j ≡ cost k → j ≡ k % 2)
+        (each-cost (λ j. cost j ≡ cost 0 → j ≡ 0) (λ t. refl) (λ t. absurd (omega arith)))
+        (each-cost (λ j. cost j ≡ cost 1 → j ≡ 1) (λ t. absurd (omega arith)) (λ t. refl))

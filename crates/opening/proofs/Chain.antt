@@ -141,7 +141,7 @@ module _ {f : Floor} (z : Sized f) where
 
   pub enterable : {v last : ℕ} {l : List ℕ} (x m : ℕ) (s : Step) → s ≡ stepOf f x m → length l ≡ size f → last < size f → v < none → Enterable s v l last
   enterable x m s is long fits small = record {
-    inside = λ b c t. let u = stepped f z x m b c (sym is ∙ t) in (omega (arith, free-below f b (u .free)), u .few);
+    inside = λ b c t. let u = stepped f z x m b c (sym is ∙ t) in (omega (arith, free-below f b (u .free)), omega (arith, u .few));
     final = omega arith;
     small = small;
   }

@@ -56,7 +56,7 @@ pub data Entered (s : Step) (c v : ℕ) (l : List ℕ) (last : ℕ) : List ℕ �
 
 -- a step can be taken: what it leads to has a place in the list, and so has the queue's last; and the distance fits
 pub record Enterable (s : Step) (v : ℕ) (l : List ℕ) (last : ℕ) : Type 0 where
-  pub inside : (b c : ℕ) → s ≡ To b c → (b < length l) × (b < 4096)
+  pub inside : (b c : ℕ) → s ≡ To b c → (b < length l) × (b < links)
   pub final : last < length l
   pub small : v < none
 

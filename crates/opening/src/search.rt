@@ -3,7 +3,7 @@
 // One list holds all of it: the entry of a cell is its distance × 8,192 + the next cell of the queue.
 ghost use mathlib.Core.Path.{_≡_};
 ghost use Prim.Native.Nat.{ℕ, _+_, _*_, _≤_, _<_};
-ghost use lib.ListN.{length, getD, set};
+ghost use lib.ListN.{length, getD};
 ghost use Rattle.learning.specs.Ground.{listOf};
 ghost use Rattle.learning.proofs.Certificate.{Certified};
 ghost use Rattle.model.specs.Floor.{Sized, goalsOf};
@@ -11,7 +11,7 @@ ghost use Rattle.model.specs.Grounds.{groundOf};
 ghost use Rattle.floor.specs.Moves.{flat, kinds, cost, Placed, stepOf};
 ghost use Rattle.opening.specs.Distances.{Distances};
 ghost use Rattle.opening.specs.Search.{none};
-ghost use Rattle.opening.specs.Chain.{links, end, entry, distAt, nextAt, blank, entered, Entered, Enterable, Follows, Readable, offerOf, Least, caught, movedOn, plain};
+ghost use Rattle.opening.specs.Chain.{links, entry, distAt, nextAt, blank, entered, Entered, Enterable, Follows, Readable, offerOf, Least, caught, movedOn, plain};
 use floor::CEILING;
 use floor::KINDS;
 use floor::Spot;
@@ -53,7 +53,7 @@ fn next_at(list: &[u32], x: usize) -> usize
 
 // A cell gets the distance v and goes to the queue's end.
 fn enter(list: &mut [u32], last: usize, cell: usize, v: u32)
-    requires { ⌜ (last < length (now list)) × (cell < length (now list)) × (cell < 4096) × (v < none) ⌝ }
+    requires { ⌜ (last < length (now list)) × (cell < length (now list)) × (cell < links) × (v < none) ⌝ }
     ensures { λ r. ⌜ now (list .exit) ≡ entered (now (list .entry)) last cell v ⌝ }
 {
     list[last] = entry(dist_at(&list[..], last), cell);
@@ -78,7 +78,7 @@ fn reach(step: Step, cost: u16, v: u32, list: &mut [u32], last: usize) -> usize
     cell
 }
 
-// The move m from a cell, if it has the k-th cost.
+// The move m from a cell, if it has the k-th cost: one that cannot have it is passed over without a look at the floor.
 fn pass(
     width: usize,
     height: usize,
@@ -102,7 +102,8 @@ fn pass(
     reach(step, floor::cost_at(k), v, list, last)
 }
 
-// Follows the moves of the k-th cost from a cell: what they reach first has the distance v. The queue's last. (A goal may be blocked, and then no move leads from it.)
+// Follows the moves of the k-th cost from a cell: what they reach first has the distance v. The queue's last.
+// Only a goal can be blocked, and then no move leads from it.
 fn follow(
     width: usize,
     height: usize,

@@ -3,7 +3,7 @@
 use Prim.Native.Nat.{_<_}
 use Rattle.floor.proofs.Steps.{wall≢to, same-to}
 use Rattle.floor.specs.declared.Step.the-variants.{To}
-use Rattle.opening.specs.Chain.{distAt, Entered, stays, enters}
+use Rattle.opening.specs.Chain.{links, distAt, Entered, stays, enters}
 use borrow.Author.Needs.{needs}
 use lib.ListN.{length}
 use mathlib.Core.Path.{_≡_, sym, ap, _∙_, subst}
@@ -15,7 +15,7 @@ abbrev at-start : tie.After-step → tie.Start
 at-start c = c .before .before .before
 
 -- the step leads to a cell, which has a place in the list
-inside : (c : tie.After-step) → (c .step .given .0 .0 < length (at-start c .args .list .now)) × (c .step .given .0 .0 < 4096)
+inside : (c : tie.After-step) → (c .step .given .0 .0 < length (at-start c .args .list .now)) × (c .step .given .0 .0 < links)
 inside c = at-start c .pre .inside _ _ (c .step .given .1)
 
 returns-3 : tie.Need-returns-3
