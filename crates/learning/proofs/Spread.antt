@@ -48,7 +48,7 @@ pub list-length : (n : ℕ) (f : ℕ → ℕ) → length (listOf n f) ≡ n
 list-length zero f = refl
 list-length (suc n) f = ap suc (list-length n (λ k. f (suc k)))
 
-pub list-off : (n : ℕ) (f : ℕ → ℕ) (i d : ℕ) → n ≤ i → getD (listOf n f) i d ≡ d
+list-off : (n : ℕ) (f : ℕ → ℕ) (i d : ℕ) → n ≤ i → getD (listOf n f) i d ≡ d
 list-off zero f i d h = refl
 list-off (suc n) f zero d h = absurd (omega arith)
 list-off (suc n) f (suc i) d h = list-off n (λ k. f (suc k)) i d (omega arith)

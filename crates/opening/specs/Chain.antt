@@ -60,10 +60,12 @@ pub record Enterable (s : Step) (v : ℕ) (l : List ℕ) (last : ℕ) : Type 0 w
   pub final : last < length l
   pub small : v < none
 
--- what following the first m moves from the cell x does to the list: whatever queue its links were, they are one with the new cells at its end
+-- what following the first m moves from the cell x does to the list
 pub record Follows (f : Floor) (x c v m : ℕ) (l : List ℕ) (last : ℕ) (l′ : List ℕ) (last′ : ℕ) : Type 0 where
+  -- it has an entry for each cell, and its last is one
   pub long : length l′ ≡ size f
   pub final : last′ < size f
+  -- whatever queue its links were, they are one with the new cells at its end
   pub keeps : (q : ℕ → ℕ) (n : ℕ) → Queue f (distAt l) q n v → Chain l q n last → v ≤ dearestPrice * n
       → (q′ : ℕ → ℕ) × (n′ : ℕ) × Followed f x c v m (distAt l) q n (distAt l′) q′ n′ × Chain l′ q′ n′ last′
 

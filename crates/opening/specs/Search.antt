@@ -53,9 +53,11 @@ pub record Places (f : Floor) (d q : ℕ → ℕ) (n v : ℕ) (p : ℕ → ℕ) 
   -- what the next moves of a cost reach is no nearer than v
   pub ahead : (k : ℕ) → k < kinds → p k < n → v ≤ d (q (p k)) + cost k
 
--- what the search keeps; v is the last distance given
+-- what the search keeps
 pub record Searching (f : Floor) (goals : List ℕ) (d q : ℕ → ℕ) (n : ℕ) (p : ℕ → ℕ) : Type 0 where
+  -- the last distance given
   pub v : ℕ
+  -- the queue up to it, walks for its distances, and the places in it
   pub queue : Queue f d q n v
   pub going : Going f goals d
   pub places : Places f d q n v p
@@ -68,6 +70,7 @@ offer d q n i c = pick (ltb i n) (d (q i) + c) none
 pub record Next (d q : ℕ → ℕ) (n : ℕ) (p : ℕ → ℕ) (k v : ℕ) : Type 0 where
   pub one : k < kinds
   pub before : p k < n
+  -- v is what its moves reach, and no other cost reaches less
   pub is : v ≡ d (q (p k)) + cost k
   pub low : (j : ℕ) → j < kinds → p j < n → v ≤ d (q (p j)) + cost j
 
@@ -81,10 +84,12 @@ pub record Grown (f : Floor) (x c v : ℕ) (d q : ℕ → ℕ) (n : ℕ) (d′ q
   -- a new cell has the distance v, and a move of cost c joins it to x
   pub new : (i : ℕ) → i < n′ → n ≤ i → (d′ (q′ i) ≡ v) × (price f x (q′ i) ≡ c)
 
--- the first m moves from x have been followed: what a move of cost c leads to has a distance, at most v
+-- the first m moves from x have been followed
 pub record Followed (f : Floor) (x c v m : ℕ) (d q : ℕ → ℕ) (n : ℕ) (d′ q′ : ℕ → ℕ) (n′ : ℕ) : Type 0 where
+  -- it is a queue still, which has grown by what they reach
   pub queue : Queue f d′ q′ n′ v
   pub grown : Grown f x c v d q n d′ q′ n′
+  -- what a move of cost c leads to has a distance, at most v
   pub closed : (k : ℕ) → k < m → (b : ℕ) → stepOf f x k ≡ To b c → d′ b ≤ v
 
 -- how far the places can still go, together: each passes each cell once
