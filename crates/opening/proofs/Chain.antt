@@ -72,6 +72,10 @@ cell-in q n i h = ap (λ b. pick b (q i) end) (lt-ltb i n h)
 pub cell-out : (q : ℕ → ℕ) (n i : ℕ) → n ≤ i → cellAt q n i ≡ end
 cell-out q n i h = ap (λ b. pick b (q i) end) (le-ltb i n h)
 
+-- the queue's last is a cell
+pub chain-last : {f : Floor} {l : List ℕ} {q : ℕ → ℕ} {n last v : ℕ} → Queue f (distAt l) q n v → Chain l q n last → last < size f
+chain-last {n = n} Q C = omega (arith, C .final, Q .on (n - 1) (omega (arith, C .some)))
+
 -- ---- a step
 
 module _ {f : Floor} (z : Sized f) where
@@ -80,19 +84,19 @@ module _ {f : Floor} (z : Sized f) where
     outside : (i : ℕ) → i < n → q i ≡ b → ⊥
     outside i h e = omega (arith, queue-near z Q i h, ap (distAt l) e)
 
-    pub last-on : last < length l
-    last-on = omega (arith, C .final, Q .on (n - 1) (omega (arith, C .some)))
+    last-on : last < length l
+    last-on = omega (arith, chain-last Q C)
 
-    pub not-last : last ≡ b → ⊥
+    not-last : last ≡ b → ⊥
     not-last e = outside (n - 1) (omega (arith, C .some)) (C .final ∙ e)
 
     small : b < links
     small = omega (arith, sized-cells z)
 
-    pub dist-push : (w : ℕ) → Put (distAt l) b w (distAt (entered l last b w))
+    dist-push : (w : ℕ) → Put (distAt l) b w (distAt (entered l last b w))
     dist-push w = dist-entered l last b w last-on (omega arith) small not-last
 
-    pub chain-push : {q′ : ℕ → ℕ} → Put q n b q′ → (w : ℕ) → Chain (entered l last b w) q′ (n + 1) b
+    chain-push : {q′ : ℕ → ℕ} → Put q n b q′ → (w : ℕ) → Chain (entered l last b w) q′ (n + 1) b
     chain-push {q′} R w = record {
       some = omega arith;
       final = (let e : n + 1 - 1 ≡ n = omega arith in ap q′ e) ∙ R .here;

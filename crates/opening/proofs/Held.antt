@@ -7,15 +7,13 @@ use mathlib.Core.List.{List}
 use native.Mathlib.Decide.{ℕ-discrete}
 use native.Mathlib.Omega.{arith}
 use borrow.Author.Tests.{lt-ltb, le-ltb, eq-eqb, ne-eqb}
-use lib.Dec.{T}
 use lib.ListN.{length, getD, set, length-set, replicate, getD-replicate}
 use lib.Seq.{getD-set-same, getD-set-other}
 use Rattle.learning.specs.Ground.{pick, listOf, reachOf, distOf}
-use Rattle.learning.proofs.Ground.{reach-true}
-use Rattle.learning.proofs.Certificate.{Certified, certificate, dist-high}
+use Rattle.learning.proofs.Certificate.{Certified, certificate}
 use Rattle.learning.proofs.Spread.{list-at, list-length}
 use Rattle.learning.proofs.Sums.{total-each, total-part}
-use Rattle.model.specs.Floor.{Floor, size, Sized, dearestPrice, goalsOf}
+use Rattle.model.specs.Floor.{Floor, size, Sized, goalsOf}
 use Rattle.model.specs.Grounds.{groundOf}
 use Rattle.floor.specs.Moves.{kinds, cost}
 use Rattle.opening.specs.Distances.{far, Distances}
@@ -23,7 +21,8 @@ use Rattle.opening.specs.Search.{none, Followed, offer, Next}
 use Rattle.opening.specs.Chain.{links, end, entry, distAt, nextAt, blank, cellAt, Chain, Follows, Readable, offerOf, Least, caught, movedOn, Held, plain}
 use Rattle.opening.proofs.Queue.{Put, put-at, none-large, queue-few}
 use Rattle.opening.proofs.Rising.{searching-start, step-queue, step-slow, searching-step, all-followed, step-falls, none-left, next}
-use Rattle.opening.proofs.Chain.{dist-here, dist-else, next-here, cell-in, cell-out}
+use Rattle.opening.proofs.Chain.{dist-here, dist-else, next-here, cell-in, cell-out, chain-last}
+use Rattle.opening.proofs.Truth.{true-farthest}
 use Rattle.opening.proofs.Offers.{place-before, place-end, place-readable, place-offer}
 
 -- ---- what the search keeps
@@ -66,7 +65,7 @@ module _ {f : Floor} {goals l : List ℕ} {last : ℕ} {ps : List ℕ} {left : �
   before-end k h = place-before (H .sized) l (H .long) (H .searching .queue) (H .p k) (H .stands k h)
 
   pub held-last : last < size f
-  held-last = omega (arith, H .chain .final, H .searching .queue .on (H .n - 1) (omega (arith, H .chain .some)))
+  held-last = chain-last (H .searching .queue) (H .chain)
 
   -- the least offer: at the queue's end all is found, before it is the step to take
   module _ {r : ℕ} (L : Least l ps kinds r) where
@@ -161,9 +160,7 @@ certified-distances {f} {goals} {l′} l z long C e = record {
         → plain (distAt l x) ≡ pick (reachOf (groundOf f goals) x) (distOf (groundOf f goals) x) far
     by x true r t =
         let u : distAt l x ≡ distOf (groundOf f goals) x = rw r at t in
-        let high : distOf (groundOf f goals) x ≤ dearestPrice * (size f - 1) = dist-high (groundOf f goals) x (reach-true (groundOf f goals) x (subst T (sym r) tt)) in
-        let near : distAt l x < none = omega (arith, u, high, none-large z (size f - 1) (omega arith)) in
-        rw (r, lt-ltb (distAt l x) none near) u
+        rw (r, lt-ltb (distAt l x) none (omega (arith, u, true-farthest f z goals x r))) u
     by x false r t =
         let u : distAt l x ≡ none = rw r at t in
         rw (r, le-ltb (distAt l x) none (omega arith))

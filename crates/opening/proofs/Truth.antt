@@ -17,7 +17,7 @@ use Rattle.answers.specs.declared.Place.the-variants.{Nowhere}
 use Rattle.model.specs.Basics.{then, refuseAt, unless, naming}
 use Rattle.model.specs.Floor.{Floor, size, dearestPrice, Sized}
 use Rattle.model.specs.Grounds.{groundOf}
-use Rattle.model.specs.Checks.{floorOf, goals}
+use Rattle.model.specs.Checks.{farthest, floorOf, goals}
 use Rattle.model.specs.Opening.{soundness}
 use Rattle.model.proofs.Cells.{cells-le}
 use Rattle.model.proofs.Accepted.{naming-same}
@@ -34,9 +34,8 @@ module _ (q start : ℕ) (dist table : List ℕ) where
   judged-near h = ap (λ b. then (unless b 6) (naming (length table) (λ x. above q (getD dist x 0) (getD table x 0)) 7)) (lt-ltb (getD dist start 0) far h)
 
 module _ (f : Floor) (z : Sized f) (gs : List ℕ) where
-  -- a true distance is at most `farthest`, and so below `far`
-  near : (x : ℕ) → reachOf (groundOf f gs) x ≡ true → distOf (groundOf f gs) x < far
-  near x e =
+  pub true-farthest : (x : ℕ) → reachOf (groundOf f gs) x ≡ true → distOf (groundOf f gs) x ≤ farthest
+  true-farthest x e =
       let few : size f - 1 ≤ 4095 = omega (arith, cells-le (f .width) (f .height) (z .narrow) (z .low)) in
       omega (arith, dist-high (groundOf f gs) x (reach-true (groundOf f gs) x (subst T (sym e) tt)), mul-le-mul-left dearestPrice few)
 
@@ -45,7 +44,7 @@ module _ (f : Floor) (z : Sized f) (gs : List ℕ) where
     reach-is = by (reachOf (groundOf f gs) x) refl
       where
         by : (b : Bool) → reachOf (groundOf f gs) x ≡ b → ltb (getD dist x 0) far ≡ b
-        by true e = lt-ltb (getD dist x 0) far (omega (arith, rw e at (d .each x h), near x e))
+        by true e = lt-ltb (getD dist x 0) far (omega (arith, rw e at (d .each x h), true-farthest x e))
         by false e = le-ltb (getD dist x 0) far (omega (arith, rw e at (d .each x h)))
 
     above-is : (q v : ℕ) → above q (getD dist x 0) v ≡ (reachOf (groundOf f gs) x && ltb (q * distOf (groundOf f gs) x) v)
