@@ -65,7 +65,7 @@ abbrev pub saysFloorRead : FloorRead → Said
 saysFloorRead (Fr.Sizes width height) = done 0 (width ∷ height ∷ [])
 saysFloorRead (Fr.Refused r) = refuses 1 r (0 ∷ 0 ∷ [])
 
--- a written table: the file's length
+-- a written table or floor text: its length
 abbrev pub saysWritten : Written → Said
 saysWritten (Wr.Length n) = done 0 (n ∷ [])
 saysWritten (Wr.Refused r) = refuses 1 r (0 ∷ [])

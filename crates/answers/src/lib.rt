@@ -89,7 +89,7 @@ pub enum FloorRead {
     Refused(Refusal),
 }
 
-// What writing a table file answers: how many bytes it has.
+// What writing a table file or a floor text answers: how many bytes it has.
 pub enum Written {
     Length(usize),
     Refused(Refusal),

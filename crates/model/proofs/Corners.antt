@@ -13,10 +13,11 @@ use Rattle.answers.specs.declared.Job.{Job}
 use Rattle.answers.specs.declared.Refusal.{Refusal}
 use Rattle.answers.specs.declared.Verdict.{Verdict}
 use Rattle.answers.specs.declared.Verdict.the-variants as Vd
-use Rattle.model.specs.Floor.{Floor, Sized, column, row, free, clear, price, corner, east, south, ahead, allowed}
-use Rattle.model.specs.Grounds.{both-comm, both-first, fareBetween, fare-low, fare-high, fare-same, fare-clear, clear-ends, clear-true, price-fare, price-clear, price-free, free-inside, groundOf}
+use Rattle.model.specs.Floor.{Floor, Sized, column, row, free, slowly, clear, price, corner, east, south, ahead, allowed}
+use Rattle.model.specs.Grounds.{both-comm, both-first, fareBetween, slowly-same, clear-ends, clear-true, price-fare, price-clear, price-free, free-inside, groundOf}
 use Rattle.model.specs.Checks.{floorOf, goals}
 use Rattle.model.proofs.Cells.{cell-at}
+use Rattle.model.proofs.Compared.{Rule, ruledBy}
 use Rattle.model.proofs.Moves.{is-true, all8, odd-or-along, Inside, corner-beside, corner-across, allowed-inside, allowed-some, allowed-free, allowed-corners, allowed-true}
 use Rattle.model.proofs.Refusals.{IsOpening}
 use Rattle.model.proofs.Demand.{refused-as-unsound-only-when-above}
@@ -127,29 +128,24 @@ abbrev ends : Floor → ℕ → ℕ → Bool
 ends f a b = free f a && free f b
 
 abbrev endsPrice : Floor → ℕ → ℕ → ℕ
-endsPrice f a b = fareBetween f (ends f a b) a b
+endsPrice f a b = fareBetween f (ends f a b) (slowly f a b) a b
+
+pub uncornered : (f : Floor) → Rule f (ends f) (slowly f)
+uncornered f = record {
+  clear-same = λ a b. both-comm (free f a) (free f b);
+  slow-same = slowly-same f;
+  inside = λ a b t. free-inside f a (both-first (free f a) (free f b) t);
+}
 
 abbrev pub withoutCorners : Floor → List ℕ → Ground
-withoutCorners f goals = record {
-  cells = groundOf f goals .cells;
-  price = endsPrice f;
-  goal = groundOf f goals .goal;
-  least = groundOf f goals .least;
-  dearest = groundOf f goals .dearest;
-  positive = groundOf f goals .positive;
-  low = λ a b. fare-low f (ends f a b) a b;
-  high = λ a b. fare-high f (ends f a b) a b;
-  same = λ a b. fare-same f (ends f a b) (ends f b a) a b (both-comm (free f a) (free f b));
-  inside = λ a b h. free-inside f a (both-first (free f a) (free f b) (fare-clear f (ends f a b) a b h));
-  goals-inside = groundOf f goals .goals-inside;
-}
+withoutCorners f goals = ruledBy f goals (uncornered f)
 
 -- each move that the corners leave is a move without them, at the same cost
 move-stays : (f : Floor) (a b : ℕ) → 1 ≤ price f a b → (1 ≤ endsPrice f a b) × (endsPrice f a b ≤ price f a b)
 move-stays f a b h =
     let c = price-clear f a b h in
     let t : clear f a b ≡ ends f a b = is-true (clear f a b) c ∙ sym (is-true (ends f a b) (clear-ends f a b c)) in
-    let same : price f a b ≡ endsPrice f a b = price-fare f a b ∙ ap (λ t. fareBetween f t a b) t in
+    let same : price f a b ≡ endsPrice f a b = price-fare f a b ∙ ap (λ t. fareBetween f t (slowly f a b) a b) t in
     (omega (arith, same), omega (arith, same))
 
 module _ (f : Floor) (goals : List ℕ) (x : ℕ) (r : Reaches (netOf (groundOf f goals)) (Goal (groundOf f goals)) x) where

@@ -16,7 +16,8 @@ use Rattle.model.specs.Floor.{Floor, Sized, size, free, opening, goalsOf
 use Rattle.model.specs.Checks.{ceiling, figures}
 use Rattle.model.specs.Opening.{openTable}
 use Rattle.model.specs.TableFile.{halfAt, trailer, countIn, backIn, isLetters, trailerHolds, checkTrailer, findRecords, sameJob, cellIn, figureIn, recordFault, judgeRecords, changed}
-use Rattle.model.specs.TableFile.{readVerdict, recordsOf, trailerOf, fileOf, unlike, fileRoom, writeVerdict}
+use Rattle.model.specs.TableFile.{readVerdict, recordsOf, trailerOf, fileOf, unlike, writeVerdict}
+use Rattle.model.specs.Writing.{fileRoom}
 use Rattle.model.proofs.Moves.{both, both-of, free-below}
 use Rattle.model.proofs.Accepted.{then-done, fails, sizes-judges, scale-judges, bench-judges}
 

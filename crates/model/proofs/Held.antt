@@ -79,6 +79,21 @@ none-tells x (y ∷ ys) =
     at h zero l = h .0
     at h (suc k) l = h .1 k (omega arith)
 
+-- what stands in a list at a place is a member of it, and where it stands nowhere it is none
+pub member-at : (x : ℕ) (xs : List ℕ) (k : ℕ) → k < length xs → x ≡ getD xs k 0 → member x xs ≡ true
+member-at x xs k h e = by (member x xs) refl
+  where
+    by : (b : Bool) → member x xs ≡ b → b ≡ true
+    by true i = refl
+    by false i = absurd (none-tells x xs .holds (ap not i) k h e)
+
+pub no-member : (x : ℕ) (xs : List ℕ) → ((k : ℕ) → k < length xs → x ≡ getD xs k 0 → ⊥) → member x xs ≡ false
+no-member x xs h = by (member x xs) (none-tells x xs .shown h)
+  where
+    by : (b : Bool) → not b ≡ true → b ≡ false
+    by true i = sym i
+    by false i = refl
+
 distinct-tells : (xs : List ℕ) → Tells (distinct xs) ((a b : ℕ) → a < b → b < length xs → getD xs a 0 ≡ getD xs b 0 → ⊥)
 unfolding distinct
 distinct-tells [] = record { holds = λ e a b h l. absurd (omega arith); shown = λ h. refl }

@@ -9,6 +9,9 @@ pub mod Held
 pub mod Soundness
 pub mod Openings
 pub mod Refusals
+-- Document 02 on slow zones: beside ordinary cells distances only grow. And so the opening figures are sound.
+pub mod Compared
+pub mod SlowZones
 pub mod OpeningSound
 -- The lookahead: empty rings; what the definitions mean, in document 01's words.
 pub mod Rings
@@ -31,6 +34,11 @@ pub mod Files
 pub mod Records
 pub mod FirstFault
 pub mod RoundTrip
+-- Numbers in decimal. Floor text: its rows, and how long it is; its lines, read and written; the round trip.
+pub mod Digits
+pub mod FloorTexts
+pub mod FloorLines
+pub mod FloorRoundTrip
 -- The program `aisle`: which of its input's bytes decide, and what its trial lines tell.
 pub mod Cut
 pub mod Printed

@@ -23,7 +23,7 @@ use Rattle.learning.proofs.Look.{answer-if, walk-inside}
 use Rattle.learning.proofs.Routes.{route-chain, route-none, route-more, prior-least}
 use Rattle.answers.specs.declared.Job.{Job}
 use Rattle.model.specs.Basics.{member}
-use Rattle.model.specs.Floor.{Floor, size, Sized, price, ahead, allowed, goalsOf}
+use Rattle.model.specs.Floor.{Floor, size, Sized, doubled, slowly, price, ahead, allowed, goalsOf}
 use Rattle.model.specs.Checks.{floorOf, groundIn}
 use Rattle.model.specs.Lookahead.{seen, ring, w, emptyRing, newFigure, target, route}
 use Rattle.model.specs.Opening.{distances, reaches}
@@ -34,13 +34,15 @@ use Rattle.model.proofs.Soundness.{reaches-of, reaches-means}
 use Rattle.model.proofs.Rings.{Bare, empty-none, empty-some, empty-full, empty-of}
 use Rattle.model.specs.Grounds.{groundOf}
 
--- ---- "A move is allowed when the cell moved into is on the floor and free. A straight move costs 10, a diagonal one 14."
+-- ---- "A move is allowed when the cell moved into is on the floor and free. A straight move costs 10, a diagonal one 14.
+-- A move that begins or ends in a slow cell costs double, 20 or 28, the same each way."
 
 -- where there is a price, one of the eight moves leads there, and the price is that move's
-pub price-means : (f : Floor) → Sized f → (x y : ℕ) → 1 ≤ price f x y → (m : ℕ) × (m < 8) × (allowed f x m ≡ true) × (ahead f x m ≡ y) × (price f x y ≡ toll m)
+pub price-means : (f : Floor) → Sized f → (x y : ℕ) → 1 ≤ price f x y
+    → (m : ℕ) × (m < 8) × (allowed f x m ≡ true) × (ahead f x m ≡ y) × (price f x y ≡ doubled (slowly f x y) (toll m))
 price-means f z x y h =
     let (m, l, a, e) = price-move f z x y h in
-    (m, l, a, e, subst (λ c. price f x c ≡ toll m) e (price-toll f z x m l (allowed-inside f z x m a) (allowed-some f z x m a)))
+    (m, l, a, e, subst (λ c. price f x c ≡ doubled (slowly f x c) (toll m)) e (price-toll f z x m l (allowed-inside f z x m a) (allowed-some f z x m a)))
 
 -- ---- the goal
 

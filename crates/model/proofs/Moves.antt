@@ -13,8 +13,8 @@ use borrow.Author.Tests.{leb-true, eqb-true, le-leb, eq-eqb}
 use Rattle.learning.specs.Ground.{pick}
 use Rattle.learning.specs.Look.{lowest}
 use Rattle.learning.proofs.Look.{lowest-low, lowest-met}
-use Rattle.model.specs.Floor.{Floor, Sized, size, column, row, free, apart, tariff, fare, corner, clear, price, east, south, ahead, inside, allowed, heading, opposite, straight, diagonal}
-use Rattle.model.specs.Grounds.{clear-same, clear-corner, price-same, price-clear, price-free, free-inside}
+use Rattle.model.specs.Floor.{Floor, Sized, size, column, row, free, apart, doubled, slowly, tariff, fare, corner, clear, price, east, south, ahead, inside, allowed, heading, opposite, straight, diagonal}
+use Rattle.model.specs.Grounds.{clear-same, clear-corner, fareBetween, price-same, price-clear, price-free, free-inside}
 use Rattle.model.proofs.Cells.{cell-lt, cells-le, row-lt, col-at, row-at, cell-at}
 
 -- tests
@@ -62,12 +62,16 @@ pub odd-or-along : (m : ℕ) → m < 8 → (m % 2 ≡ 1) ⊎ ((east m ≡ 1) ⊎
 odd-or-along =
     all8 (λ m. (m % 2 ≡ 1) ⊎ ((east m ≡ 1) ⊎ (south m ≡ 1))) (inr (inl refl)) (inl refl) (inr (inr refl)) (inl refl) (inr (inl refl)) (inl refl) (inr (inr refl)) (inl refl)
 
--- a straight move costs 10, a diagonal one 14
+-- a straight move costs 10, a diagonal one 14, where neither end is slow
 abbrev pub toll : ℕ → ℕ
 toll m = getD (straight ∷ diagonal ∷ straight ∷ diagonal ∷ straight ∷ diagonal ∷ straight ∷ diagonal ∷ []) m 0
 
 toll-some : (m : ℕ) → m < 8 → 1 ≤ toll m
 toll-some = all8 (λ m. 1 ≤ toll m) (lit≤ tt) (lit≤ tt) (lit≤ tt) (lit≤ tt) (lit≤ tt) (lit≤ tt) (lit≤ tt) (lit≤ tt)
+
+pub doubled-some : (s : Bool) (n : ℕ) → 1 ≤ n → 1 ≤ doubled s n
+doubled-some true n h = omega arith
+doubled-some false n h = h
 
 -- by the columns and rows moved
 toll-tariff : (m : ℕ) → m < 8 → tariff (apart 1 (east m) + apart 1 (south m)) ≡ toll m
@@ -162,23 +166,25 @@ module _ (f : Floor) (x m : ℕ) where
 -- ---- the price: here and in `Grounds` alone it is unfolded, and nowhere else is it asked which cells must be free for it
 
 -- of a clear way
-clear-fare : (t : Bool) (dx dy : ℕ) → t ≡ true → dx ≤ 1 → dy ≤ 1 → fare t dx dy ≡ tariff (dx + dy)
-clear-fare t dx dy e p q = ap (λ s. pick s (tariff (dx + dy)) 0) (both-of (t && leb dx 1) (leb dy 1) (both-of t (leb dx 1) e (le-leb dx 1 p)) (le-leb dy 1 q))
+clear-fare : (t s : Bool) (dx dy : ℕ) → t ≡ true → dx ≤ 1 → dy ≤ 1 → fare t s dx dy ≡ doubled s (tariff (dx + dy))
+clear-fare t s dx dy e p q =
+    ap (λ k. pick k (doubled s (tariff (dx + dy))) 0) (both-of (leb dx 1 && leb dy 1) t (both-of (leb dx 1) (leb dy 1) (le-leb dx 1 p) (le-leb dy 1 q)) e)
 
 some-tariff : (n : ℕ) → 1 ≤ tariff n → 1 ≤ n
 some-tariff zero h = h
 some-tariff (suc n) h = omega arith
 
-picked : (t : Bool) (n : ℕ) → 1 ≤ pick t n 0 → (t ≡ true) × (1 ≤ n)
-picked true n h = (refl, h)
-picked false n h = absurd (omega arith)
+picked : (t s : Bool) (n : ℕ) → 1 ≤ pick t (doubled s n) 0 → (t ≡ true) × (1 ≤ n)
+picked true true n h = (refl, omega arith)
+picked true false n h = (refl, h)
+picked false s n h = absurd (omega arith)
 
--- what a price says: the cells are a column and a row apart at most, and it is the tariff of that
-pub record Priced (f : Floor) (a b : ℕ) : Type 0 where
+-- what a cost c of a move says, be it slow or not: the cells are a column and a row apart at most, and it is the tariff of that, doubled where the move is slow
+pub record Priced (f : Floor) (s : Bool) (a b c : ℕ) : Type 0 where
   pub columns : apart (column f a) (column f b) ≤ 1
   pub rows : apart (row f a) (row f b) ≤ 1
   pub some : 1 ≤ apart (column f a) (column f b) + apart (row f a) (row f b)
-  pub cost : price f a b ≡ tariff (apart (column f a) (column f b) + apart (row f a) (row f b))
+  pub cost : c ≡ doubled s (tariff (apart (column f a) (column f b) + apart (row f a) (row f b)))
 
 module _ (f : Floor) (a b : ℕ) where
   abbrev dx : ℕ
@@ -187,19 +193,22 @@ module _ (f : Floor) (a b : ℕ) where
   abbrev dy : ℕ
   dy = apart (row f a) (row f b)
 
-  clear-price : clear f a b ≡ true → dx ≤ 1 → dy ≤ 1 → price f a b ≡ tariff (dx + dy)
-  unfolding price
-  clear-price = clear-fare (clear f a b) dx dy
+  pub fared : (t s : Bool) → 1 ≤ fareBetween f t s a b → Priced f s a b (fareBetween f t s a b)
+  fared t s h =
+      let p = picked (leb dx 1 && leb dy 1 && t) s (tariff (dx + dy)) h in
+      let q = both (leb dx 1 && leb dy 1) t (p .0) in
+      let r = both (leb dx 1) (leb dy 1) (q .0) in
+      let x = leb-true dx 1 (r .0) in
+      let y = leb-true dy 1 (r .1) in
+      record { columns = x; rows = y; some = some-tariff (dx + dy) (p .1); cost = clear-fare t s dx dy (q .1) x y }
 
-  pub priced : 1 ≤ price f a b → Priced f a b
+  priced : 1 ≤ price f a b → Priced f (slowly f a b) a b (price f a b)
   unfolding price
-  priced h =
-      let p = picked (clear f a b && leb dx 1 && leb dy 1) (tariff (dx + dy)) h in
-      let q = both (clear f a b && leb dx 1) (leb dy 1) (p .0) in
-      let r = both (clear f a b) (leb dx 1) (q .0) in
-      let x = leb-true dx 1 (r .1) in
-      let y = leb-true dy 1 (q .1) in
-      record { columns = x; rows = y; some = some-tariff (dx + dy) (p .1); cost = clear-price (r .0) x y }
+  priced = fared (clear f a b) (slowly f a b)
+
+  clear-price : clear f a b ≡ true → dx ≤ 1 → dy ≤ 1 → price f a b ≡ doubled (slowly f a b) (tariff (dx + dy))
+  unfolding price
+  clear-price = clear-fare (clear f a b) (slowly f a b) dx dy
 
 near-one : (x e : ℕ) → 1 ≤ x + e → apart x (x + e - 1) ≡ apart 1 e
 near-one x e h = omega arith
@@ -221,7 +230,7 @@ near-le : (e : ℕ) → e ≤ 2 → apart 1 e ≤ 1
 near-le e h = omega arith
 
 module _ (f : Floor) (z : Sized f) where
-  -- the price of a move is its toll, where the way is clear
+  -- the price of a move is its toll, doubled where it begins or ends in a slow cell, where the way is clear
   ahead-columns : (x m : ℕ) → Inside f x m → apart (column f x) (column f (ahead f x m)) ≡ apart 1 (east m)
   ahead-columns x m i = ap (apart (column f x)) (ahead-column f x m i) ∙ near-one (column f x) (east m) (i .west)
 
@@ -231,13 +240,13 @@ module _ (f : Floor) (z : Sized f) where
   ahead-toll : (x m : ℕ) → m < 8 → Inside f x m → tariff (apart (column f x) (column f (ahead f x m)) + apart (row f x) (row f (ahead f x m))) ≡ toll m
   ahead-toll x m l i = ap₂ (λ dx dy. tariff (dx + dy)) (ahead-columns x m i) (ahead-rows x m i) ∙ toll-tariff m l
 
-  pub price-toll : (x m : ℕ) → m < 8 → Inside f x m → 1 ≤ price f x (ahead f x m) → price f x (ahead f x m) ≡ toll m
-  price-toll x m l i h = priced f x (ahead f x m) h .cost ∙ ahead-toll x m l i
+  pub price-toll : (x m : ℕ) → m < 8 → Inside f x m → 1 ≤ price f x (ahead f x m) → price f x (ahead f x m) ≡ doubled (slowly f x (ahead f x m)) (toll m)
+  price-toll x m l i h = priced f x (ahead f x m) h .cost ∙ ap (doubled (slowly f x (ahead f x m))) (ahead-toll x m l i)
 
-  pub price-ahead : (x m : ℕ) → m < 8 → Inside f x m → clear f x (ahead f x m) ≡ true → price f x (ahead f x m) ≡ toll m
+  pub price-ahead : (x m : ℕ) → m < 8 → Inside f x m → clear f x (ahead f x m) ≡ true → price f x (ahead f x m) ≡ doubled (slowly f x (ahead f x m)) (toll m)
   price-ahead x m l i q =
       clear-price f x (ahead f x m) q (omega (arith, ahead-columns x m i, near-le (east m) (east-le m l))) (omega (arith, ahead-rows x m i, near-le (south m) (south-le m l)))
-      ∙ ahead-toll x m l i
+      ∙ ap (doubled (slowly f x (ahead f x m))) (ahead-toll x m l i)
 
   -- a move is allowed just where it stays on the floor and has a price
   pub some-allowed : (x m : ℕ) → Inside f x m → 1 ≤ price f x (ahead f x m) → allowed f x m ≡ true
@@ -245,7 +254,7 @@ module _ (f : Floor) (z : Sized f) where
   some-allowed x m i h = both-of (inside f x m) (leb 1 (price f x (ahead f x m))) (inside-true f x m i) (le-leb 1 (price f x (ahead f x m)) h)
 
   pub allowed-true : (x m : ℕ) → m < 8 → Inside f x m → clear f x (ahead f x m) ≡ true → allowed f x m ≡ true
-  allowed-true x m l i q = some-allowed x m i (omega (arith, price-ahead x m l i q, toll-some m l))
+  allowed-true x m l i q = some-allowed x m i (omega (arith, price-ahead x m l i q, doubled-some (slowly f x (ahead f x m)) (toll m) (toll-some m l)))
 
   pub allowed-inside : (x m : ℕ) → allowed f x m ≡ true → Inside f x m
   unfolding allowed

@@ -1,11 +1,11 @@
--- The opening figures are sound: no move lowers the octile distance by more than its price, so no opening figure passes the true one.
--- And they are small, so no table of opening figures is refused by 5 or by 7. Assumes nothing.
+-- The opening figures are sound: no move between ordinary cells lowers the octile distance by more than its price, and slow cells only add
+-- to a distance, so no opening figure passes the true one. And they are small, so no table of opening figures is refused by 5 or by 7. Assumes nothing.
 use Prim.Native.Nat.{ℕ, zero, suc, _+_, _*_, _≤_, _<_, min}
 use mathlib.Core.Path.{_≡_, refl, sym, ap, ap₂, _∙_, subst}
 use mathlib.Core.Bool.{Bool, true, false, _||_}
 use mathlib.Core.Logic.{_⊎_, inl, inr}
 use mathlib.Core.List.{List, [], _∷_}
-use native.Mathlib.Nat.{mul-le-mul, mul-le-mul-left, mod-lt, min-eq-left, min-eq-right}
+use native.Mathlib.Nat.{le-trans, mul-le-mul, mul-le-mul-left, mod-lt, min-eq-left, min-eq-right}
 use native.Mathlib.Omega.{arith}
 use native.Mathlib.Decide.{decLe}
 use borrow.Author.Tests.{eqb-true, le-ltb}
@@ -19,12 +19,13 @@ use Rattle.learning.proofs.Ground.{on-floor, dist-least}
 use Rattle.answers.specs.declared.Job.{Job}
 use Rattle.answers.specs.declared.Verdict.the-variants as Vd
 use Rattle.model.specs.Basics.{member, then}
-use Rattle.model.specs.Floor.{Floor, size, Sized, column, row, free, apart, tariff, price, octile, opening, openingTable, straight, diagonal, goalsOf}
+use Rattle.model.specs.Floor.{Floor, size, Sized, column, row, free, apart, tariff, clear, octile, opening, openingTable, straight, diagonal, goalsOf}
 use Rattle.model.specs.Grounds.{groundOf}
 use Rattle.model.specs.Checks.{ceiling, floorOf, goals, groundIn, figures, finest}
 use Rattle.model.specs.Opening.{soundness, accepts}
 use Rattle.model.proofs.Cells.{row-lt}
-use Rattle.model.proofs.Moves.{priced, free-below}
+use Rattle.model.proofs.Moves.{fared, free-below}
+use Rattle.model.proofs.SlowZones.{ordinaryPrice, asOrdinary, reached-as-ordinary, slow-distances-only-grow}
 use Rattle.model.proofs.Accepted.{then-next, figures-done, places-judges}
 use Rattle.model.proofs.Soundness.{CanReach, Above, sound}
 
@@ -48,7 +49,7 @@ opening-high f some narrow low q g x fine hg hx =
 pub opening-within : (f : Floor) (q g x : ℕ) → Sized f → q ≤ 16 → g < size f → x < size f → opening f q (goalsOf g) x ≤ ceiling
 opening-within f q g x z fine hg hx = omega (arith, opening-high f (z .wide) (z .narrow) (z .low) q g x fine hg hx)
 
--- ---- no move lowers the octile distance by more than its price
+-- ---- no move between ordinary cells lowers the octile distance by more than its price
 
 -- of dx columns and dy rows
 span : ℕ → ℕ → ℕ
@@ -98,10 +99,10 @@ module _ (f : Floor) where
   opening-scale q (g ∷ []) x = octile-scale q g x
   opening-scale q (g ∷ h ∷ gs) x = ap₂ min (octile-scale q g x) (opening-scale q (h ∷ gs) x) ∙ min-scale q (octile f 1 g x) (opening f 1 (h ∷ gs) x)
 
-  octile-covers : (g a b : ℕ) → 1 ≤ price f a b → octile f 1 g a ≤ price f a b + octile f 1 g b
+  octile-covers : (g a b : ℕ) → 1 ≤ ordinaryPrice f a b → octile f 1 g a ≤ ordinaryPrice f a b + octile f 1 g b
   unfolding octile span
   octile-covers g a b h =
-      let p = priced f a b h in
+      let p = fared f a b (clear f a b) false h in
       omega (
         arith,
         p .cost,
@@ -109,7 +110,7 @@ module _ (f : Floor) where
             (apart (row f b) (row f g)) (p .columns) (p .rows) (p .some) (triangle (column f a) (column f b) (column f g)) (triangle (row f a) (row f b) (row f g)),
       )
 
-  covers : (gs : List ℕ) (a b : ℕ) → 1 ≤ price f a b → opening f 1 gs a ≤ price f a b + opening f 1 gs b
+  covers : (gs : List ℕ) (a b : ℕ) → 1 ≤ ordinaryPrice f a b → opening f 1 gs a ≤ ordinaryPrice f a b + opening f 1 gs b
   unfolding opening
   covers [] a b h = omega arith
   covers (g ∷ []) a b h = octile-covers g a b h
@@ -133,13 +134,18 @@ module _ (f : Floor) where
       by rest (inl e) = omega (arith, subst (λ y. octile f 1 g y ≤ 0) (sym (eqb-true z g e)) (octile-here g))
       by rest (inr h) = omega (arith, rest h)
 
-  -- no opening figure passes the true figure
+  -- no opening figure passes what would be the true figure, were slow cells ordinary ones
+  ordinary-low : (gs : List ℕ) (x : ℕ) → Reaches (netOf (asOrdinary f gs)) (Goal (asOrdinary f gs)) x → opening f 1 gs x ≤ distOf (asOrdinary f gs) x
+  ordinary-low gs x r =
+      let G = asOrdinary f gs in
+      let (z, g, (n, w)) = dist-least G x r .met in
+      closed-low {N = netOf G} {S = Any} {Goal = Goal G} (opening f 1 gs) (λ y t. at-goal gs y (second-true (ltb y (size f)) (member y gs) t))
+      (λ a b c s e. omega (arith, e .0, e .1, covers gs a b (omega (arith, e .0, e .1)))) g w
+
+  -- so none passes the true figure, which is no less
   pub opening-low : (q : ℕ) (gs : List ℕ) (x : ℕ) → Reaches (netOf (groundOf f gs)) (Goal (groundOf f gs)) x → opening f q gs x ≤ q * distOf (groundOf f gs) x
   opening-low q gs x r =
-      let (z, g, (n, w)) = dist-least (groundOf f gs) x r .met in
-      let low =
-      closed-low {N = netOf (groundOf f gs)} {S = Any} {Goal = Goal (groundOf f gs)} (opening f 1 gs) (λ y t. at-goal gs y (second-true (ltb y (size f)) (member y gs) t))
-      (λ a b c s e. omega (arith, e .0, e .1, covers gs a b (omega (arith, e .0, e .1)))) g w in
+      let low = le-trans (ordinary-low gs x (reached-as-ordinary f gs x r)) (slow-distances-only-grow f gs x r) in
       omega (arith, opening-scale q gs x, mul-le-mul-left q low)
 
 -- ---- a table of opening figures

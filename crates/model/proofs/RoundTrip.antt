@@ -16,7 +16,8 @@ use Rattle.model.specs.Floor.{Floor, size, opening, openingTable, goalsO
 use Rattle.model.specs.Checks.{ceiling}
 use Rattle.model.specs.Opening.{openTable}
 use Rattle.model.specs.TableFile.{half, word, halfAt, wordAt, trailer, countIn, backIn, isLetters, findRecords, judgeRecords, applied, readVerdict, readOf, readTable, changed, recordsOf}
-use Rattle.model.specs.TableFile.{trailerOf, fileOf, unlike, fileRoom, writeVerdict}
+use Rattle.model.specs.TableFile.{trailerOf, fileOf, unlike, writeVerdict}
+use Rattle.model.specs.Writing.{fileRoom}
 use Rattle.model.proofs.Cells.{cells-le}
 use Rattle.model.proofs.Moves.{both}
 use Rattle.model.proofs.Accepted.{then-next, figures-done, figures-accepted, naming-done, naming-none}

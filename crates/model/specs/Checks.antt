@@ -26,7 +26,7 @@ largestQuota = 1000000
 abbrev pub farthest : ℕ
 farthest = dearestPrice * 4095
 
--- Ceiling for any figure 917,280 (14 × 4,095 × 16)
+-- "The ceiling becomes 1,834,560": 28 × 4,095 × 16
 abbrev pub ceiling : ℕ
 ceiling = farthest * finest
 

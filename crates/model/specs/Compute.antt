@@ -4,15 +4,17 @@ use Rattle.learning.specs.Ground.{settle, spread, distsOf, reachOf, distOf, vie
 use Rattle.learning.specs.Look.{bestOn, newOver, targetOver, newIn, targetIn}
 use Rattle.learning.specs.Route.{priorIn, routeFrom, routeIn}
 use Rattle.model.specs.Basics.{every, member, distinct, naming}
-use Rattle.model.specs.Floor.{free, clear, price, ahead, inside, allowed, heading, octile, opening, openingTable}
+use Rattle.model.specs.Floor.{free, slow, clear, price, ahead, inside, allowed, heading, octile, opening, openingTable}
 use Rattle.model.specs.Checks.{sizes, pathRoom, settings, scale, benches, places, figures}
 use Rattle.model.specs.Lookahead.{emptyRing, movesAlong}
 use Rattle.model.specs.Decision.{movesRoom, stateHolds, judge, forward, backOut, stay, goBack, learn, act, decide}
 use Rattle.model.specs.Opening.{soundness, accepts, openJob, openTrial, reportsRoom, trialsHold, openRun, openTable}
 use Rattle.model.specs.Ride.{next, rideFrom, bound, ride, kept, trial, courseFrom, run}
 use Rattle.model.specs.TableFile.{trailerHolds, checkTrailer, findRecords, sameJob, recordFault, judgeRecords, applied, readVerdict, readTable, changed, recordsOf, trailerOf, fileOf}
-use Rattle.model.specs.TableFile.{unlike, fileRoom, writeVerdict, writeTable}
+use Rattle.model.specs.TableFile.{unlike, writeVerdict, writeTable}
+use Rattle.model.specs.Writing.{fileRoom}
 use Rattle.model.specs.FloorText.{begins, sizeIn, header, rowHolds, rows, cellsOf, floorVerdict, readFloor}
+use Rattle.model.specs.FloorWritten.{rowsOf, textOf, textVerdict, writeFloor}
 use Rattle.model.specs.Line.{numbersIn, afterLine, readLine, decimalIn, movesField, trialLine, trialLines, courseLines, refusalLine, judgeAisle, aisle}
 
 unfoldable pub compute : Unit {0}
@@ -20,7 +22,7 @@ unfolding decLe ℕ-discrete
     settle spread distsOf reachOf distOf viewOf ringOf lastOf legOf
     bestOn newOver targetOver newIn targetIn priorIn routeFrom routeIn
     every member distinct naming
-    free clear price ahead inside allowed heading octile opening openingTable
+    free slow clear price ahead inside allowed heading octile opening openingTable
     sizes pathRoom settings scale benches places figures
     emptyRing movesAlong
     movesRoom stateHolds judge forward backOut stay goBack learn act decide
@@ -28,5 +30,6 @@ unfolding decLe ℕ-discrete
     next rideFrom bound ride kept trial courseFrom run
     trailerHolds checkTrailer findRecords sameJob recordFault judgeRecords applied readVerdict readTable changed recordsOf trailerOf fileOf unlike fileRoom writeVerdict writeTable
     begins sizeIn header rowHolds rows cellsOf floorVerdict readFloor
+    rowsOf textOf textVerdict writeFloor
     numbersIn afterLine readLine decimalIn movesField trialLine trialLines courseLines refusalLine judgeAisle aisle
 compute = tt

@@ -1,7 +1,7 @@
 -- Floor, moves, distance.
 use Prim.Native.Nat.{ℕ, zero, suc, _+_, _-_, _*_, _/_, _%_, _≤_, min}
 use mathlib.Core.Path.{_≡_}
-use mathlib.Core.Bool.{Bool, _&&_}
+use mathlib.Core.Bool.{Bool, true, false, _&&_, _||_}
 use mathlib.Core.List.{List, [], _∷_}
 use lib.Dec.{ltb, leb, eqb}
 use lib.ListN.{length, getD}
@@ -31,9 +31,24 @@ column f x = x % f .width
 abbrev pub row : Floor → ℕ → ℕ
 row f x = x / f .width
 
--- a floor byte 0 is free; every other byte is blocked
+-- a floor byte 0 is free, "the floor byte 2 means slow and free", and 1, as every other byte, is blocked
+abbrev pub plainByte : ℕ
+plainByte = 0
+
+abbrev pub blockedByte : ℕ
+blockedByte = 1
+
+abbrev pub slowByte : ℕ
+slowByte = 2
+
+abbrev pub freeByte : ℕ → Bool
+freeByte b = eqb b plainByte || eqb b slowByte
+
 unfoldable pub free : Floor → ℕ → Bool
-free f x = ltb x (size f) && eqb (getD (f .bytes) x 0) 0
+free f x = ltb x (size f) && freeByte (getD (f .bytes) x 0)
+
+unfoldable pub slow : Floor → ℕ → Bool
+slow f x = eqb (getD (f .bytes) x 0) slowByte
 
 -- how far apart two numbers are
 abbrev pub apart : ℕ → ℕ → ℕ
@@ -46,12 +61,20 @@ straight = 10
 abbrev pub diagonal : ℕ
 diagonal = 14
 
+-- "A move that begins or ends in a slow cell costs double, 20 or 28, the same each way": what it costs where it would cost n without
+abbrev pub doubled : (slow : Bool) → ℕ → ℕ
+doubled true n = 2 * n
+doubled false n = n
+
+abbrev pub slowly : Floor → ℕ → ℕ → Bool
+slowly f a b = slow f a || slow f b
+
 -- the least and the dearest price of a move: what is bounded by a price is bounded by these
 abbrev pub leastPrice : ℕ
 leastPrice = straight
 
 abbrev pub dearestPrice : ℕ
-dearestPrice = diagonal
+dearestPrice = doubled true diagonal
 
 -- by the columns and rows moved, together
 abbrev pub tariff : ℕ → ℕ
@@ -61,8 +84,8 @@ tariff (suc (suc zero)) = diagonal
 tariff (suc (suc (suc n))) = 0
 
 -- of two cells dx columns and dy rows apart: the cost of the move from one to the other where the way is clear, and 0 where there is none
-abbrev pub fare : Bool → ℕ → ℕ → ℕ
-fare clear dx dy = pick (clear && leb dx 1 && leb dy 1) (tariff (dx + dy)) 0
+abbrev pub fare : (clear slow : Bool) → ℕ → ℕ → ℕ
+fare clear slow dx dy = pick (leb dx 1 && leb dy 1 && clear) (doubled slow (tariff (dx + dy))) 0
 
 -- the cell in the row of a and the column of b: a straight cell beside the diagonal from a to b, the other one being that of b and a; of a straight move an end
 abbrev pub corner : Floor → ℕ → ℕ → ℕ
@@ -74,7 +97,7 @@ clear f a b = (free f a && free f b) && (free f (corner f a b) && free f (corner
 
 -- the cost of the move from a to b, and 0 where no move from a leads to b: THE definition of movement, all else follows it
 unfoldable pub price : Floor → ℕ → ℕ → ℕ
-price f a b = fare (clear f a b) (apart (column f a) (column f b)) (apart (row f a) (row f b))
+price f a b = fare (clear f a b) (slowly f a b) (apart (column f a) (column f b)) (apart (row f a) (row f b))
 
 -- the eight moves, 0 N, 1 NE, 2 E, 3 SE, 4 S, 5 SW, 6 W, 7 NW: how far each goes east and south, counted so that 1 is not at all
 abbrev pub east : ℕ → ℕ

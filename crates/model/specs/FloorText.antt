@@ -10,6 +10,7 @@ use Rattle.answers.specs.declared.Verdict.the-variants as Vd
 use Rattle.answers.specs.declared.FloorRead.{FloorRead}
 use Rattle.answers.specs.declared.FloorRead.the-variants as Fr
 use Rattle.model.specs.Basics.{choose, between, every, then, refuseAt, unless}
+use Rattle.model.specs.Floor.{plainByte, blockedByte, slowByte}
 
 abbrev pub LF : ℕ
 LF = 10
@@ -65,19 +66,25 @@ unfoldable pub header : List ℕ → Verdict
 header text =
     unless (begins typeAndHeight text && leb 1 (heightIn text) && begins andWidth (afterHeight text) && leb 1 (widthIn text) && begins andMap (afterWidth text)) 11
 
--- `.` and `G` are free, byte 0; `@`, `O`, `T` blocked, byte 1; any other letter is refused
+-- `.` and `G` are free, byte 0; "charging lanes are marked `S`", byte 2; `@`, `O`, `T` blocked, byte 1; any other letter is refused
 abbrev pub freeLetter : ℕ → Bool
 freeLetter b = eqb b 46 || eqb b 71
+
+abbrev pub slowLetter : ℕ → Bool
+slowLetter b = eqb b 83
 
 abbrev pub blockedLetter : ℕ → Bool
 blockedLetter b = eqb b 64 || eqb b 79 || eqb b 84
 
+abbrev pub isLetter : ℕ → Bool
+isLetter b = freeLetter b || slowLetter b || blockedLetter b
+
 abbrev pub byteOf : ℕ → ℕ
-byteOf b = choose (freeLetter b) 0 1
+byteOf b = choose (freeLetter b) plainByte (choose (slowLetter b) slowByte blockedByte)
 
 -- a row at the front of a text: its letters and its LF
 unfoldable pub rowHolds : ℕ → List ℕ → Bool
-rowHolds width text = leb (suc width) (length text) && every (λ b. freeLetter b || blockedLetter b) (take width text) && eqb (getD text width 0) LF
+rowHolds width text = leb (suc width) (length text) && every isLetter (take width text) && eqb (getD text width 0) LF
 
 -- 12: n rows and nothing after them, the first on the given line; names the first faulty line
 unfoldable pub rows : (width n line : ℕ) → (text : List ℕ) → Verdict

@@ -7,12 +7,11 @@ use lib.ListN.{length, getD, set, take, drop}
 use Rattle.answers.specs.declared.Place.the-variants as P
 use Rattle.answers.specs.declared.Verdict.{Verdict}
 use Rattle.answers.specs.declared.Verdict.the-variants as Vd
-use Rattle.answers.specs.declared.Written.{Written}
-use Rattle.answers.specs.declared.Written.the-variants as Wr
 use Rattle.model.specs.Basics.{choose, then, refuseAt, unless, naming}
 use Rattle.model.specs.Floor.{Floor, size, free, opening, openingTable}
 use Rattle.model.specs.Checks.{ceiling, figures}
 use Rattle.model.specs.Opening.{openTable}
+use Rattle.model.specs.Writing.{fileRoom, WriteOutcome, writeOf}
 
 -- a number of 2 bytes and one of 4: read at a place, and written
 abbrev pub halfAt : List ℕ → ℕ → ℕ
@@ -126,14 +125,11 @@ trailerOf f q gs count =
 unfoldable pub fileOf : Floor → ℕ → List ℕ → (table : List ℕ) → List ℕ
 fileOf f q gs table = let cells = changed f q gs table (size f) 0 in recordsOf table cells ++ trailerOf f q gs (length cells)
 
--- 16: a free cell below its opening figure, or a blocked one unlike it; names the lowest. 17: no room
+-- 16: a free cell below its opening figure, or a blocked one unlike it; names the lowest
 unfoldable pub unlike : Floor → ℕ → List ℕ → (table : List ℕ) → ℕ → Bool
 unlike f q gs table x =
     let figure = getD table x 0 in
     choose (free f x) (ltb figure (opening f q gs x)) (not (eqb figure (opening f q gs x)))
-
-unfoldable pub fileRoom : (bytes room : ℕ) → Verdict
-fileRoom bytes room = unless (leb bytes room) 17
 
 unfoldable pub writeVerdict : Floor → ℕ → List ℕ → (table : List ℕ) → (room : ℕ) → Verdict
 writeVerdict f q gs table room =
@@ -142,14 +138,6 @@ writeVerdict f q gs table room =
     (then (naming (size f) (unlike f q gs table) 16)
     (fileRoom (length (fileOf f q gs table)) room)))
 
--- All that writing answers and leaves: it fills the list from the first byte, answers the length and touches nothing beyond.
-pub record WriteOutcome : Type 0 where
-  pub answer : Written
-  pub buffer : List ℕ
-
-abbrev pub writeOf : Verdict → (file buffer : List ℕ) → WriteOutcome
-writeOf Vd.Done file buffer = record { answer = Wr.Length (length file); buffer = file ++ drop (length file) buffer }
-writeOf (Vd.Refused r) file buffer = record { answer = Wr.Refused r; buffer = buffer }
-
+-- It fills the list from the first byte, answers the length and touches nothing beyond.
 unfoldable pub writeTable : Floor → ℕ → List ℕ → (table buffer : List ℕ) → WriteOutcome
 writeTable f q gs table buffer = writeOf (writeVerdict f q gs table (length buffer)) (fileOf f q gs table) buffer

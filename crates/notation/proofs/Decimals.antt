@@ -8,24 +8,16 @@ use native.Mathlib.Nat.{add-suc, add-zero, suc-add}
 use native.Mathlib.Decide.{decLe}
 use native.Mathlib.Numerals.{add-one}
 use native.Mathlib.Omega.{arith}
-use borrow.Author.Tests.{le-leb, lt-leb}
 use lib.Dec.{leb}
 use lib.ListN.{length, getD, set, take, length-append}
 use lib.Seq.{sets, take-all, take-suc, length-take-le}
 use Rattle.model.specs.Line.{decimalIn, decimal, field}
+use Rattle.model.proofs.Digits.{one-digit, last-digit}
 use Rattle.notation.specs.Printing.{Printed}
 
 unfoldable pub tens : ℕ → ℕ
 tens zero = 1
 tens (suc n) = 10 * tens n
-
-one-digit : (most n : ℕ) → n ≤ 9 → decimalIn (suc most) n ≡ (48 + n) ∷ []
-unfolding decimalIn
-one-digit most n h = rw (le-leb n 9 h, decimalIn)
-
-last-digit : (most n : ℕ) → 9 < n → decimalIn (suc most) n ≡ decimalIn most (n / 10) ++ (48 + n % 10) ∷ []
-unfolding decimalIn
-last-digit most n h = rw (lt-leb n 9 h, decimalIn)
 
 tens-down : (d n : ℕ) → n < tens (suc d) → n / 10 < tens d
 unfolding tens

@@ -3,11 +3,13 @@ pub mod Cases
 pub mod More
 -- Cases for what these and the laws leave open:
 pub mod PinsDecision
+pub mod PinsSlow
 pub mod PinsChecks
 pub mod PinsOpening
 pub mod PinsRide
 pub mod PinsTable
 pub mod PinsText
+pub mod PinsFloorWritten
 pub mod PinsLine
 pub mod PinsSays
 -- What they share:

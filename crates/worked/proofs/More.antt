@@ -18,14 +18,14 @@ use Rattle.worked.proofs.Cases.{Opens}
 use Rattle.worked.proofs.Text.{bytes}
 
 pub record More : Type 0 where
-  -- True distances: 1:10, 2:20, 5:30, 7:50, 6:60, 8:40 (5, 7, 6 and 8 had 24, 38, 48 and 34); 127 stands for a cell that has none.
-  pub distance : distances (job 1 1 1 0) hall ≡ 0 ∷ 10 ∷ 20 ∷ 127 ∷ 127 ∷ 30 ∷ 60 ∷ 50 ∷ 40 ∷ []
+  -- True distances: 1:10, 2:20, 5:30, 7:50, 6:60, 8:40 (5, 7, 6 and 8 had 24, 38, 48 and 34); 253 stands for a cell that has none.
+  pub distance : distances (job 1 1 1 0) hall ≡ 0 ∷ 10 ∷ 20 ∷ 253 ∷ 253 ∷ 30 ∷ 60 ∷ 50 ∷ 40 ∷ []
   -- One row `.@.`, current 0, goal 2: 9.
   pub nine : decide (rowJob 3 2 1 0) (0 ∷ 1 ∷ 0 ∷ []) (state 0 0 0) (20 ∷ 10 ∷ 0 ∷ []) fresh buffer 0
       ≡ leaves (refuses 9 P.Nowhere) (state 0 0 0) (20 ∷ 10 ∷ 0 ∷ []) fresh buffer
-  -- One row `..@.`, d 1, current 0, goal 3, cells 0 and 1 at 917,280: 10.
-  pub ten : decide (rowJob 4 3 1 0) (0 ∷ 0 ∷ 1 ∷ 0 ∷ []) (state 0 0 0) (917280 ∷ 917280 ∷ 10 ∷ 0 ∷ []) fresh buffer 0
-      ≡ leaves (refuses 10 P.Nowhere) (state 0 0 0) (917280 ∷ 917280 ∷ 10 ∷ 0 ∷ []) fresh buffer
+  -- One row `..@.`, d 1, current 0, goal 3, cells 0 and 1 at 1,834,560: 10.
+  pub ten : decide (rowJob 4 3 1 0) (0 ∷ 0 ∷ 1 ∷ 0 ∷ []) (state 0 0 0) (1834560 ∷ 1834560 ∷ 10 ∷ 0 ∷ []) fresh buffer 0
+      ≡ leaves (refuses 10 P.Nowhere) (state 0 0 0) (1834560 ∷ 1834560 ∷ 10 ∷ 0 ∷ []) fresh buffer
   -- d 0 or 9, p 2 with q 1: 3.
   pub depth-0 : Opens (job 0 1 1 1000) hall 6 figures (no 3 P.Nowhere)
   pub depth-9 : Opens (job 9 1 1 1000) hall 6 figures (no 3 P.Nowhere)

@@ -22,7 +22,7 @@ Short bytes table path moves from number = Refused (job 9 1 1 1000) bytes (state
 
 -- 4 and a figure above the ceiling
 abbrev Off : Job → ℕ → Type 0
-Off j current = Refused j hall (state current 0 0) (set figures 8 917281) fresh buffer 0 4 P.Nowhere
+Off j current = Refused j hall (state current 0 0) (set figures 8 1834561) fresh buffer 0 4 P.Nowhere
 
 abbrev goalAt : ℕ → Job
 goalAt goal = record { width = 3; height = 3; goal = goal; depth = 1; p = 1; q = 1; quota = 1000 }
@@ -55,8 +55,8 @@ pub record PinsChecks : Type 0 where
   pub goal-blocked : Off (goalAt 4) 6
   pub goal-off : Off (goalAt 9) 6
   -- 5: a table figure above the ceiling, at a blocked cell too; names the lowest such cell; before 8 and done
-  pub above : Refused (job 1 1 1 10) hall (state 0 11 0) (set (set figures 3 917281) 8 917281) fresh buffer 0 5 (P.Cell 3)
-  pub at-ceiling : decide (job 1 1 1 1000) hall (state 6 0 0) (set (set figures 3 917280) 1 917280) fresh buffer 0 .answer ≡ A.Forward 7 14 1
+  pub above : Refused (job 1 1 1 10) hall (state 0 11 0) (set (set figures 3 1834561) 8 1834561) fresh buffer 0 5 (P.Cell 3)
+  pub at-ceiling : decide (job 1 1 1 1000) hall (state 6 0 0) (set (set figures 3 1834560) 1 1834560) fresh buffer 0 .answer ≡ A.Forward 7 14 1
   -- 8: u above q × T; before done
   pub u-above : Refused (job 1 1 2 5) hall (state 0 11 0) figures fresh buffer 0 8 P.Nowhere
   pub u-meets : decide (job 1 1 2 5) hall (state 0 10 0) figures fresh buffer 0 .answer ≡ A.Arrived
@@ -77,11 +77,11 @@ pub record PinsChecks : Type 0 where
   -- 9 before 8's backing-out part: with quota 0 the cell taken off, 2, could not be gone back to
   pub nine-eight : Refused (rowJob 4 3 1 0) (0 ∷ 1 ∷ 0 ∷ 0 ∷ []) (state 0 0 1) (0 ∷ 0 ∷ 0 ∷ 0 ∷ []) (2 ∷ fresh) buffer 0 9 P.Nowhere
   -- 10: the new figure is greater than the one stored, and passes the ceiling
-  pub ten : Refused (rowJob 4 3 1 1000000) (0 ∷ 0 ∷ 1 ∷ 0 ∷ []) (state 0 0 0) (0 ∷ 917271 ∷ 0 ∷ 0 ∷ []) fresh buffer 0 10 P.Nowhere
-  pub meets-ceiling : decide (rowJob 4 3 1 1000000) (0 ∷ 0 ∷ 1 ∷ 0 ∷ []) (state 0 0 0) (0 ∷ 917270 ∷ 0 ∷ 0 ∷ []) fresh buffer 0
-      ≡ leaves (A.Forward 1 917280 1) (state 1 917280 1) (917280 ∷ 917270 ∷ 0 ∷ 0 ∷ []) (0 ∷ replicate 8 77) (2 ∷ replicate 289 9)
+  pub ten : Refused (rowJob 4 3 1 1000000) (0 ∷ 0 ∷ 1 ∷ 0 ∷ []) (state 0 0 0) (0 ∷ 1834551 ∷ 0 ∷ 0 ∷ []) fresh buffer 0 10 P.Nowhere
+  pub meets-ceiling : decide (rowJob 4 3 1 1000000) (0 ∷ 0 ∷ 1 ∷ 0 ∷ []) (state 0 0 0) (1000000 ∷ 1834550 ∷ 0 ∷ 0 ∷ []) fresh buffer 0
+      ≡ leaves (A.Forward 1 834560 1) (state 1 834560 1) (1834560 ∷ 1834550 ∷ 0 ∷ 0 ∷ []) (0 ∷ replicate 8 77) (2 ∷ replicate 289 9)
   -- number 8's backing-out part comes after 10: the current cell not on the last ring of the cell taken off
-  pub ten-eight : Refused (rowJob 5 4 1 0) (0 ∷ 0 ∷ 0 ∷ 1 ∷ 0 ∷ []) (state 0 0 1) (0 ∷ 917280 ∷ 0 ∷ 0 ∷ 0 ∷ []) (2 ∷ fresh) buffer 0 10 P.Nowhere
+  pub ten-eight : Refused (rowJob 5 4 1 0) (0 ∷ 0 ∷ 0 ∷ 1 ∷ 0 ∷ []) (state 0 0 1) (0 ∷ 1834560 ∷ 0 ∷ 0 ∷ 0 ∷ []) (2 ∷ fresh) buffer 0 10 P.Nowhere
   -- and leaves the table as lent: too far, too near, and where a ring of the cell taken off is empty
   pub back-far : Refused (rowJob 5 4 1 0) (0 ∷ 0 ∷ 0 ∷ 1 ∷ 0 ∷ []) (state 0 0 1) (0 ∷ 0 ∷ 0 ∷ 0 ∷ 0 ∷ []) (2 ∷ fresh) buffer 0 8 P.Nowhere
   pub back-near : Refused (rowJob 5 4 2 0) (0 ∷ 0 ∷ 0 ∷ 0 ∷ 0 ∷ []) (state 1 0 1) (0 ∷ 0 ∷ 0 ∷ 0 ∷ 0 ∷ []) (0 ∷ fresh) buffer 0 8 P.Nowhere

@@ -82,8 +82,10 @@ pub record PinsDecision : Type 0 where
   -- and no move leads from the end of a row to the next one's first cell
   pub no-wrap : decide (record { width = 3; height = 2; goal = 3; depth = 1; p = 1; q = 1; quota = 0 }) (1 ∷ 1 ∷ 0 ∷ 0 ∷ 1 ∷ 1 ∷ []) (state 2 0 0) (replicate 6 0) fresh buffer 0 .answer
       ≡ refuses 9 P.Nowhere
-  -- A floor byte 0 is free; every other byte is blocked
-  pub byte-2 : decide (rowJob 3 2 1 0) (0 ∷ 2 ∷ 0 ∷ []) (state 0 0 0) (0 ∷ 0 ∷ 0 ∷ []) fresh buffer 0 .answer ≡ refuses 9 P.Nowhere
+  -- A floor byte 0 is free, 2 is slow and free, every other is blocked
+  pub byte-2 : decide (rowJob 3 2 1 20) (0 ∷ 2 ∷ 0 ∷ []) (state 0 0 0) (0 ∷ 0 ∷ 0 ∷ []) fresh buffer 0 .answer ≡ A.Forward 1 20 1
+  pub byte-3 : decide (rowJob 3 2 1 20) (0 ∷ 3 ∷ 0 ∷ []) (state 0 0 0) (0 ∷ 0 ∷ 0 ∷ []) fresh buffer 0 .answer ≡ refuses 9 P.Nowhere
+  pub byte-255 : decide (rowJob 3 2 1 20) (0 ∷ 255 ∷ 0 ∷ []) (state 0 0 0) (0 ∷ 0 ∷ 0 ∷ []) fresh buffer 0 .answer ≡ refuses 9 P.Nowhere
   -- The last ring m is d, or the goal's ring if that is smaller: beside the goal the true figure isn't raised
   pub beside-goal : on (job 2 1 1 1000) (state 1 0 0) figures fresh ≡ leaves (A.Forward 0 0 1) (state 0 0 1) figures (path1 1) (6 ∷ replicate 289 9)
   pub goal-seen : on (job 8 1 1 1000) (state 6 0 0) figures fresh .answer ≡ A.Forward 0 40 6
@@ -159,6 +161,8 @@ pinsDecision = record {
   edge-south-east = refl;
   no-wrap = refl;
   byte-2 = refl;
+  byte-3 = refl;
+  byte-255 = refl;
   beside-goal = refl;
   goal-seen = refl;
   goal-first = refl;

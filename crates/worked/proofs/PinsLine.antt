@@ -47,7 +47,7 @@ pub record PinsLine : Type 0 where
   pub trials-0 : prints "6 0 1 1 1 0 0\n" "x" ≡ bytes "refused 3\n"
   pub trials-1001 : prints "6 0 1 1 1 0 1001\n" "x" ≡ bytes "refused 3\n"
   pub header : prints "9 9\n" "x" ≡ bytes "refused 11\n"
-  pub row : prints "9 9\n" "type octile\nheight 1\nwidth 2\nmap\n.S\n" ≡ bytes "refused 12 5\n"
+  pub row : prints "9 9\n" "type octile\nheight 1\nwidth 2\nmap\n.W\n" ≡ bytes "refused 12 5\n"
   pub start-off : prints "2 1\n" "type octile\nheight 1\nwidth 2\nmap\n..\n" ≡ bytes "refused 4\n"
   pub no-walk : prints "0 2\n" "type octile\nheight 1\nwidth 3\nmap\n.@.\n" ≡ bytes "refused 6\n"
   -- the greatest floor has room: 12, not 2

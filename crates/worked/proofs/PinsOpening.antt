@@ -82,11 +82,11 @@ pub record PinsOpening : Type 0 where
   -- opening a job: 1 before 3 before 4 before 5 before 6 before 7
   pub job-1-3 : openJob (job 0 1 1 0) hall 6 (take 8 figures) ≡ no 1 P.Nowhere
   pub job-3-4 : openJob (job 0 1 1 0) hall 3 figures ≡ no 3 P.Nowhere
-  pub job-4-5 : openJob (goalAt 0) hall 3 (set figures 8 917281) ≡ no 4 P.Nowhere
+  pub job-4-5 : openJob (goalAt 0) hall 3 (set figures 8 1834561) ≡ no 4 P.Nowhere
   pub start-off : openJob (goalAt 0) hall 9 figures ≡ no 4 P.Nowhere
   pub goal-blocked : openJob (goalAt 4) hall 6 figures ≡ no 4 P.Nowhere
   pub goal-off : openJob (goalAt 9) hall 6 figures ≡ no 4 P.Nowhere
-  pub job-5-6 : openJob (goalAt 0) shut 6 (set (set figures 5 917281) 8 917281) ≡ no 5 (P.Cell 5)
+  pub job-5-6 : openJob (goalAt 0) shut 6 (set (set figures 5 1834561) 8 1834561) ≡ no 5 (P.Cell 5)
   pub job-6-7 : openJob (goalAt 0) shut 6 (set figures 1 11) ≡ no 6 P.Nowhere
   -- 7: a cell that can reach the goal is above its true figure; names the lowest
   pub seven-lowest : openJob (goalAt 0) hall 6 (set (set figures 7 51) 5 31) ≡ no 7 (P.Cell 5)
@@ -97,24 +97,24 @@ pub record PinsOpening : Type 0 where
   pub seven-met : openJob (job 1 1 2 0) hall 6 (set (openingOf (job 1 1 2 0) hall) 7 100) ≡ Vd.Done
   -- 6: no walk from the start, here since each diagonal from it passes two blocked cells
   pub shut-in : openJob (goalAt 0) boxed 4 figures ≡ no 6 P.Nowhere
-  -- a true distance is 14 by a diagonal, and 20 by two straights where a cell beside the diagonal is blocked; with both blocked there is none (57 stands for that)
+  -- a true distance is 14 by a diagonal, and 20 by two straights where a cell beside the diagonal is blocked; with both blocked there is none (113 stands for that)
   pub by-diagonal : distances square (0 ∷ 0 ∷ 0 ∷ 0 ∷ []) ≡ 0 ∷ 10 ∷ 10 ∷ 14 ∷ []
-  pub by-straights : distances square (0 ∷ 1 ∷ 0 ∷ 0 ∷ []) ≡ 0 ∷ 57 ∷ 10 ∷ 20 ∷ []
-  pub by-none : distances square (0 ∷ 1 ∷ 1 ∷ 0 ∷ []) ≡ 0 ∷ 57 ∷ 57 ∷ 57 ∷ []
+  pub by-straights : distances square (0 ∷ 1 ∷ 0 ∷ 0 ∷ []) ≡ 0 ∷ 113 ∷ 10 ∷ 20 ∷ []
+  pub by-none : distances square (0 ∷ 1 ∷ 1 ∷ 0 ∷ []) ≡ 0 ∷ 113 ∷ 113 ∷ 113 ∷ []
   pub diagonal-met : across (0 ∷ 0 ∷ 0 ∷ 0 ∷ []) 3 14 ≡ Vd.Done
   pub diagonal-above : across (0 ∷ 0 ∷ 0 ∷ 0 ∷ []) 3 15 ≡ no 7 (P.Cell 3)
   pub straights-met : across (0 ∷ 1 ∷ 0 ∷ 0 ∷ []) 3 20 ≡ Vd.Done
   pub straights-above : across (0 ∷ 1 ∷ 0 ∷ 0 ∷ []) 3 21 ≡ no 7 (P.Cell 3)
   pub none-from : across (0 ∷ 1 ∷ 1 ∷ 0 ∷ []) 3 14 ≡ no 6 P.Nowhere
-  pub none-beside : across (0 ∷ 1 ∷ 1 ∷ 0 ∷ []) 0 917280 ≡ Vd.Done
+  pub none-beside : across (0 ∷ 1 ∷ 1 ∷ 0 ∷ []) 0 1834560 ≡ Vd.Done
   -- cells that cannot reach it, and blocked ones, may stand as high as the ceiling
-  pub unreaching : openJob (goalAt 0) shut 1 (set (set figures 3 917280) 6 917280) ≡ Vd.Done
+  pub unreaching : openJob (goalAt 0) shut 1 (set (set figures 3 1834560) 6 1834560) ≡ Vd.Done
   -- a trial also judges its path list, after 1 and before 3
   pub trial-1-2 : TrialRefused (job 0 1 1 0) hall 6 (take 8 figures) [] 1 P.Nowhere
   pub trial-2-3 : TrialRefused (job 0 1 1 0) hall 6 figures (replicate 8 77) 2 P.Nowhere
   pub trial-3-4 : TrialRefused (job 0 1 1 0) hall 3 figures fresh 3 P.Nowhere
   pub trial-4 : TrialRefused (goalAt 0) hall 3 figures fresh 4 P.Nowhere
-  pub trial-5 : TrialRefused (goalAt 0) hall 6 (set figures 4 917281) fresh 5 (P.Cell 4)
+  pub trial-5 : TrialRefused (goalAt 0) hall 6 (set figures 4 1834561) fresh 5 (P.Cell 4)
   -- a run its path list, then its reports, its settings and its trials, 1 to 1,000
   pub run-1-2 : RunRefused (job 0 1 1 0) hall 6 0 (take 8 figures) [] [] 1 P.Nowhere
   pub run-path : RunRefused (job 0 1 1 0) hall 6 1 figures (replicate 8 77) (blank ∷ []) 2 P.Nowhere
@@ -122,7 +122,7 @@ pub record PinsOpening : Type 0 where
   pub run-settings : RunRefused (job 0 1 1 0) hall 3 1 figures fresh (blank ∷ []) 3 P.Nowhere
   pub run-trials-0 : RunRefused (job 1 1 1 0) hall 3 0 figures fresh (blank ∷ []) 3 P.Nowhere
   pub run-4 : RunRefused (job 1 1 1 0) hall 3 1 figures fresh (blank ∷ []) 4 P.Nowhere
-  pub run-5 : RunRefused (goalAt 0) hall 6 1 (set figures 4 917281) fresh (blank ∷ []) 5 (P.Cell 4)
+  pub run-5 : RunRefused (goalAt 0) hall 6 1 (set figures 4 1834561) fresh (blank ∷ []) 5 (P.Cell 4)
   pub reports-meet : runs 1 9 10 10 ≡ Vd.Done
   pub reports-short : runs 1 9 10 9 ≡ no 2 P.Nowhere
   -- reports shorter than trials, before the trials' own range

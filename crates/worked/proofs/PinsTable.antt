@@ -111,7 +111,7 @@ pub record PinsTable : Type 0 where
   -- the opening figure with the job's own q: 30 at cell 1
   pub not-above-scaled : Unread oblong 3 0 (set oblongFile 5 30) (5 ∷ 5 ∷ []) 21 (P.Record 0)
   -- 22 figure above the ceiling
-  pub ceiling-passed : Unread floor 1 0 (0 ∷ 8 ∷ 0 ∷ 13 ∷ 255 ∷ 33 ∷ ending 1 22) (replicate 9 5) 22 (P.Record 0)
+  pub ceiling-passed : Unread floor 1 0 (0 ∷ 8 ∷ 0 ∷ 27 ∷ 254 ∷ 65 ∷ ending 1 22) (replicate 9 5) 22 (P.Record 0)
   pub ceiling-far : reads (0 ∷ 8 ∷ 1 ∷ 0 ∷ 0 ∷ 48 ∷ ending 1 22) ≡ no 22 (P.Record 0)
   -- two faults in one record: the first in this order. Off the floor (and so not free), at an opening figure's height or above the ceiling
   pub off-and-not-above : reads (entry 9 0 ++ ending 1 22) ≡ no 18 (P.Record 0)
@@ -129,7 +129,7 @@ pub record PinsTable : Type 0 where
   pub first-named : map reads
       ((0 ∷ 5 ∷ 255 ∷ 0 ∷ 0 ∷ 0 ∷ entry 9 48 ++ ending 2 28) ∷ (entry 5 14 ++ (entry 3 48 ++ ending 2 28)) ∷ (entry 6 48 ++ (entry 5 48 ++ (entry 9 48 ++ ending 3 34))) ∷ [])
       ≡ no 22 (P.Record 0) ∷ no 21 (P.Record 0) ∷ no 20 (P.Record 1) ∷ []
-  pub ceiling-met : Read (0 ∷ 8 ∷ 0 ∷ 13 ∷ 255 ∷ 32 ∷ ending 1 22) (set figures 8 917280)
+  pub ceiling-met : Read (0 ∷ 8 ∷ 0 ∷ 27 ∷ 254 ∷ 64 ∷ ending 1 22) (set figures 8 1834560)
   pub first-cell : Read (entry 0 1 ++ (entry 1 11 ++ ending 2 28)) (set (set figures 0 1) 1 11)
   -- the table calls judge sizes, q, goal and their own numbers
   pub read-1 : Unread floor 0 0 workedFile (replicate 8 5) 1 P.Nowhere
@@ -138,9 +138,9 @@ pub record PinsTable : Type 0 where
   -- the writer also 5, before 16; 16 before 17
   pub write-1 : Unwritten floor 0 0 (take 8 figures) [] 1 P.Nowhere
   pub write-3 : Unwritten floor 0 4 figures [] 3 P.Nowhere
-  pub write-4 : Unwritten floor 1 4 (set figures 8 917281) [] 4 P.Nowhere
-  pub write-5 : Unwritten floor 1 0 (set (set figures 8 917281) 1 9) [] 5 (P.Cell 8)
-  pub write-5-blocked : Unwritten floor 1 0 (set (set figures 8 917281) 4 917281) [] 5 (P.Cell 4)
+  pub write-4 : Unwritten floor 1 4 (set figures 8 1834561) [] 4 P.Nowhere
+  pub write-5 : Unwritten floor 1 0 (set (set figures 8 1834561) 1 9) [] 5 (P.Cell 8)
+  pub write-5-blocked : Unwritten floor 1 0 (set (set figures 8 1834561) 4 1834561) [] 5 (P.Cell 4)
   -- 16: a free cell below its opening figure, or a blocked one unlike it; names the lowest
   pub below : Unwritten floor 1 0 (set (set figures 7 23) 8 27) [] 16 (P.Cell 7)
   pub below-last : Unwritten floor 1 0 (set figures 8 27) [] 16 (P.Cell 8)
@@ -152,8 +152,8 @@ pub record PinsTable : Type 0 where
   -- Figures that differ from the opening figure: none
   pub write-none : writeTable floor 1 (0 ∷ []) figures (replicate 17 5) ≡ record { answer = Wr.Length 16; buffer = ending 0 16 ++ 5 ∷ [] }
   -- up to the ceiling, the first cell and the last; numbers are big-endian
-  pub write-ends : writeTable floor 1 (0 ∷ []) (set (set (set figures 0 917280) 7 131071) 8 131072) (replicate 34 5)
-      ≡ record { answer = Wr.Length 34; buffer = 0 ∷ 0 ∷ 0 ∷ 13 ∷ 255 ∷ 32 ∷ 0 ∷ 7 ∷ 0 ∷ 1 ∷ 255 ∷ 255 ∷ 0 ∷ 8 ∷ 0 ∷ 2 ∷ 0 ∷ 0 ∷ ending 3 34 }
+  pub write-ends : writeTable floor 1 (0 ∷ []) (set (set (set figures 0 1834560) 7 131071) 8 131072) (replicate 34 5)
+      ≡ record { answer = Wr.Length 34; buffer = 0 ∷ 0 ∷ 0 ∷ 27 ∷ 254 ∷ 64 ∷ 0 ∷ 7 ∷ 0 ∷ 1 ∷ 255 ∷ 255 ∷ 0 ∷ 8 ∷ 0 ∷ 2 ∷ 0 ∷ 0 ∷ ending 3 34 }
   -- width before height
   pub write-oblong : writeTable oblong 3 (0 ∷ []) (0 ∷ 31 ∷ []) (replicate 22 5) ≡ record { answer = Wr.Length 22; buffer = oblongFile }
   pub read-oblong : reading oblong 3 0 oblongFile (5 ∷ 5 ∷ []) ≡ (Vd.Done, 0 ∷ 31 ∷ [])

@@ -35,11 +35,14 @@ abbrev dot : List ℕ
 dot = bytes "type octile\nheight 1\nwidth 1\nmap\n.\n"
 
 pub record PinsText : Type 0 where
-  -- `.` and `G` are free, byte 0; `@`, `O`, `T` blocked, byte 1. Buffer bytes beyond width × height are untouched
-  pub letters : reads (bytes "type octile\nheight 2\nwidth 3\nmap\n.G@\nOT.\n") 8
-      ≡ record { answer = Fr.Sizes 3 2; buffer = 0 ∷ 0 ∷ 1 ∷ 1 ∷ 1 ∷ 0 ∷ 9 ∷ 9 ∷ [] }
-  -- Any other letter, `S` and `W` included, is refused
-  pub swamp : Unread "type octile\nheight 1\nwidth 1\nmap\nS\n" 1 12 (P.Line 5)
+  -- `.` and `G` are free, byte 0; `@`, `O`, `T` blocked, byte 1; `S` slow, byte 2. Buffer bytes beyond width × height are untouched
+  pub letters : reads (bytes "type octile\nheight 2\nwidth 3\nmap\n.G@\nOTS\n") 8
+      ≡ record { answer = Fr.Sizes 3 2; buffer = 0 ∷ 0 ∷ 1 ∷ 1 ∷ 1 ∷ 2 ∷ 9 ∷ 9 ∷ [] }
+  -- `S` no longer gives 12
+  pub lane : reads (bytes "type octile\nheight 1\nwidth 1\nmap\nS\n") 1 ≡ record { answer = Fr.Sizes 1 1; buffer = 2 ∷ [] }
+  -- Any other letter, `W` and a small `s` included, is refused
+  pub small-s : Unread "type octile\nheight 1\nwidth 1\nmap\ns\n" 1 12 (P.Line 5)
+  pub beside-s : Unread "type octile\nheight 1\nwidth 1\nmap\nR\n" 1 12 (P.Line 5)
   pub water : Unread "type octile\nheight 1\nwidth 1\nmap\nW\n" 1 12 (P.Line 5)
   pub small : Unread "type octile\nheight 1\nwidth 1\nmap\ng\n" 1 12 (P.Line 5)
   pub hyphen : Unread "type octile\nheight 1\nwidth 1\nmap\n-\n" 1 12 (P.Line 5)
@@ -63,7 +66,7 @@ pub record PinsText : Type 0 where
   -- in floor text 11 comes before 2
   pub eleven-first : Unread "type octile\nheight 2\nwidth 2\nmao\n..\n..\n" 3 11 P.Nowhere
   -- 2: floor buffer too short; before 12
-  pub two : Unread "type octile\nheight 2\nwidth 2\nmap\n..\n.S\n" 3 2 P.Nowhere
+  pub two : Unread "type octile\nheight 2\nwidth 2\nmap\n..\n.W\n" 3 2 P.Nowhere
   pub room : reads (bytes "type octile\nheight 2\nwidth 2\nmap\n..\n.@\n") 4 ≡ record { answer = Fr.Sizes 2 2; buffer = 0 ∷ 0 ∷ 0 ∷ 1 ∷ [] }
   -- 12: a row too short, too long or without its LF, or bytes after the last; names the first such line, counted from 1 at the `type` line
   pub row-short : Unread "type octile\nheight 2\nwidth 2\nmap\n.\n..\n" 4 12 (P.Line 5)
@@ -81,7 +84,9 @@ pub pinsText : PinsText
 unfolding compute
 pinsText = record {
   letters = refl;
-  swamp = refl;
+  lane = refl;
+  small-s = refl;
+  beside-s = refl;
   water = refl;
   small = refl;
   hyphen = refl;
