@@ -1,15 +1,16 @@
 // The floor: one move with its cost, whether a cell is free, and the opening figure of a cell.
 ghost use mathlib.Core.Path.{_≡_};
-ghost use mathlib.Core.Bool.{true};
+ghost use mathlib.Core.Bool.{true, _||_};
 ghost use mathlib.Core.List.{List};
-ghost use Prim.Native.Nat.{ℕ, _<_, _≤_, _*_, _%_, min};
+ghost use Prim.Native.Nat.{ℕ, _<_, _≤_, _*_, min};
+ghost use lib.Dec.{eqb};
 ghost use lib.ListN.{length, getD};
-ghost use Rattle.model.specs.Basics.{member};
+ghost use Rattle.model.specs.Basics.{choose, member};
 ghost use Rattle.model.specs.Checks.{finest};
-ghost use Rattle.model.specs.Floor.{Sized, free, apart, dearestPrice, goalsOf};
+ghost use Rattle.model.specs.Floor.{Sized, slowByte, freeByte, free, apart, doubled, dearestPrice, goalsOf};
 ghost use Rattle.model.specs.Floor as model;
 ghost use Rattle.model.proofs.Moves.{toll};
-ghost use Rattle.floor.specs.Moves.{flat, kinds, cost, canCost, northFree, westFree, eastFree, southFree, Placed, RowClear, ColumnClear, Unless, stepOf};
+ghost use Rattle.floor.specs.Moves.{flat, allKinds, kinds, cost, canCost, northByte, westByte, eastByte, southByte, Placed, RowClear, ColumnClear, Unless, aheadByte, stepOf};
 
 // What a move leads to: the cell moved into and what the move costs, or nothing that may be moved into.
 pub enum Step {
@@ -17,39 +18,60 @@ pub enum Step {
     Wall,
 }
 
-// The ways out of a free cell: whether the straight cell on each side of it is on the floor and free. A diagonal move needs two of them, those beside it.
+// A free cell's byte and those of the straight cells on its sides, blocked past the floor's edge: each is a way out of it where it is free. A diagonal
+// move needs two of them free, those beside it.
 pub struct Spot {
-    pub north: bool,
-    pub west: bool,
-    pub east: bool,
-    pub south: bool,
+    pub here: u8,
+    pub north: u8,
+    pub west: u8,
+    pub east: u8,
+    pub south: u8,
 }
 
-// A straight move costs 10, a diagonal one 14; the least and the dearest price of a move.
+// The floor's bytes: free, blocked (as is every byte above 2), and slow and free.
+pub const PLAIN: u8 = 0;
+
+pub const BLOCKED: u8 = 1;
+
+pub const SLOW: u8 = 2;
+
+// A straight move costs 10, a diagonal one 14, and double where it begins or ends in a slow cell; the least and the dearest price of a move.
 const STRAIGHT: u16 = 10;
 
 const DIAGONAL: u16 = 14;
 
 pub const LEAST_PRICE: u16 = STRAIGHT;
 
-pub const DEAREST_PRICE: u16 = DIAGONAL;
+pub const DEAREST_PRICE: u16 = 2 * DIAGONAL;
 
-// What a move can cost, as one short list, and how many costs that are.
-const COSTS: [u16; KINDS] = [STRAIGHT, DIAGONAL];
+// How many costs a move can have; on a floor without slow cells they are the first two.
+pub const KINDS: usize = 4;
 
-pub const KINDS: usize = 2;
+pub const PLAIN_KINDS: usize = 2;
 
-// The first two prices in more bits, for figures.
+// Prices in more bits, for figures.
 const STRAIGHTS: usize = STRAIGHT as usize;
 
 const DIAGONALS: usize = DIAGONAL as usize;
+
+const DEAREST: usize = DEAREST_PRICE as usize;
 
 // The greatest depth and the greatest q; and the ceiling for any figure.
 pub const DEEPEST: usize = 8;
 
 pub const FINEST: usize = 16;
 
-pub const CEILING: usize = DIAGONALS * 4095 * FINEST;
+pub const CEILING: usize = DEAREST * 4095 * FINEST;
+
+// Whether a byte is that of a free cell, slow or not.
+pub fn free_byte(b: u8) -> bool
+    ensures { λ r. ⌜ r ≡ freeByte b ⌝ }
+{
+    if b == PLAIN {
+        return true;
+    }
+    b == SLOW
+}
 
 // Whether a cell is on the floor and free.
 pub fn is_free(width: usize, height: usize, floor: &[u8], cell: usize) -> bool
@@ -59,7 +81,7 @@ pub fn is_free(width: usize, height: usize, floor: &[u8], cell: usize) -> bool
     if floor.len() <= cell {
         return false;
     }
-    floor[cell] == 0
+    free_byte(floor[cell])
 }
 
 // Whether a cell is a goal.
@@ -94,7 +116,7 @@ fn south(m: usize) -> usize
     if m < 6 { 2 } else { 0 }
 }
 
-// What the move m costs.
+// What the move m costs between ordinary cells.
 fn toll(m: usize) -> u16
     requires { ⌜ m < 8 ⌝ }
     ensures { λ r. ⌜ r ≡ toll m ⌝ }
@@ -102,12 +124,37 @@ fn toll(m: usize) -> u16
     if m % 2 == 0 { STRAIGHT } else { DIAGONAL }
 }
 
-// The k-th of the costs that a move can have.
+// How many of the costs the moves of a floor can have, n so far, after a byte.
+fn kinds_after(n: usize, b: u8) -> usize
+    ensures { λ r. ⌜ r ≡ choose (eqb b slowByte) allKinds n ⌝ }
+{
+    if b == SLOW { KINDS } else { n }
+}
+
+// And after all of them: with no return at the first slow one, many are looked at at a time.
+pub fn kinds_on(floor: &[u8]) -> usize
+    ensures { λ r. ⌜ r ≡ kinds (now (floor .entry)) ⌝ }
+{
+    let mut n = PLAIN_KINDS;
+    let mut i = 0;
+    while i < floor.len() {
+        n = kinds_after(n, floor[i]);
+        i += 1;
+    }
+    n
+}
+
+// The k-th of the costs that a move can have. (A table of them would be copied at each look.)
 pub fn cost_at(k: usize) -> u16
-    requires { ⌜ k < kinds ⌝ }
+    requires { ⌜ k < allKinds ⌝ }
     ensures { λ r. ⌜ (r ≡ cost k) × (r ≤ dearestPrice) ⌝ }
 {
-    COSTS[k]
+    match k {
+        0 => STRAIGHT,
+        1 => DIAGONAL,
+        2 => 2 * STRAIGHT,
+        _ => 2 * DIAGONAL,
+    }
 }
 
 // Whether the move m can have the k-th cost: straight moves have even numbers, and so have their costs.
@@ -117,48 +164,48 @@ pub fn can_cost(m: usize, k: usize) -> bool
     m % 2 == k % 2
 }
 
-// Whether the cell to the north of a cell of this row is on the floor and free; and so to the west, the east and the south.
-fn north_free(width: usize, height: usize, floor: &[u8], cell: usize, row: usize) -> bool
+// The byte of the cell to the north of a cell of this row, blocked past the edge; and so to the west, the east and the south.
+fn north_byte(width: usize, height: usize, floor: &[u8], cell: usize, row: usize) -> u8
     requires { ⌜ Sized (flat width height (now floor)) ⌝ ∗ ⌜ (cell < width * height) × (row ≡ model.row (flat width height (now floor)) cell) ⌝ }
-    ensures { λ r. ⌜ r ≡ northFree (flat width height (now (floor .entry))) cell ⌝ }
+    ensures { λ r. ⌜ r ≡ northByte (flat width height (now (floor .entry))) cell ⌝ }
 {
     if row == 0 {
-        return false;
+        return BLOCKED;
     }
-    floor[cell - width] == 0
+    floor[cell - width]
 }
 
-fn west_free(width: usize, height: usize, floor: &[u8], cell: usize, col: usize) -> bool
+fn west_byte(width: usize, height: usize, floor: &[u8], cell: usize, col: usize) -> u8
     requires { ⌜ Sized (flat width height (now floor)) ⌝ ∗ ⌜ (cell < width * height) × (col ≡ model.column (flat width height (now floor)) cell) ⌝ }
-    ensures { λ r. ⌜ r ≡ westFree (flat width height (now (floor .entry))) cell ⌝ }
+    ensures { λ r. ⌜ r ≡ westByte (flat width height (now (floor .entry))) cell ⌝ }
 {
     if col == 0 {
-        return false;
+        return BLOCKED;
     }
-    floor[cell - 1] == 0
+    floor[cell - 1]
 }
 
-fn east_free(width: usize, height: usize, floor: &[u8], cell: usize, col: usize) -> bool
+fn east_byte(width: usize, height: usize, floor: &[u8], cell: usize, col: usize) -> u8
     requires { ⌜ Sized (flat width height (now floor)) ⌝ ∗ ⌜ (cell < width * height) × (col ≡ model.column (flat width height (now floor)) cell) ⌝ }
-    ensures { λ r. ⌜ r ≡ eastFree (flat width height (now (floor .entry))) cell ⌝ }
+    ensures { λ r. ⌜ r ≡ eastByte (flat width height (now (floor .entry))) cell ⌝ }
 {
     if width <= col + 1 {
-        return false;
+        return BLOCKED;
     }
-    floor[cell + 1] == 0
+    floor[cell + 1]
 }
 
-fn south_free(width: usize, height: usize, floor: &[u8], cell: usize, row: usize) -> bool
+fn south_byte(width: usize, height: usize, floor: &[u8], cell: usize, row: usize) -> u8
     requires { ⌜ Sized (flat width height (now floor)) ⌝ ∗ ⌜ (cell < width * height) × (row ≡ model.row (flat width height (now floor)) cell) ⌝ }
-    ensures { λ r. ⌜ r ≡ southFree (flat width height (now (floor .entry))) cell ⌝ }
+    ensures { λ r. ⌜ r ≡ southByte (flat width height (now (floor .entry))) cell ⌝ }
 {
     if height <= row + 1 {
-        return false;
+        return BLOCKED;
     }
-    floor[cell + width] == 0
+    floor[cell + width]
 }
 
-// The ways out of a free cell.
+// A free cell and the ways out of it.
 pub fn spot_of(width: usize, height: usize, floor: &[u8], cell: usize) -> Spot
     requires { ⌜ Sized (flat width height (now floor)) ⌝ ∗ ⌜ free (flat width height (now floor)) cell ≡ true ⌝ }
     ensures { λ r. ⌜ Placed (flat width height (now (floor .entry))) cell r ⌝ }
@@ -166,10 +213,11 @@ pub fn spot_of(width: usize, height: usize, floor: &[u8], cell: usize) -> Spot
     let col = cell % width;
     let row = cell / width;
     Spot {
-        north: north_free(width, height, floor, cell, row),
-        west: west_free(width, height, floor, cell, col),
-        east: east_free(width, height, floor, cell, col),
-        south: south_free(width, height, floor, cell, row),
+        here: floor[cell],
+        north: north_byte(width, height, floor, cell, row),
+        west: west_byte(width, height, floor, cell, col),
+        east: east_byte(width, height, floor, cell, col),
+        south: south_byte(width, height, floor, cell, row),
     }
 }
 
@@ -180,10 +228,10 @@ fn row_barred(at: Spot, m: usize) -> bool
 {
     let e = east(m);
     if e == 0 {
-        return !at.west;
+        return !free_byte(at.west);
     }
     if e == 2 {
-        return !at.east;
+        return !free_byte(at.east);
     }
     false
 }
@@ -194,23 +242,46 @@ fn column_barred(at: Spot, m: usize) -> bool
 {
     let s = south(m);
     if s == 0 {
-        return !at.north;
+        return !free_byte(at.north);
     }
     if s == 2 {
-        return !at.south;
+        return !free_byte(at.south);
     }
     false
 }
 
-// Whether the move m is a diagonal and the cell that it leads to is blocked. (Of a straight one that cell is one of the four.)
-fn is_taken(floor: &[u8], to: usize, m: usize) -> bool
-    requires { ⌜ to < length (now floor) ⌝ }
-    ensures { λ r. ⌜ Unless (m % 2 ≡ 1 → getD (now (floor .entry)) to 0 ≡ 0) r ⌝ }
+// The byte of the cell `to` that the move m leads to: of a straight move one of the four.
+fn byte_ahead(floor: &[u8], at: Spot, to: usize, m: usize) -> u8
+    requires { ⌜ (to < length (now floor)) × (m < 8) ⌝ }
+    ensures { λ r. ⌜ r ≡ aheadByte at m (getD (now (floor .entry)) to 0) ⌝ }
 {
-    if m % 2 == 0 {
-        return false;
+    if m == 0 {
+        return at.north;
     }
-    floor[to] != 0
+    if m == 2 {
+        return at.east;
+    }
+    if m == 4 {
+        return at.south;
+    }
+    if m == 6 {
+        return at.west;
+    }
+    floor[to]
+}
+
+// What the move m costs between cells of these bytes.
+fn price(here: u8, there: u8, m: usize) -> u16
+    requires { ⌜ m < 8 ⌝ }
+    ensures { λ r. ⌜ r ≡ doubled (eqb here slowByte || eqb there slowByte) (toll m) ⌝ }
+{
+    if here == SLOW {
+        return 2 * toll(m);
+    }
+    if there == SLOW {
+        return 2 * toll(m);
+    }
+    toll(m)
 }
 
 // The move m from a free cell, by the ways out of it.
@@ -225,10 +296,11 @@ pub fn step_from(width: usize, height: usize, floor: &[u8], cell: usize, at: Spo
         return Step::Wall;
     }
     let to = cell + south(m) * width + east(m) - (width + 1);
-    if is_taken(floor, to, m) {
+    let there = byte_ahead(floor, at, to, m);
+    if !free_byte(there) {
         return Step::Wall;
     }
-    let cost = toll(m);
+    let cost = price(at.here, there, m);
     Step::To {
         cell: to,
         cost: cost,

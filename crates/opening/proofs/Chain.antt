@@ -1,7 +1,7 @@
 -- The queue linked inside the list of distances: what a store does to the distances and to the links, and what the moves of one cost from a cell do.
 -- Assumes nothing.
 use Prim.Native.Nat.{ℕ, _+_, _-_, _/_, _%_, _≤_, _<_}
-use mathlib.Core.Path.{_≡_, sym, ap, _∙_}
+use mathlib.Core.Path.{_≡_, sym, ap, _∙_, subst}
 use mathlib.Core.Bool.{false}
 use mathlib.Core.List.{List}
 use native.Mathlib.Decide.{ℕ-discrete}
@@ -14,7 +14,7 @@ use Rattle.model.specs.Floor.{Floor, size, Sized, free}
 use Rattle.model.proofs.Accepted.{never}
 use Rattle.model.proofs.Cells.{col-at, row-at}
 use Rattle.model.proofs.Moves.{free-below, sized-cells}
-use Rattle.floor.specs.Moves.{kinds, cost, canCost, stepOf}
+use Rattle.floor.specs.Moves.{allKinds, cost, canCost, stepOf}
 use Rattle.floor.specs.declared.Step.{Step}
 use Rattle.floor.proofs.Steps.{stepped, step-can}
 use Rattle.opening.specs.Search.{none, Queue}
@@ -126,6 +126,12 @@ module _ {f : Floor} (z : Sized f) where
     pub follows-blocked : free f x ≡ false → length l ≡ size f → last < size f → Follows f x c v 8 l last l last
     follows-blocked e long fits = record { long = long; final = fits; keeps = λ q n Q C slow. (q, n, followed-blocked f z x c v e Q, C) }
 
+    -- the eighth is the last
+    pub follows-all : {m : ℕ} {l′ : List ℕ} {last′ : ℕ} → m ≤ 8 → 8 ≤ m → Follows f x c v m l last l′ last′ → Follows f x c v 8 l last l′ last′
+    follows-all {m} {l′} {last′} h g F =
+        let e : m ≡ 8 = omega arith in
+        subst (λ n. Follows f x c v n l last l′ last′) e F
+
     pub follows-more : {m : ℕ} {l′ l″ : List ℕ} {last′ last″ : ℕ} → Follows f x c v m l last l′ last′ → Entered (stepOf f x m) c v l′ last′ l″ last″ → Follows f x c v (m + 1) l last l″ last″
     follows-more F (stays h) = record {
       long = F .long;
@@ -151,5 +157,5 @@ module _ {f : Floor} (z : Sized f) where
   }
 
 -- a move that cannot have the cost is passed over
-pub passed-over : {f : Floor} {v last : ℕ} {l : List ℕ} → Sized f → (x m k : ℕ) → m < 8 → k < kinds → canCost m k ≡ false → Entered (stepOf f x m) (cost k) v l last l last
+pub passed-over : {f : Floor} {v last : ℕ} {l : List ℕ} → Sized f → (x m k : ℕ) → m < 8 → k < allKinds → canCost m k ≡ false → Entered (stepOf f x m) (cost k) v l last l last
 passed-over z x m k l h e = stays (λ b t. absurd (never (step-can z x m b k l h t) e))

@@ -7,7 +7,7 @@ use mathlib.Core.List.{List}
 use native.Mathlib.Decide.{ℕ-discrete}
 use native.Mathlib.Omega.{arith}
 use borrow.Author.Tests.{lt-ltb, le-ltb, eq-eqb, ne-eqb}
-use lib.ListN.{length, getD, set, length-set, replicate, getD-replicate}
+use lib.ListN.{length, getD, set, length-set, replicate, length-replicate, getD-replicate}
 use lib.Seq.{getD-set-same, getD-set-other}
 use Rattle.learning.specs.Ground.{pick, listOf, reachOf, distOf}
 use Rattle.learning.proofs.Certificate.{Certified, certificate}
@@ -15,10 +15,11 @@ use Rattle.learning.proofs.Spread.{list-at, list-length}
 use Rattle.learning.proofs.Sums.{total-each, total-part}
 use Rattle.model.specs.Floor.{Floor, size, Sized, goalsOf}
 use Rattle.model.specs.Grounds.{groundOf}
-use Rattle.floor.specs.Moves.{kinds, cost}
+use Rattle.floor.specs.Moves.{allKinds, kinds, cost}
+use Rattle.floor.proofs.Steps.{kinds-between, kind-fits}
 use Rattle.opening.specs.Distances.{far, Distances}
 use Rattle.opening.specs.Search.{none, Followed, offer, Next}
-use Rattle.opening.specs.Chain.{links, end, entry, distAt, nextAt, blank, cellAt, Chain, Follows, Readable, offerOf, Least, caught, movedOn, Held, plain}
+use Rattle.opening.specs.Chain.{links, end, entry, distAt, nextAt, blank, cellAt, Chain, Follows, Readable, offerOf, Offered, Least, caught, movedOn, Held, plain}
 use Rattle.opening.proofs.Queue.{Put, put-at, none-large, queue-few}
 use Rattle.opening.proofs.Rising.{searching-start, step-queue, step-slow, searching-step, all-followed, step-falls, none-left, next}
 use Rattle.opening.proofs.Chain.{dist-here, dist-else, next-here, cell-in, cell-out, chain-last}
@@ -27,18 +28,18 @@ use Rattle.opening.proofs.Offers.{place-before, place-end, place-readab
 
 -- ---- what the search keeps
 
--- the start: the goal alone
-pub held-start : {f : Floor} {goal : ℕ} {l : List ℕ} → Sized f → goal < size f → l ≡ listOf (size f) (λ x. blank)
-    → Held f (goalsOf goal) (set l goal (entry 0 end)) goal (replicate kinds goal) (kinds * size f)
+-- the start: the goal alone, and each place at it
+started : {f : Floor} {goal : ℕ} {l : List ℕ} → Sized f → goal < size f → l ≡ listOf (size f) (λ x. blank) → (n : ℕ) → n ≡ kinds (f .bytes)
+    → Held f (goalsOf goal) (set l goal (entry 0 end)) goal (replicate n goal) (n * size f)
 unfolding distAt
-held-start {f} {goal} {l} z inside empty =
+started {f} {goal} {l} z inside empty k whole =
     let fits : goal < length l = omega (arith, ap length empty, list-length (size f) (λ x. blank)) in
     let (q, R) = put-at (λ i. 0) 0 goal in
     let next = next-here l goal 0 end fits (omega arith) in
     record {
       sized = z;
       long = length-set l goal (entry 0 end) ∙ ap length empty ∙ list-length (size f) (λ x. blank);
-      whole = refl;
+      whole = length-replicate k goal ∙ whole;
       q = q;
       n = 1;
       p = λ k. 0;
@@ -49,53 +50,74 @@ held-start {f} {goal} {l} z inside empty =
         final = R .here;
         linked = λ i h. let e : i ≡ 0 = omega arith in ap (nextAt (set l goal (entry 0 end))) (ap q e ∙ R .here) ∙ next ∙ sym (cell-out q 1 (i + 1) (omega arith));
       };
-      stands = λ k h. getD-replicate kinds k goal 0 h ∙ sym (R .here);
-      steps = sym (total-each kinds (size f) (λ k. size f - 0) (λ k h. omega arith));
+      stands = λ i h. getD-replicate k i goal 0 (omega arith) ∙ sym (R .here);
+      steps = ap (λ n. n * size f) whole ∙ sym (total-each (kinds (f .bytes)) (size f) (λ k. size f - 0) (λ k h. omega arith));
     }
 
+pub held-start : {f : Floor} {goal e : ℕ} {l : List ℕ} → Sized f → goal < size f → l ≡ listOf (size f) (λ x. blank) → e ≡ entry 0 end → (n : ℕ) → n ≡ kinds (f .bytes)
+    → Held f (goalsOf goal) (set l goal e) goal (replicate n goal) (n * size f)
+held-start {f} {goal} {e} {l} z inside empty is n whole = subst (λ w. Held f (goalsOf goal) (set l goal w) goal (replicate n goal) (n * size f)) (sym is) (started z inside empty n whole)
+
 module _ {f : Floor} {goals l : List ℕ} {last : ℕ} {ps : List ℕ} {left : ℕ} (H : Held f goals l last ps left) where
-  pub held-readable : (k : ℕ) → k < kinds → Readable l (getD ps k 0)
+  pub held-readable : (k : ℕ) → k < kinds (f .bytes) → Readable l (getD ps k 0)
   held-readable k h = place-readable (H .sized) l (H .long) (H .searching .queue) (H .p k) (H .stands k h)
 
+  pub held-offered : Offered l ps
+  held-offered = record {
+    some = omega (arith, H .whole, kinds-between (f .bytes) .0);
+    few = omega (arith, H .whole, kinds-between (f .bytes) .1);
+    readable = λ k h. held-readable k (omega (arith, H .whole));
+  }
+
   -- a place is the queue's end, or before it
-  at-end : (k : ℕ) → k < kinds → getD ps k 0 ≡ end → H .n ≤ H .p k
+  at-end : (k : ℕ) → k < kinds (f .bytes) → getD ps k 0 ≡ end → H .n ≤ H .p k
   at-end k h = place-end (H .sized) l (H .long) (H .searching .queue) (H .p k) (H .stands k h)
 
-  before-end : (k : ℕ) → k < kinds → (getD ps k 0 ≡ end → ⊥) → H .p k < H .n
+  before-end : (k : ℕ) → k < kinds (f .bytes) → (getD ps k 0 ≡ end → ⊥) → H .p k < H .n
   before-end k h = place-before (H .sized) l (H .long) (H .searching .queue) (H .p k) (H .stands k h)
 
   pub held-last : last < size f
   held-last = chain-last (H .searching .queue) (H .chain)
 
   -- the least offer: at the queue's end all is found, before it is the step to take
-  module _ {r : ℕ} (L : Least l ps kinds r) where
-    offers : (k : ℕ) → k < kinds → offerOf l (getD ps k 0) (cost k) ≡ offer (distAt l) (H .q) (H .n) (H .p k) (cost k)
+  module _ {r : ℕ} (L : Least l ps (length ps) r) where
+    pub held-one : r < kinds (f .bytes)
+    held-one = omega (arith, L .one, H .whole)
+
+    offers : (k : ℕ) → k < kinds (f .bytes) → offerOf l (getD ps k 0) (cost k) ≡ offer (distAt l) (H .q) (H .n) (H .p k) (cost k)
     offers k h = place-offer (H .sized) l (H .long) (H .searching .queue) (H .p k) (H .stands k h) (cost k)
 
-    low : (j : ℕ) → j < kinds → offer (distAt l) (H .q) (H .n) (H .p r) (cost r) ≤ offer (distAt l) (H .q) (H .n) (H .p j) (cost j)
-    low j h = omega (arith, L .low j h, offers r (L .one), offers j h)
+    low : (j : ℕ) → j < kinds (f .bytes) → offer (distAt l) (H .q) (H .n) (H .p r) (cost r) ≤ offer (distAt l) (H .q) (H .n) (H .p j) (cost j)
+    low j h = omega (arith, L .low j (omega (arith, H .whole)), offers r held-one, offers j h)
 
     pub held-none : getD ps r 0 ≡ end → Certified (groundOf f goals) none (distAt l)
-    held-none e = none-left (H .sized) (H .searching) (L .one) low (at-end r (L .one) e)
+    held-none e = none-left (H .sized) (H .searching) held-one low (at-end r held-one e)
 
-    pub held-next : {v : ℕ} → v ≡ offerOf l (getD ps r 0) (cost r) → (getD ps r 0 ≡ end → ⊥) → Next (distAt l) (H .q) (H .n) (H .p) r v
+    pub held-next : {v : ℕ} → v ≡ offerOf l (getD ps r 0) (cost r) → (getD ps r 0 ≡ end → ⊥) → Next f (distAt l) (H .q) (H .n) (H .p) r v
     held-next {v} o h =
-        subst (Next (distAt l) (H .q) (H .n) (H .p) r) (sym (o ∙ offers r (L .one)))
-        (next (H .sized) (H .searching) (L .one) low (before-end r (L .one) h))
+        subst (Next f (distAt l) (H .q) (H .n) (H .p) r) (sym (o ∙ offers r held-one))
+        (next (H .sized) (H .searching) held-one low (before-end r held-one h))
 
   -- a step
-  module _ {r v : ℕ} (N : Next (distAt l) (H .q) (H .n) (H .p) r v) where
+  module _ {r v : ℕ} (N : Next f (distAt l) (H .q) (H .n) (H .p) r v) where
     cell : getD ps r 0 ≡ H .q (H .p r)
     cell = H .stands r (N .one) ∙ cell-in (H .q) (H .n) (H .p r) (N .before)
 
-    pub step-on : getD ps r 0 < size f
+    step-on : getD ps r 0 < size f
     step-on = omega (arith, cell, H .searching .queue .on (H .p r) (N .before))
 
-    pub step-small : v < none
+    step-small : v < none
     step-small = omega (arith, step-slow (H .sized) (H .searching) N, none-large (H .sized) (H .n) (queue-few (H .sized) (H .searching .queue)))
 
-    pub held-step : {l′ : List ℕ} {last′ : ℕ} → Follows f (getD ps r 0) (cost r) v 8 l last l′ last′ → Held f goals l′ last′ (movedOn l′ ps r (getD ps r 0) last) (left - 1)
-    held-step {l′} {last′} F =
+    -- what following and moving on ask
+    pub step-follow : (Sized f × (getD ps r 0 < size f) × (r < allKinds)) × ((length l ≡ size f) × (last < size f) × (v < none))
+    step-follow = ((H .sized, step-on, kind-fits _ _ (N .one)), (H .long, held-last, step-small))
+
+    pub step-move : {l′ : List ℕ} {last′ : ℕ} → Follows f (getD ps r 0) (cost r) v 8 l last l′ last′ → (r < length ps) × (getD ps r 0 < length l′) × (last < length l′)
+    step-move F = (omega (arith, N .one, H .whole), omega (arith, step-on, F .long), omega (arith, held-last, F .long))
+
+    moved : {l′ : List ℕ} {last′ : ℕ} → Follows f (getD ps r 0) (cost r) v 8 l last l′ last′ → Held f goals l′ last′ (movedOn l′ ps r (getD ps r 0) last) (left - 1)
+    moved {l′} {last′} F =
         let S = H .searching in
         let (q′, n′, G, C) = F .keeps (H .q) (H .n) (step-queue (H .sized) S N) (H .chain) (step-slow (H .sized) S N) in
         let (p′, P) = put-at (H .p) r (H .p r + 1) in
@@ -115,11 +137,11 @@ module _ {f : Floor} {goals l : List ℕ} {last : ℕ} {ps : List ℕ} {left : �
         up : List ℕ
         up = listOf (length ps) (λ k. caught (nextAt l′ last) (getD ps k 0))
 
-        long : length up ≡ kinds
+        long : length up ≡ kinds (f .bytes)
         long = list-length (length ps) (λ k. caught (nextAt l′ last) (getD ps k 0)) ∙ H .whole
 
         by : (q′ : ℕ → ℕ) (n′ : ℕ) (p′ : ℕ → ℕ) → Put (H .p) r (H .p r + 1) p′ → H .n ≤ n′ → ((i : ℕ) → i < H .n → q′ i ≡ H .q i) → Chain l′ q′ n′ last′
-            → (k : ℕ) → k < kinds → Dec (k ≡ r) → getD (movedOn l′ ps r (getD ps r 0) last) k 0 ≡ cellAt q′ n′ (p′ k)
+            → (k : ℕ) → k < kinds (f .bytes) → Dec (k ≡ r) → getD (movedOn l′ ps r (getD ps r 0) last) k 0 ≡ cellAt q′ n′ (p′ k)
         by q′ n′ p′ P m s C k h (yes u) =
             ap (λ k. getD (movedOn l′ ps r (getD ps r 0) last) k 0) u ∙ getD-set-same up r (nextAt l′ (getD ps r 0)) 0 (omega (arith, N .one, long))
             ∙ ap (nextAt l′) (cell ∙ sym (s (H .p r) (N .before))) ∙ C .linked (H .p r) (omega (arith, N .before)) ∙ ap (cellAt q′ n′) (sym (ap p′ u ∙ P .here))
@@ -138,10 +160,13 @@ module _ {f : Floor} {goals l : List ℕ} {last : ℕ} {ps : List ℕ} {left : �
                 ap (λ t. pick t (nextAt l′ last) (getD ps k 0)) (ne-eqb (getD ps k 0) end g) ∙ H .stands k h ∙ cell-in (H .q) (H .n) (H .p k) i
                 ∙ sym (cell-in q′ n′ (H .p k) (omega arith) ∙ s (H .p k) i)
 
+    pub held-step : {l′ ps′ : List ℕ} {last′ : ℕ} → Follows f (getD ps r 0) (cost r) v 8 l last l′ last′ → ps′ ≡ movedOn l′ ps r (getD ps r 0) last → Held f goals l′ last′ ps′ (left - 1)
+    held-step {l′} {ps′} {last′} F e = subst (λ ps. Held f goals l′ last′ ps (left - 1)) (sym e) (moved F)
+
   -- no steps left: every place is at the queue's end
   pub held-done : left ≤ 0 → Certified (groundOf f goals) none (distAt l)
   held-done h = all-followed (H .sized) (H .searching)
-      (λ k o. omega (arith, H .steps, total-part kinds k (λ k. size f - H .p k) o, queue-few (H .sized) (H .searching .queue)))
+      (λ k o. omega (arith, H .steps, total-part (kinds (f .bytes)) k (λ k. size f - H .p k) o, queue-few (H .sized) (H .searching .queue)))
 
 -- ---- the end
 

@@ -11,7 +11,7 @@ use lib.ListN.{length, getD}
 use Rattle.learning.specs.Ground.{pick}
 use Rattle.model.specs.Floor.{Floor, size, Sized}
 use Rattle.model.proofs.Moves.{sized-cells}
-use Rattle.floor.specs.Moves.{kinds, cost}
+use Rattle.floor.specs.Moves.{cost}
 use Rattle.opening.specs.Search.{none, Queue, offer}
 use Rattle.opening.specs.Chain.{end, distAt, cellAt, Readable, offerOf, Least}
 use Rattle.opening.proofs.Chain.{cell-in, cell-out}
@@ -50,11 +50,11 @@ module _ {f : Floor} (z : Sized f) (l : List ℕ) {q : ℕ → ℕ} {n v : ℕ} 
 -- ---- the least offer
 
 module _ (l ps : List ℕ) {a b u w : ℕ} (ours : u ≡ offerOf l (getD ps a 0) (cost a)) (theirs : w ≡ offerOf l (getD ps b 0) (cost b)) (so : Least l ps b a) where
-  pub least-take : b < kinds → w < u → Least l ps (b + 1) b
+  pub least-take : b < length ps → w < u → Least l ps (b + 1) b
   least-take h g = record { one = h; low = below-more _ b (λ j k. omega (arith, ours, theirs, so .low j k)) (omega arith) }
 
   pub least-keep : u ≤ w → Least l ps (b + 1) a
   least-keep g = record { one = so .one; low = below-more _ b (so .low) (omega (arith, ours, theirs)) }
 
-pub least-first : (l ps : List ℕ) → Least l ps 1 0
-least-first l ps = record { one = omega arith; low = λ j h. let e : j ≡ 0 = omega arith in omega (arith, ap (λ j. offerOf l (getD ps j 0) (cost j)) e) }
+pub least-first : (l ps : List ℕ) → 1 ≤ length ps → Least l ps 1 0
+least-first l ps some = record { one = some; low = λ j h. let e : j ≡ 0 = omega arith in omega (arith, ap (λ j. offerOf l (getD ps j 0) (cost j)) e) }

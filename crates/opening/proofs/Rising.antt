@@ -16,7 +16,7 @@ use Rattle.model.specs.Grounds.{groundOf, price-same, price-free, free-inside}
 use Rattle.model.proofs.Meaning.{goal-means, goal-is}
 use Rattle.floor.specs.Moves.{kinds, cost, stepOf}
 use Rattle.floor.specs.declared.Step.the-variants.{To}
-use Rattle.floor.proofs.Steps.{price-step, cost-high, cost-some, price-cost}
+use Rattle.floor.proofs.Steps.{price-step, kind-fits, cost-high, cost-some, price-cost}
 use Rattle.opening.specs.Search.{none, offer, Queue, Searching, Next, Followed, toGo}
 use Rattle.opening.proofs.Queue.{Put, put-all, none-large, queue-none, queue-push, queue-near, queue-few, queue-raise}
 
@@ -24,7 +24,7 @@ module _ {f : Floor} (z : Sized f) where
   -- ---- the start: the goal alone
 
   module _ (goal : ℕ) (inside : goal < size f) {b d q q′ : ℕ → ℕ} (blank : (x : ℕ) → x < size f → b x ≡ none) (D : Put b goal 0 d) (R : Put q 0 goal q′) where
-    pub searching-start : (p : ℕ → ℕ) → ((k : ℕ) → k < kinds → p k ≡ 0) → Searching f (goalsOf goal) d q′ 1 p
+    pub searching-start : (p : ℕ → ℕ) → ((k : ℕ) → k < kinds (f .bytes) → p k ≡ 0) → Searching f (goalsOf goal) d q′ 1 p
     searching-start p h = record {
       v = 0;
       queue = queue-push z (queue-none z b q blank) goal inside (omega (arith, blank goal inside)) (omega arith) D R;
@@ -38,12 +38,12 @@ module _ {f : Floor} (z : Sized f) where
 
   -- ---- a step
 
-  module _ {goals : List ℕ} {d q p : ℕ → ℕ} {n : ℕ} (S : Searching f goals d q n p) {k v : ℕ} (N : Next d q n p k v) where
+  module _ {goals : List ℕ} {d q p : ℕ → ℕ} {n : ℕ} (S : Searching f goals d q n p) {k v : ℕ} (N : Next f d q n p k v) where
     pub step-queue : Queue f d q n v
     step-queue = queue-raise z (S .queue) v (omega (arith, S .places .ahead k (N .one) (N .before)))
 
     pub step-slow : v ≤ dearestPrice * n
-    step-slow = omega (arith, N .is, S .queue .near (p k) (N .before), cost-high k (N .one))
+    step-slow = omega (arith, N .is, S .queue .near (p k) (N .before), cost-high k (kind-fits (f .bytes) k (N .one)))
 
     module _ {d′ q′ p′ : ℕ → ℕ} {n′ : ℕ} (F : Followed f (q (p k)) (cost k) v 8 d q n d′ q′ n′) (P : Put p k (p k + 1) p′) where
       old : (i : ℕ) → i < n → d′ (q′ i) ≡ d (q i)
@@ -59,14 +59,14 @@ module _ {f : Floor} (z : Sized f) where
               let (y, a, (m, walk)) = S .going .met cell (S .queue .on (p k) (N .before)) (queue-near z (S .queue) (p k) (N .before)) in
               let edge : price f x cell ≡ cost k = price-same f x cell ∙ ap (price f cell) (sym e) ∙ c in
               let sum : cost k + d cell ≡ d′ x = omega (arith, w, ap d′ e) in
-              subst (λ u. Arrives (netOf (groundOf f goals)) (Goal (groundOf f goals)) x u) sum (y, a, (suc m, move {z = y} {n = m} tt (cost-some k (N .one), edge) walk))
+              subst (λ u. Arrives (netOf (groundOf f goals)) (Goal (groundOf f goals)) x u) sum (y, a, (suc m, move {z = y} {n = m} tt (cost-some k (kind-fits (f .bytes) k (N .one)), edge) walk))
           by i o e (no g) =
               let same : q i ≡ x = sym (F .grown .same i (omega arith)) ∙ e in
               let near : d x < none = omega (arith, queue-near z (S .queue) i (omega arith), ap d same) in
               subst (λ u. Arrives (netOf (groundOf f goals)) (Goal (groundOf f goals)) x u) (sym (F .grown .kept x near)) (S .going .met x h near)
 
       -- where moves were followed before, and where they are now
-      earlier : (j : ℕ) → j < kinds → (i : ℕ) → i < p j → (b : ℕ) → price f (q′ i) b ≡ cost j → d′ b ≤ d′ (q′ i) + cost j
+      earlier : (j : ℕ) → j < kinds (f .bytes) → (i : ℕ) → i < p j → (b : ℕ) → price f (q′ i) b ≡ cost j → d′ b ≤ d′ (q′ i) + cost j
       earlier j l i h b e =
           let few : i < n = omega (arith, S .places .upto j l) in
           omega (arith, old i few, F .grown .lower b, S .places .done j l i h b (ap (λ y. price f y b) (sym (F .grown .same i few)) ∙ e))
@@ -74,7 +74,7 @@ module _ {f : Floor} (z : Sized f) where
       current : (b : ℕ) → price f (q′ (p k)) b ≡ cost k → d′ b ≤ d′ (q′ (p k)) + cost k
       current b e =
           let g : price f (q (p k)) b ≡ cost k = ap (λ y. price f y b) (sym (F .grown .same (p k) (N .before))) ∙ e in
-          let (m, l, t) = price-step f z (q (p k)) b (omega (arith, g, cost-some k (N .one))) in
+          let (m, l, t) = price-step f z (q (p k)) b (omega (arith, g, cost-some k (kind-fits (f .bytes) k (N .one)))) in
           omega (arith, old (p k) (N .before), F .closed m l b (subst (λ c. stepOf f (q (p k)) m ≡ To b c) g t))
 
       -- what comes next is no nearer
@@ -91,10 +91,10 @@ module _ {f : Floor} (z : Sized f) where
         queue = F .queue;
         going = record { zeros = λ y t. omega (arith, F .grown .lower y, S .going .zeros y t); met = walks };
         places = record {
-          upto = put-all (λ j w. j < kinds → w ≤ n′) P (λ l. omega (arith, F .grown .more)) (λ j e l. omega (arith, F .grown .more, S .places .upto j l));
-          done = put-all (λ j w. j < kinds → (i : ℕ) → i < w → (b : ℕ) → price f (q′ i) b ≡ cost j → d′ b ≤ d′ (q′ i) + cost j) P
+          upto = put-all (λ j w. j < kinds (f .bytes) → w ≤ n′) P (λ l. omega (arith, F .grown .more)) (λ j e l. omega (arith, F .grown .more, S .places .upto j l));
+          done = put-all (λ j w. j < kinds (f .bytes) → (i : ℕ) → i < w → (b : ℕ) → price f (q′ i) b ≡ cost j → d′ b ≤ d′ (q′ i) + cost j) P
               (λ l. below-more (λ i. (b : ℕ) → price f (q′ i) b ≡ cost k → d′ b ≤ d′ (q′ i) + cost k) (p k) (earlier k l) current) (λ j e l. earlier j l);
-          ahead = put-all (λ j w. j < kinds → w < n′ → v ≤ d′ (q′ w) + cost j) P
+          ahead = put-all (λ j w. j < kinds (f .bytes) → w < n′ → v ≤ d′ (q′ w) + cost j) P
               (λ l h. front k (p k + 1) h (λ g. omega (arith, S .queue .sorted (p k + 1) g (p k) (omega arith))))
               (λ j e l h. front j (p j) h (N .low j l));
         };
@@ -103,12 +103,12 @@ module _ {f : Floor} (z : Sized f) where
     -- a place has one cell less to go
     pub step-falls : {p′ : ℕ → ℕ} → Put p k (p k + 1) p′ → toGo f p′ + 1 ≡ toGo f p
     step-falls {p′} P =
-        total-one kinds k 1 (λ j. size f - p j) (λ j. size f - p′ j) (N .one) (omega (arith, P .here, N .before, queue-few z (S .queue))) (λ j e. ap (λ i. size f - i) (P .else j e))
+        total-one (kinds (f .bytes)) k 1 (λ j. size f - p j) (λ j. size f - p′ j) (N .one) (omega (arith, P .here, N .before, queue-few z (S .queue))) (λ j e. ap (λ i. size f - i) (P .else j e))
 
   -- ---- the end
 
   -- where every place is at the queue's end, no move leads to a lower sum
-  closed : {goals : List ℕ} {d q p : ℕ → ℕ} {n : ℕ} → Searching f goals d q n p → ((k : ℕ) → k < kinds → n ≤ p k) → (x b : ℕ) → 1 ≤ price f x b → d x ≤ price f x b + d b
+  closed : {goals : List ℕ} {d q p : ℕ → ℕ} {n : ℕ} → Searching f goals d q n p → ((k : ℕ) → k < kinds (f .bytes) → n ≤ p k) → (x b : ℕ) → 1 ≤ price f x b → d x ≤ price f x b + d b
   closed {goals} {d} {q} {p} {n} S ended x b h = by (decLe none (d b))
     where
       back : 1 ≤ price f b x
@@ -121,13 +121,13 @@ module _ {f : Floor} (z : Sized f) where
           let (k, one, c) = price-cost f z b x back in
           omega (arith, price-same f x b, c, ap d e, S .places .done k one i (omega (arith, ended k one)) x (ap (λ y. price f y x) e ∙ c))
 
-  pub all-followed : {goals : List ℕ} {d q p : ℕ → ℕ} {n : ℕ} → Searching f goals d q n p → ((k : ℕ) → k < kinds → n ≤ p k) → Certified (groundOf f goals) none d
+  pub all-followed : {goals : List ℕ} {d q p : ℕ → ℕ} {n : ℕ} → Searching f goals d q n p → ((k : ℕ) → k < kinds (f .bytes) → n ≤ p k) → Certified (groundOf f goals) none d
   all-followed S h = record { high = S .queue .most; zeros = S .going .zeros; met = S .going .met; closed = closed S h }
 
   -- ---- the least offer, by whether its place is before the queue's end
 
-  module _ {goals : List ℕ} {d q p : ℕ → ℕ} {n r : ℕ} (S : Searching f goals d q n p) (one : r < kinds)
-      (low : (j : ℕ) → j < kinds → offer d q n (p r) (cost r) ≤ offer d q n (p j) (cost j)) where
+  module _ {goals : List ℕ} {d q p : ℕ → ℕ} {n r : ℕ} (S : Searching f goals d q n p) (one : r < kinds (f .bytes))
+      (low : (j : ℕ) → j < kinds (f .bytes) → offer d q n (p r) (cost r) ≤ offer d q n (p j) (cost j)) where
     inner : (k : ℕ) → p k < n → offer d q n (p k) (cost k) ≡ d (q (p k)) + cost k
     inner k h = ap (λ b. pick b (d (q (p k)) + cost k) none) (lt-ltb (p k) n h)
 
@@ -135,13 +135,13 @@ module _ {f : Floor} (z : Sized f) where
     outer h = ap (λ b. pick b (d (q (p r)) + cost r) none) (le-ltb (p r) n h)
 
     -- at it: so is every other
-    ended : n ≤ p r → (k : ℕ) → k < kinds → Dec (n ≤ p k) → n ≤ p k
+    ended : n ≤ p r → (k : ℕ) → k < kinds (f .bytes) → Dec (n ≤ p k) → n ≤ p k
     ended h k l (yes g) = g
-    ended h k l (no g) = absurd (omega (arith, low k l, outer h, inner k (omega arith), S .queue .near (p k) (omega arith), cost-high k l, none-large z n (queue-few z (S .queue))))
+    ended h k l (no g) = absurd (omega (arith, low k l, outer h, inner k (omega arith), S .queue .near (p k) (omega arith), cost-high k (kind-fits (f .bytes) k l), none-large z n (queue-few z (S .queue))))
 
     pub none-left : n ≤ p r → Certified (groundOf f goals) none d
     none-left h = all-followed S (λ k l. ended h k l (decLe n (p k)))
 
     -- before it: that is the step to take
-    pub next : p r < n → Next d q n p r (offer d q n (p r) (cost r))
+    pub next : p r < n → Next f d q n p r (offer d q n (p r) (cost r))
     next h = record { one = one; before = h; is = inner r h; low = λ j l g. omega (arith, low j l, inner j g) }

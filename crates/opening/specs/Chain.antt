@@ -7,7 +7,7 @@ use lib.Dec.{ltb, eqb}
 use lib.ListN.{length, getD, set}
 use Rattle.learning.specs.Ground.{pick, listOf}
 use Rattle.model.specs.Floor.{Floor, size, dearestPrice, Sized}
-use Rattle.floor.specs.Moves.{kinds, cost}
+use Rattle.floor.specs.Moves.{allKinds, kinds, cost}
 use Rattle.floor.specs.declared.Step.{Step}
 use Rattle.floor.specs.declared.Step.the-variants.{To}
 use Rattle.opening.specs.Distances.{far}
@@ -76,9 +76,15 @@ Readable l place = (place ≡ end → ⊥) → place < length l
 abbrev pub offerOf : List ℕ → (place c : ℕ) → ℕ
 offerOf l place c = pick (eqb place end) none (distAt l place + c)
 
+-- each cost in use has a place, which can be read
+pub record Offered (l ps : List ℕ) : Type 0 where
+  pub some : 1 ≤ length ps
+  pub few : length ps ≤ allKinds
+  pub readable : (k : ℕ) → k < length ps → Readable l (getD ps k 0)
+
 -- r is the cost of the least offer, of the first k
 pub record Least (l ps : List ℕ) (k r : ℕ) : Type 0 where
-  pub one : r < kinds
+  pub one : r < length ps
   pub low : (j : ℕ) → j < k → offerOf l (getD ps r 0) (cost r) ≤ offerOf l (getD ps j 0) (cost j)
 
 -- a place after the queue has grown: one that stood at its end stands at the first new cell
@@ -91,10 +97,10 @@ movedOn l ps k cell last = set (listOf (length ps) (λ j. caught (nextAt l last)
 
 -- what the search keeps in its list and its places: a queue and places in it
 pub record Held (f : Floor) (goals l : List ℕ) (last : ℕ) (ps : List ℕ) (left : ℕ) : Type 0 where
-  -- a floor of a right size, an entry for each cell, a place for each cost
+  -- a floor of a right size, an entry for each cell, a place for each cost in use
   pub sized : Sized f
   pub long : length l ≡ size f
-  pub whole : length ps ≡ kinds
+  pub whole : length ps ≡ kinds (f .bytes)
   -- the queue, its length and the places in it, which `Searching` is kept of
   pub q : ℕ → ℕ
   pub n : ℕ
@@ -102,7 +108,7 @@ pub record Held (f : Floor) (goals l : List ℕ) (last : ℕ) (ps : List ℕ) (l
   pub searching : Searching f goals (distAt l) q n p
   -- the links are that queue's, and the places of the code are the cells at those places
   pub chain : Chain l q n last
-  pub stands : (k : ℕ) → k < kinds → getD ps k 0 ≡ cellAt q n (p k)
+  pub stands : (k : ℕ) → k < kinds (f .bytes) → getD ps k 0 ≡ cellAt q n (p k)
   -- how many steps are left at most
   pub steps : left ≡ toGo f p
 

@@ -47,11 +47,11 @@ pub record Going (f : Floor) (goals : List ℕ) (d : ℕ → ℕ) : Type 0 where
 -- the places: up to p k the moves of the k-th cost have been followed
 pub record Places (f : Floor) (d q : ℕ → ℕ) (n v : ℕ) (p : ℕ → ℕ) : Type 0 where
   -- none is beyond the queue's end
-  pub upto : (k : ℕ) → k < kinds → p k ≤ n
+  pub upto : (k : ℕ) → k < kinds (f .bytes) → p k ≤ n
   -- where a move was followed, it leads to no more than its cost adds
-  pub done : (k : ℕ) → k < kinds → (i : ℕ) → i < p k → (b : ℕ) → price f (q i) b ≡ cost k → d b ≤ d (q i) + cost k
+  pub done : (k : ℕ) → k < kinds (f .bytes) → (i : ℕ) → i < p k → (b : ℕ) → price f (q i) b ≡ cost k → d b ≤ d (q i) + cost k
   -- what the next moves of a cost reach is no nearer than v
-  pub ahead : (k : ℕ) → k < kinds → p k < n → v ≤ d (q (p k)) + cost k
+  pub ahead : (k : ℕ) → k < kinds (f .bytes) → p k < n → v ≤ d (q (p k)) + cost k
 
 -- what the search keeps
 pub record Searching (f : Floor) (goals : List ℕ) (d q : ℕ → ℕ) (n : ℕ) (p : ℕ → ℕ) : Type 0 where
@@ -67,12 +67,12 @@ abbrev pub offer : (d q : ℕ → ℕ) → (n i c : ℕ) → ℕ
 offer d q n i c = pick (ltb i n) (d (q i) + c) none
 
 -- the step to take: the k-th cost, whose place is before the queue's end and gives v, the least
-pub record Next (d q : ℕ → ℕ) (n : ℕ) (p : ℕ → ℕ) (k v : ℕ) : Type 0 where
-  pub one : k < kinds
+pub record Next (f : Floor) (d q : ℕ → ℕ) (n : ℕ) (p : ℕ → ℕ) (k v : ℕ) : Type 0 where
+  pub one : k < kinds (f .bytes)
   pub before : p k < n
   -- v is what its moves reach, and no other cost reaches less
   pub is : v ≡ d (q (p k)) + cost k
-  pub low : (j : ℕ) → j < kinds → p j < n → v ≤ d (q (p j)) + cost j
+  pub low : (j : ℕ) → j < kinds (f .bytes) → p j < n → v ≤ d (q (p j)) + cost j
 
 -- what following moves of cost c from the cell x adds: new cells at the queue's end, each at distance v, and nothing else
 pub record Grown (f : Floor) (x c v : ℕ) (d q : ℕ → ℕ) (n : ℕ) (d′ q′ : ℕ → ℕ) (n′ : ℕ) : Type 0 where
@@ -94,4 +94,4 @@ pub record Followed (f : Floor) (x c v m : ℕ) (d q : ℕ → ℕ) (n : ℕ) (d
 
 -- how far the places can still go, together: each passes each cell once
 abbrev pub toGo : Floor → (ℕ → ℕ) → ℕ
-toGo f p = total kinds (λ k. size f - p k)
+toGo f p = total (kinds (f .bytes)) (λ k. size f - p k)

@@ -2,18 +2,19 @@
 // the nearest first; for each cost that a move can have, a place in the queue says up to where the moves of that cost have been followed.
 // One list holds all of it: the entry of a cell is its distance × 8,192 + the next cell of the queue.
 ghost use mathlib.Core.Path.{_≡_};
-ghost use Prim.Native.Nat.{ℕ, _+_, _*_, _≤_, _<_};
+ghost use Prim.Native.Nat.{_+_, _*_, _≤_, _<_};
 ghost use lib.ListN.{length, getD};
 ghost use Rattle.learning.specs.Ground.{listOf};
 ghost use Rattle.learning.proofs.Certificate.{Certified};
 ghost use Rattle.model.specs.Floor.{Sized, goalsOf};
 ghost use Rattle.model.specs.Grounds.{groundOf};
-ghost use Rattle.floor.specs.Moves.{flat, kinds, cost, Placed, stepOf};
+ghost use Rattle.floor.specs.Moves.{flat, allKinds, cost, Placed, stepOf};
 ghost use Rattle.opening.specs.Distances.{Distances};
 ghost use Rattle.opening.specs.Search.{none};
-ghost use Rattle.opening.specs.Chain.{links, entry, distAt, nextAt, blank, entered, Entered, Enterable, Follows, Readable, offerOf, Least, caught, movedOn, plain};
+ghost use Rattle.opening.specs.Chain.{links, entry, distAt, nextAt, blank, entered, Entered, Enterable, Follows, Readable, offerOf, Offered, Least, caught, movedOn, Held, plain};
 use floor::CEILING;
 use floor::KINDS;
+use floor::PLAIN_KINDS;
 use floor::Spot;
 use floor::Step;
 
@@ -91,7 +92,7 @@ fn pass(
     list: &mut [u32],
     last: usize,
 ) -> usize
-    requires { ⌜ Sized (flat width height (now floor)) × Placed (flat width height (now floor)) cell spot × (m < 8) × (k < kinds) ⌝
+    requires { ⌜ Sized (flat width height (now floor)) × Placed (flat width height (now floor)) cell spot × (m < 8) × (k < allKinds) ⌝
         ∗ ⌜ (length (now list) ≡ width * height) × (last < width * height) × (v < none) ⌝ }
     ensures { λ r. ⌜ Entered (stepOf (flat width height (now (floor .entry))) cell m) (cost k) v (now (list .entry)) last (now (list .exit)) r ⌝ }
 {
@@ -114,7 +115,35 @@ fn follow(
     list: &mut [u32],
     last: usize,
 ) -> usize
-    requires { ⌜ Sized (flat width height (now floor)) × (cell < width * height) × (k < kinds) ⌝
+    requires { ⌜ Sized (flat width height (now floor)) × (cell < width * height) × (k < allKinds) ⌝
+        ∗ ⌜ (length (now list) ≡ width * height) × (last < width * height) × (v < none) ⌝ }
+    ensures { λ r. ⌜ Follows (flat width height (now (floor .entry))) cell (cost k) v 8 (now (list .entry)) last (now (list .exit)) r ⌝ }
+{
+    if !floor::is_free(width, height, floor, cell) {
+        return last;
+    }
+    let spot = floor::spot_of(width, height, floor, cell);
+    let mut end = last;
+    let mut m = 0;
+    while m < 8 {
+        end = pass(width, height, floor, cell, spot, m, k, v, list, end);
+        m += 1;
+    }
+    end
+}
+
+// And so on a floor with slow cells. A long function is made part of its caller only where it has but one: so each search has its own.
+fn follow_slow(
+    width: usize,
+    height: usize,
+    floor: &[u8],
+    cell: usize,
+    k: usize,
+    v: u32,
+    list: &mut [u32],
+    last: usize,
+) -> usize
+    requires { ⌜ Sized (flat width height (now floor)) × (cell < width * height) × (k < allKinds) ⌝
         ∗ ⌜ (length (now list) ≡ width * height) × (last < width * height) × (v < none) ⌝ }
     ensures { λ r. ⌜ Follows (flat width height (now (floor .entry))) cell (cost k) v 8 (now (list .entry)) last (now (list .exit)) r ⌝ }
 {
@@ -133,7 +162,7 @@ fn follow(
 
 // What the moves of the k-th cost reach from a place: the distance there and the cost. NONE at the queue's end.
 fn offer(list: &[u32], place: usize, k: usize) -> u32
-    requires { ⌜ Readable (now list) place × (k < kinds) ⌝ }
+    requires { ⌜ Readable (now list) place × (k < allKinds) ⌝ }
     ensures { λ r. ⌜ r ≡ offerOf (now (list .entry)) place (cost k) ⌝ }
 {
     if place == END {
@@ -144,7 +173,7 @@ fn offer(list: &[u32], place: usize, k: usize) -> u32
 
 // Which of two costs has the lesser offer.
 fn lesser(list: &[u32], places: &[usize], a: usize, b: usize) -> usize
-    requires { ⌜ length (now places) ≡ kinds ⌝ ∗ ⌜ ((k : ℕ) → k < kinds → Readable (now list) (getD (now places) k 0)) ⌝ ∗ ⌜ (b < kinds) × Least (now list) (now places) b a ⌝ }
+    requires { ⌜ Offered (now list) (now places) ⌝ ∗ ⌜ (b < length (now places)) × Least (now list) (now places) b a ⌝ }
     ensures { λ r. ⌜ Least (now (list .entry)) (now (places .entry)) (b + 1) r ⌝ }
 {
     let ours = offer(list, places[a], a);
@@ -154,12 +183,12 @@ fn lesser(list: &[u32], places: &[usize], a: usize, b: usize) -> usize
 
 // The cost of the least offer.
 fn least(list: &[u32], places: &[usize]) -> usize
-    requires { ⌜ length (now places) ≡ kinds ⌝ ∗ ⌜ ((k : ℕ) → k < kinds → Readable (now list) (getD (now places) k 0)) ⌝ }
-    ensures { λ r. ⌜ Least (now (list .entry)) (now (places .entry)) kinds r ⌝ }
+    requires { ⌜ Offered (now list) (now places) ⌝ }
+    ensures { λ r. ⌜ Least (now (list .entry)) (now (places .entry)) (length (now (places .entry))) r ⌝ }
 {
     let mut best = 0;
     let mut k = 1;
-    while k < KINDS {
+    while k < places.len() {
         best = lesser(list, places, best, k);
         k += 1;
     }
@@ -194,26 +223,86 @@ fn move_on(list: &[u32], places: &mut [usize], k: usize, cell: usize, last: usiz
 }
 
 // From the goal to every cell that can be reached: the least offer is followed, and its place moves on, until every place is at the queue's end.
-fn spread(width: usize, height: usize, floor: &[u8], goal: usize, list: &mut [u32])
-    requires { ⌜ Sized (flat width height (now floor)) × (goal < width * height) × (now list ≡ listOf (width * height) (λ x. blank)) ⌝ }
+// A place for each cost that this floor's moves can have is lent, at the goal; together they take so many steps at most.
+fn spread(
+    width: usize,
+    height: usize,
+    floor: &[u8],
+    goal: usize,
+    steps: usize,
+    places: &mut [usize],
+    list: &mut [u32],
+)
+    requires { ⌜ Held (flat width height (now floor)) (goalsOf goal) (now list) goal (now places) steps ⌝ }
     ensures { λ r. ⌜ Certified (groundOf (flat width height (now (floor .entry))) (goalsOf goal)) none (distAt (now (list .exit))) ⌝ }
 {
-    list[goal] = entry(0, END);
-    let mut places = [goal; KINDS];
     let mut last = goal;
-    let mut left = KINDS * (width * height);
+    let mut left = steps;
     while 0 < left {
-        let k = least(&list[..], &places);
+        let k = least(&list[..], &places[..]);
         let cell = places[k];
         if cell == END {
             return;
         }
         let v = offer(&list[..], cell, k);
         let end = follow(width, height, floor, cell, k, v, list, last);
-        move_on(&list[..], &mut places, k, cell, last);
+        move_on(&list[..], places, k, cell, last);
         last = end;
         left -= 1;
     }
+}
+
+// And so on a floor with slow cells. (One search for both, with as many places as are lent, takes twice the time on a plain floor.)
+fn spread_slow(
+    width: usize,
+    height: usize,
+    floor: &[u8],
+    goal: usize,
+    steps: usize,
+    places: &mut [usize],
+    list: &mut [u32],
+)
+    requires { ⌜ Held (flat width height (now floor)) (goalsOf goal) (now list) goal (now places) steps ⌝ }
+    ensures { λ r. ⌜ Certified (groundOf (flat width height (now (floor .entry))) (goalsOf goal)) none (distAt (now (list .exit))) ⌝ }
+{
+    let mut last = goal;
+    let mut left = steps;
+    while 0 < left {
+        let k = least(&list[..], &places[..]);
+        let cell = places[k];
+        if cell == END {
+            return;
+        }
+        let v = offer(&list[..], cell, k);
+        let end = follow_slow(width, height, floor, cell, k, v, list, last);
+        move_on(&list[..], places, k, cell, last);
+        last = end;
+        left -= 1;
+    }
+}
+
+// From the goal to every cell that can be reached, on whatever floor.
+fn explore(width: usize, height: usize, floor: &[u8], goal: usize, list: &mut [u32])
+    requires { ⌜ Sized (flat width height (now floor)) × (goal < width * height) × (now list ≡ listOf (width * height) (λ x. blank)) ⌝ }
+    ensures { λ r. ⌜ Certified (groundOf (flat width height (now (floor .entry))) (goalsOf goal)) none (distAt (now (list .exit))) ⌝ }
+{
+    list[goal] = entry(0, END);
+    let cells = width * height;
+    if floor::kinds_on(floor) < KINDS {
+        let mut places = [goal; PLAIN_KINDS];
+        spread(
+            width,
+            height,
+            floor,
+            goal,
+            PLAIN_KINDS * cells,
+            &mut places,
+            list,
+        );
+        return;
+    }
+    let mut places = [goal; KINDS];
+    spread_slow(width, height, floor, goal, KINDS * cells, &mut places, list);
 }
 
 // No cell has a distance.
@@ -251,6 +340,6 @@ pub fn find_distances(width: usize, height: usize, floor: &[u8], goal: usize, di
     ensures { λ r. ⌜ Distances (flat width height (now (floor .entry))) (goalsOf goal) (now (dist .exit)) ⌝ }
 {
     clear(dist);
-    spread(width, height, floor, goal, dist);
+    explore(width, height, floor, goal, dist);
     unpack(dist);
 }

@@ -1,6 +1,7 @@
 -- `floor::spot_of` meets its contract: the column and the row are the model's own, by division.
 -- Assumes nothing.
 use mathlib.Core.Path.{refl}
+use native.Mathlib.Omega.{arith}
 use borrow.Author.Needs.{needs}
 use Rattle.model.proofs.Moves.{free-below}
 use Rattle.floor.proofs.spot_of.Statement.{statement}
@@ -12,8 +13,9 @@ spot-of-spec =
     (tie.spec
     (λ c. search needs)
     (λ c. search needs)
-    (λ c κs. let s = c .before in (s .pre .0, (free-below _ _ (s .pre .1), refl)))
+    (λ c. let s = c .before .before in omega (arith, free-below _ _ (s .pre .1), s .pre .0 .cells))
     (λ c κs. let s = c .before .before in (s .pre .0, (free-below _ _ (s .pre .1), refl)))
     (λ c κs. let s = c .before .before .before in (s .pre .0, (free-below _ _ (s .pre .1), refl)))
     (λ c κs. let s = c .before .before .before .before in (s .pre .0, (free-below _ _ (s .pre .1), refl)))
+    (λ c κs. let s = c .before .before .before .before .before in (s .pre .0, (free-below _ _ (s .pre .1), refl)))
     (λ c. search needs))

@@ -1,11 +1,13 @@
--- `floor::step_from` meets its contract: each test that fails makes a wall, and past them the cell is the model's, at the toll of the move.
+-- `floor::step_from` meets its contract: each test that fails makes a wall, and past them the cell is the model's, at the price of the move.
 -- Assumes nothing.
-use mathlib.Core.Path.{_≡_, ap, ap₂}
+use mathlib.Core.Path.{_≡_, sym, ap, ap₂, _∙_}
 use Prim.Native.Nat.{_+_, _-_, _*_, _≤_}
 use native.Mathlib.Omega.{arith}
 use borrow.Author.Needs.{needs}
+use borrow.Author.Tests.{not-true, not-false}
+use lib.ListN.{getD}
 use Rattle.model.specs.Floor.{east, south}
-use Rattle.floor.proofs.Stepping.{Sided, inside, room, reached, wall-row, wall-column, wall-ahead, step-to}
+use Rattle.floor.proofs.Stepping.{Sided, inside, room, reached, byte-ahead, wall-row, wall-column, wall-ahead, step-to}
 use Rattle.floor.proofs.step_from.Statement.{statement}
 use Rattle.floor.proofs.step_from.Tie as tie
 
@@ -44,26 +46,35 @@ returns-2 c =
     let s = c .before .before .before .before .before in
     wall-column (s .pre .0) (s .pre .1 .0) _ (s .pre .1 .1) (c .before .column-barred .ensures .fails (c .if2 .taken))
 
-is-taken-requires : tie.Need-is-taken-requires
-is-taken-requires c κs =
+byte-ahead-requires : tie.Need-byte-ahead-requires
+byte-ahead-requires c κs =
     let off = c .before .before in
     let s = start off in
-    reached (s .pre .0) (s .pre .1 .0) _ (s .pre .1 .1) (sided off) _ (led c)
+    (reached (s .pre .0) (s .pre .1 .0) _ (s .pre .1 .1) (sided off) _ (led c), s .pre .1 .1)
+
+-- the byte of the cell moved into
+there : (c : tie.After-byte-ahead) → let a = start (c .before .before .before) .args in
+    c .byte-ahead .result ≡ getD (a .floor .now) (a .cell + c .before .before .south .result * a .width + c .before .east .result - (a .width + 1)) 0
+there c =
+    let off = c .before .before .before in
+    let s = start off in
+    c .byte-ahead .ensures ∙ byte-ahead (s .pre .0) (s .pre .1 .0) _ (s .pre .1 .1) (sided off) _ (led (c .before))
 
 returns-3 : tie.Need-returns-3
 returns-3 c =
-    let at-east = c .before .before in
-    let off = at-east .before .before in
+    let at-byte = c .before .before in
+    let off = at-byte .before .before .before in
     let s = start off in
-    wall-ahead (s .pre .0) (s .pre .1 .0) _ (s .pre .1 .1) (sided off) _ (led at-east) (c .before .is-taken .ensures .fails (c .if3 .taken))
+    wall-ahead (s .pre .0) (s .pre .1 .0) _ (s .pre .1 .1) (sided off) _ (led (at-byte .before)) _ (there at-byte) (sym (c .before .free-byte .ensures) ∙ not-true _ (c .if3 .taken))
 
 returns-4 : tie.Need-returns-4
 returns-4 c =
     let at-else = c .before in
-    let at-east = at-else .before .before in
-    let off = at-east .before .before in
+    let at-byte = at-else .before .before in
+    let off = at-byte .before .before .before in
     let s = start off in
-    step-to (s .pre .0) (s .pre .1 .0) _ (s .pre .1 .1) (sided off) _ (led at-east) _ (c .toll .ensures) (at-else .before .is-taken .ensures .holds (at-else .if3 .left))
+    step-to (s .pre .0) (s .pre .1 .0) _ (s .pre .1 .1) (sided off) _ (led (at-byte .before)) _ (there at-byte) (sym (at-else .before .free-byte .ensures) ∙ not-false _ (at-else .if3 .left)) _
+    (c .price .ensures)
 
 pub step-from-spec : {M : Type 1} → statement M
 step-from-spec =
@@ -80,7 +91,8 @@ step-from-spec =
     (λ c. omega (arith, space (c .before .before) .1, rows (c .before), c .east .ensures))
     (λ c. search needs)
     (λ c. omega (arith, space (c .before .before) .0, rows (c .before), c .east .ensures))
-    is-taken-requires
+    byte-ahead-requires
+    (λ c κs. search needs)
     returns-3
     (λ c κs. search needs)
     returns-4)

@@ -11,8 +11,8 @@ use Rattle.opening.proofs.search.find_distances.Tie as tie
 abbrev at-start : tie.After-clear → tie.Start
 at-start c = c .before .before .before .before
 
-spread-requires : tie.Need-spread-requires
-spread-requires c κs =
+explore-requires : tie.Need-explore-requires
+explore-requires c κs =
     let e = c .before .before .before in
     let p = at-start e .pre in
     (p .0, p .2, e .clear .ensures ∙ ap (λ n. listOf n (λ x. blank)) (p .1))
@@ -22,7 +22,7 @@ returns c =
     let s = c .before .before .before .before .before .before in
     let e = s .before .before .before .before in
     let p = at-start e .pre in
-    certified-distances _ (p .0) (s .spread .kept .1 .1 .1 .1 .0 ∙ e .clear .kept .0 ∙ p .1) (s .spread .ensures) (c .before .before .unpack .ensures)
+    certified-distances _ (p .0) (s .explore .kept .1 .1 .1 .1 .0 ∙ e .clear .kept .0 ∙ p .1) (s .explore .ensures) (c .before .before .unpack .ensures)
 
 pub find-distances-spec : {M : Type 1} → statement M
-find-distances-spec = tie.close (tie.spec (λ c κs. search needs) spread-requires (λ c κs. search needs) (λ c. search needs) returns)
+find-distances-spec = tie.close (tie.spec (λ c κs. search needs) explore-requires (λ c κs. search needs) (λ c. search needs) returns)

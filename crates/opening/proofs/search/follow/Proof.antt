@@ -2,11 +2,11 @@
 -- Assumes nothing.
 use Prim.Native.Nat.{_-_, _≤_}
 use Rattle.floor.specs.Moves.{flat, cost}
-use Rattle.opening.proofs.Chain.{follows-none, follows-blocked, follows-more}
+use Rattle.opening.proofs.Chain.{follows-none, follows-blocked, follows-more, follows-all}
 use Rattle.opening.specs.Chain.{Follows}
 use borrow.Author.Tests.{not-true, not-false}
 use borrow.Author.Needs.{needs}
-use mathlib.Core.Path.{_≡_, sym, _∙_, subst}
+use mathlib.Core.Path.{sym, _∙_}
 use native.Mathlib.Omega.{arith}
 use Rattle.opening.proofs.search.follow.Statement.{statement}
 use Rattle.opening.proofs.search.follow.Tie as tie
@@ -32,13 +32,6 @@ loop-again c =
     let l = c .before .before .before .before .before in
     (omega arith, follows-more (at-start (l .before) .pre .0 .0) (l .loop .inv .1) (c .before .before .pass .ensures))
 
-returns-2 : tie.Need-returns-2 Inv-loop μ-loop
-returns-2 c =
-    let a = at-start (c .before .before) .args in
-    let l = c .before .loop in
-    let e : l .m ≡ 8 = omega arith in
-    subst (λ n. Follows (flat (a .width) (a .height) (a .floor .now)) (a .cell) (cost (a .k)) (a .v) n (a .list .now) (a .last) (l .list) (l .end)) e (l .inv .1)
-
 pub follow-spec : {M : Type 1} → statement M
 follow-spec =
     tie.close
@@ -54,4 +47,4 @@ follow-spec =
     (λ c. omega arith)
     loop-again
     (λ c. c .before .loop .inv .1 .long ∙ sym (at-start (c .before .before) .pre .1 .0))
-    returns-2)
+    (λ c. let l = c .before .loop in follows-all (at-start (c .before .before) .pre .0 .0) (l .inv .0) (omega (arith, c .loop-test .left)) (l .inv .1)))

@@ -1,31 +1,31 @@
 -- `opening::search::least` meets its contract. The invariant: the least offer of the first k costs.
 -- Assumes nothing.
 use Prim.Native.Nat.{_-_, _≤_}
-use Rattle.floor.specs.Moves.{kinds}
 use Rattle.opening.proofs.Offers.{least-first}
 use Rattle.opening.specs.Chain.{Least}
+use lib.ListN.{length}
 use mathlib.Core.Path.{_≡_, subst}
 use native.Mathlib.Omega.{arith}
 use Rattle.opening.proofs.search.least.Statement.{statement}
 use Rattle.opening.proofs.search.least.Tie as tie
 
 abbrev Inv-loop : tie.InvT-loop
-Inv-loop list places best₀ k₀ best k = (k ≤ kinds) × Least list places k best
+Inv-loop list places best₀ k₀ best k = (k ≤ length places) × Least list places k best
 
 abbrev μ-loop : tie.MeasureT-loop
-μ-loop list places best₀ k₀ best k = kinds - k
+μ-loop list places best₀ k₀ best k = length places - k
 
 lesser-requires : tie.Need-lesser-requires Inv-loop μ-loop
-lesser-requires c κs = let p = c .before .before .before .before .pre in (p .0, (p .1, (omega arith, c .before .loop .inv .1)))
+lesser-requires c κs = (c .before .before .before .before .pre, (omega arith, c .before .loop .inv .1))
 
 returns : tie.Need-returns Inv-loop μ-loop
 returns c =
     let a = c .before .before .before .before .args in
     let l = c .before .loop in
-    let e : l .k ≡ kinds = omega arith in
+    let e : l .k ≡ length (a .places .now) = omega arith in
     subst (λ k. Least (a .list .now) (a .places .now) k (l .best)) e (l .inv .1)
 
 pub least-spec : {M : Type 1} → statement M
 least-spec =
     tie.close
-    (tie.spec Inv-loop μ-loop (λ c. (omega arith, least-first _ _)) lesser-requires (λ c. omega arith) (λ c. omega arith) (λ c. (omega arith, c .lesser .ensures)) returns)
+    (tie.spec Inv-loop μ-loop (λ c. let p = c .before .before .pre in (p .some, least-first _ _ (p .some))) lesser-requires (λ c. omega arith) (λ c. omega arith) (λ c. (omega arith, c .lesser .ensures)) returns)

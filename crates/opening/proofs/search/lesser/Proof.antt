@@ -2,6 +2,7 @@
 -- Assumes nothing.
 use Rattle.opening.proofs.Offers.{least-take, least-keep}
 use borrow.Author.Needs.{needs}
+use native.Mathlib.Nat.{le-trans}
 use native.Mathlib.Omega.{arith}
 use Rattle.opening.proofs.search.lesser.Statement.{statement}
 use Rattle.opening.proofs.search.lesser.Tie as tie
@@ -15,9 +16,9 @@ lesser-spec =
     (tie.spec
     (λ c. search needs)
     (λ c. search needs)
-    (λ c κs. let p = c .before .before .before .pre in (p .1 .0 _ (p .1 .1 .1 .one), p .1 .1 .1 .one))
+    (λ c κs. let p = c .before .before .before .pre in let h = p .1 .1 .one in (p .0 .readable _ h, le-trans h (p .0 .few)))
     (λ c. search needs)
     (λ c. search needs)
-    (λ c κs. let p = at-start (c .before) .pre in (p .1 .0 _ (p .1 .1 .0), p .1 .1 .0))
-    (λ c. let s = c .before .before .before in let p = at-start s .pre .1 .1 in least-take _ _ (s .offer .ensures) (c .before .offer2 .ensures) (p .1) (p .0) (omega (arith, c .if1 .taken)))
-    (λ c. let s = c .before .before .before in least-keep _ _ (s .offer .ensures) (c .before .offer2 .ensures) (at-start s .pre .1 .1 .1) (omega (arith, c .if1 .left))))
+    (λ c κs. let p = at-start (c .before) .pre in let h = p .1 .0 in (p .0 .readable _ h, le-trans h (p .0 .few)))
+    (λ c. let s = c .before .before .before in let p = at-start s .pre .1 in least-take _ _ (s .offer .ensures) (c .before .offer2 .ensures) (p .1) (p .0) (omega (arith, c .if1 .taken)))
+    (λ c. let s = c .before .before .before in least-keep _ _ (s .offer .ensures) (c .before .offer2 .ensures) (at-start s .pre .1 .1) (omega (arith, c .if1 .left))))

@@ -1,75 +1,52 @@
 -- `opening::search::spread` meets its contract. The invariant is `Held`; the places pass each cell once, which bounds the steps.
 -- Assumes nothing.
-use Prim.Native.Nat.{_-_, _*_}
-use Rattle.learning.proofs.Spread.{list-length}
 use Rattle.model.specs.Floor.{goalsOf}
-use Rattle.model.proofs.Moves.{sized-cells}
-use Rattle.floor.specs.Moves.{flat, kinds}
-use Rattle.opening.proofs.Held.{held-start, held-readable, held-none, held-next, held-last, step-on, step-small, held-step, held-done}
+use Rattle.floor.specs.Moves.{flat}
+use Rattle.floor.proofs.Steps.{kind-fits}
+use Rattle.opening.proofs.Held.{held-readable, held-offered, held-one, held-none, held-next, step-follow, step-move, held-step, held-done}
 use Rattle.opening.specs.Search.{Next}
-use Rattle.opening.specs.Chain.{distAt, blank, Held}
-use lib.ListN.{length, set, replicate}
+use Rattle.opening.specs.Chain.{distAt, Held}
 use borrow.Author.Needs.{needs}
-use mathlib.Core.Path.{_≡_, sym, ap, _∙_, subst}
+use mathlib.Core.Path.{sym, _∙_}
 use native.Mathlib.Omega.{arith}
 use Rattle.opening.proofs.search.spread.Statement.{statement}
 use Rattle.opening.proofs.search.spread.Tie as tie
 
 abbrev Inv-loop : tie.InvT-loop
-Inv-loop width height floor goal list₀ places₀ last₀ left₀ list places last left = Held (flat width height floor) (goalsOf goal) list last places left
+Inv-loop width height floor goal steps places₀ list₀ last₀ left₀ places list last left = Held (flat width height floor) (goalsOf goal) list last places left
 
 abbrev μ-loop : tie.MeasureT-loop
-μ-loop width height floor goal list₀ places₀ last₀ left₀ list places last left = left
+μ-loop width height floor goal steps places₀ list₀ last₀ left₀ places list last left = left
 
+-- the places: the start, from the loop; the loop, from the least offer; the least offer, from what it comes to
 abbrev at-start : tie.At-loop Inv-loop μ-loop → tie.Start Inv-loop μ-loop
 at-start c = c .before .before .before .before
 
--- from the least offer back to the loop
 abbrev looping : tie.After-least Inv-loop μ-loop → tie.At-loop Inv-loop μ-loop
 looping c = c .before .before .before .before
 
--- an entry for each cell
-long : (c : tie.Start Inv-loop μ-loop) → length (c .args .list .now) ≡ c .args .width * c .args .height
-long c = ap length (c .pre .2) ∙ list-length (c .args .width * c .args .height) (λ x. blank)
+abbrev asked : tie.After-offer Inv-loop μ-loop → tie.After-least Inv-loop μ-loop
+asked c = c .before .before .before .before
 
 -- the step to take
-chosen : (c : tie.After-offer Inv-loop μ-loop) → let s = c .before .before .before in let l = looping s .loop in
-    Next (distAt (l .list)) (l .inv .q) (l .inv .n) (l .inv .p) (s .least .result) (c .offer .result)
+chosen : (c : tie.After-offer Inv-loop μ-loop) → let s = asked c in let l = looping s in let a = at-start l .args in
+    Next (flat (a .width) (a .height) (a .floor .now)) (distAt (l .loop .list)) (l .loop .inv .q) (l .loop .inv .n) (l .loop .inv .p) (s .least .result) (c .offer .result)
 chosen c =
-    let s = c .before .before .before in
+    let s = asked c in
     held-next (looping s .loop .inv) (s .least .ensures) (c .offer .ensures) (c .before .before .if1 .left)
-
-loop-holds : tie.Need-loop-holds Inv-loop μ-loop
-loop-holds c =
-    let s = c .before .before .before in
-    let a = s .args in
-    subst (λ e. Held (flat (a .width) (a .height) (a .floor .now)) (goalsOf (a .goal)) (set (a .list .now) (a .goal) e) (a .goal) (replicate kinds (a .goal)) (kinds * (a .width * a .height)))
-    (sym (c .entry .ensures)) (held-start (s .pre .0) (s .pre .1) (s .pre .2))
-
-follow-requires : tie.Need-follow-requires Inv-loop μ-loop
-follow-requires c κs =
-    let H = looping (c .before .before .before .before) .loop .inv in
-    let N = chosen (c .before) in
-    ((H .sized, step-on H N, N .one), (H .long, held-last H, step-small H N))
 
 move-on-requires : tie.Need-move-on-requires Inv-loop μ-loop
 move-on-requires c κs =
     let e = c .before .before .before .before in
     let o = e .before .before in
-    let H = looping (o .before .before .before) .loop .inv in
-    let N = chosen o in
-    let t = e .follow .ensures .long in
-    (omega (arith, N .one, H .whole), omega (arith, step-on H N, t), omega (arith, held-last H, t))
+    step-move (looping (asked o) .loop .inv) (chosen o) (e .follow .ensures)
 
 loop-again : tie.Need-loop-again Inv-loop μ-loop
 loop-again c =
-    let e = c .before .before .before .before .before .before in
-    let o = e .before .before in
-    let l = looping (o .before .before .before) in
-    let a = at-start l .args in
-    let g = e .follow in
-    subst (λ ps. Held (flat (a .width) (a .height) (a .floor .now)) (goalsOf (a .goal)) (g .last .1 .1 .1 .1 .1 .1 .0) (g .result) ps (l .loop .left - 1)) (sym (c .before .move-on .ensures))
-    (held-step (l .loop .inv) (chosen o) (g .ensures))
+    let m = c .before .before in
+    let g = m .before .before .before .before .before in
+    let o = g .before .before in
+    held-step (looping (asked o) .loop .inv) (chosen o) (g .follow .ensures) (m .move-on .ensures)
 
 pub spread-spec : {M : Type 1} → statement M
 spread-spec =
@@ -77,24 +54,19 @@ spread-spec =
     (tie.spec
     Inv-loop
     μ-loop
-    (λ c κs. (omega arith, omega arith))
-    (λ c. let h = sized-cells (c .before .before .before .pre .0) in let k = c .before .before .before .pre .1 in record { fits = omega arith })
-    (λ c. let s = c .before .before .before in omega (arith, s .pre .1, long s))
-    (λ c. let h = sized-cells (c .before .before .before .pre .0) in record { fits = omega arith })
-    (λ c. let h = sized-cells (c .before .before .before .pre .0) in record { fits = omega arith })
-    loop-holds
-    (λ c. sym (c .before .before .before .loop .inv .whole))
-    (λ c κs. let H = c .before .before .before .loop .inv in (H .whole, held-readable H))
-    (λ c. let h = c .least .ensures .one in search needs)
-    (λ c. c .least .ensures .one)
-    (λ c. let l = looping (c .before) in l .loop .inv .long ∙ sym (long (at-start l)))
-    (λ c. held-none (looping (c .before) .loop .inv) (c .before .least .ensures) (c .if1 .taken))
-    (λ c κs. let s = c .before .before in (held-readable (looping s .loop .inv) _ (s .least .ensures .one), s .least .ensures .one))
-    follow-requires
-    (λ c. let o = c .before .before .before .before .before .before in sym (looping (o .before .before .before) .loop .inv .whole))
+    (λ c. c .before .before .before .pre)
+    (λ c κs. held-offered (c .before .before .before .loop .inv))
+    (λ c. let H = looping c .loop .inv in record { fits = omega (arith, c .least .ensures .one, held-offered H .few) })
+    (λ c. c .before .least .ensures .one)
+    (λ c. let l = looping (c .before .before) in l .loop .inv .whole ∙ sym (at-start l .pre .whole))
+    (λ c. let l = looping (c .before .before) in l .loop .inv .long ∙ sym (at-start l .pre .long))
+    (λ c. let s = c .before .before in held-none (looping s .loop .inv) (s .least .ensures) (c .if1 .taken))
+    (λ c κs. let s = c .before .before .before in let H = looping s .loop .inv in let h = held-one H (s .least .ensures) in (held-readable H _ h, kind-fits _ _ h))
+    (λ c κs. let o = c .before in step-follow (looping (asked o) .loop .inv) (chosen o))
     move-on-requires
     (λ c. search needs)
     (λ c. omega arith)
     loop-again
-    (λ c. let l = c .before in l .loop .inv .long ∙ sym (long (at-start l)))
+    (λ c. c .before .loop .inv .whole ∙ sym (at-start (c .before) .pre .whole))
+    (λ c. c .before .loop .inv .long ∙ sym (at-start (c .before) .pre .long))
     (λ c. held-done (c .before .loop .inv) (c .loop-test .left)))
