@@ -23,14 +23,15 @@ use Rattle.model.specs.Basics.{then}
 use Rattle.model.specs.Floor.{size, free, opening, openingTable}
 use Rattle.model.specs.Checks.{floorOf, goals, sizes, settings, scale, benches, places}
 use Rattle.model.specs.Opening.{accepts, openJob, openTrial, openTable, filled, trialsHold}
-use Rattle.model.specs.FloorText.{LF, typeAndHeight, andWidth, andMap, begins, widthIn, heightIn, afterHeight, afterWidth, rowsIn, header, cellsOf, floorVerdict, floorFrom, readFloor}
+use Rattle.model.specs.FloorText.{LF, widthIn, heightIn, rowsIn, cellsOf, floorVerdict, floorFrom, readFloor}
 use Rattle.model.specs.Line.{field, placeField, refusalLine, jobIn, readLine, afterLine, judgeAisle, printed, aisle}
-use Rattle.model.proofs.Accepted.{not-refused, then-next, then-refused, then-done, le-tells, is-tells, and-tells, unless-judges, sizes-judges, path-judges, settings-judges, trials-judges}
+use Rattle.model.proofs.Accepted.{not-refused, then-next, then-refused, then-done, sizes-judges, path-judges, settings-judges, trials-judges}
 use Rattle.model.proofs.Accepted.{scale-judges, bench-judges, places-judges}
 use Rattle.model.proofs.Parts.{rest}
-use Rattle.model.proofs.Cut.{size-most, malformed-is, asked-is, aisle-cut}
+use Rattle.model.proofs.Cells.{cells-le}
+use Rattle.model.proofs.FloorRoundTrip.{read-sized}
+use Rattle.model.proofs.Cut.{malformed-is, asked-is, aisle-cut}
 use Rattle.floor_text.specs.Reads.{Reads}
-use Rattle.floor_text.proofs.Laws.{rows-there, length-cells}
 use Rattle.opening.specs.Promise.{Fills, lineHolds}
 use Rattle.line.specs.declared.Line.{Line}
 use Rattle.line.specs.declared.Line.the-variants as Ln
@@ -184,7 +185,6 @@ module _ (text buffer after : List ℕ) (r : FloorRead) (room : length buffer �
       by (Vd.Refused g) z = cc
 
   pub read-done : (w k : ℕ) → r ≡ Fr.Sizes w k → Read text w k (take (w * k) after)
-  unfolding floorVerdict header
   read-done w k e = by (floorVerdict text 4096) refl
     where
       by : (v : Verdict) → floorVerdict text 4096 ≡ v → Read text w k (take (w * k) after)
@@ -195,28 +195,23 @@ module _ (text buffer after : List ℕ) (r : FloorRead) (room : length buffer �
           let d : Fr.Sizes w k ≡ Fr.Sizes (widthIn text) (heightIn text) = sym e ∙ answer-is ∙ ap (λ v. floorFrom v text buffer .answer) z in
           let eq-w : w ≡ widthIn text = cc in
           let eq-h : k ≡ heightIn text = cc in
-          let a = then-done _ _ z in
-          let b = then-done _ _ (a .1) in
-          let t = unless-judges _ 11 (and-tells (and-tells (and-tells (and-tells (is-tells (begins typeAndHeight text)) (le-tells 1 (heightIn text)))
-          (is-tells (begins andWidth (afterHeight text)))) (le-tells 1 (widthIn text))) (is-tells (begins andMap (afterWidth text)))) .gives (a .0) in
-          let room-there : widthIn text * heightIn text ≤ 4096 = unless-judges _ 2 (le-tells (widthIn text * heightIn text) 4096) .gives (b .0) in
-          let cells-long : length (cellsOf (widthIn text) (heightIn text) (rowsIn text)) ≡ heightIn text * widthIn text =
-          length-cells (widthIn text) (heightIn text) (rowsIn text) (rows-there (widthIn text) (heightIn text) 5 (rowsIn text) (b .1)) in
+          let sized = read-sized text 4096 z in
+          let room-there : widthIn text * heightIn text ≤ 4096 = cells-le (widthIn text) (heightIn text) (sized .narrow) (sized .low) in
           let same : w * k ≡ widthIn text * heightIn text = λ i. eq-w i * eq-h i in
           let all : take (w * k) after ≡ cellsOf (widthIn text) (heightIn text) (rowsIn text) =
           ap (take (w * k)) (after-is ∙ ap (λ v. floorFrom v text buffer .buffer) z)
-          ∙ take-at (cellsOf (widthIn text) (heightIn text) (rowsIn text)) _ (w * k) (cells-long ∙ omega (arith, same)) in
+          ∙ take-at (cellsOf (widthIn text) (heightIn text) (rowsIn text)) _ (w * k) (sized .cells ∙ sym same) in
           record {
             done = z;
             width = eq-w;
             height = eq-h;
-            wide = omega (arith, t .0 .1);
-            narrow = omega (arith, size-most (drop 6 (afterHeight text)));
-            high = omega (arith, t .0 .0 .0 .1);
-            low = omega (arith, size-most (drop 19 text));
+            wide = omega (arith, sized .wide);
+            narrow = omega (arith, sized .narrow);
+            high = omega (arith, sized .high);
+            low = omega (arith, sized .low);
             few = omega (arith, same);
             cells = all;
-            long = ap length all ∙ cells-long ∙ omega (arith, same);
+            long = ap length all ∙ sized .cells ∙ sym same;
           }
 
 -- ---- the whole

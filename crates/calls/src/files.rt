@@ -4,26 +4,8 @@ ghost use lib.ListN.{length};
 use crate::rooms;
 use crate::rooms::Line;
 use crate::show;
-use learner::Written;
 use line::print;
 use numbers::Cursor;
-
-// The refusal and the length.
-fn answer(out: &mut [u8], w: Written) -> usize
-    requires { ⌜ 688256 ≤ length (now out) ⌝ }
-    ensures { λ r. ⌜ r ≤ 84 ⌝ }
-{
-    match w {
-        Written::Length(n) => {
-            let at = show::three(out, 0, 0, 0, 0);
-            print::field(out, at, n)
-        }
-        Written::Refused(r) => {
-            let at = show::refusal(out, 0, r);
-            print::field(out, at, 0)
-        }
-    }
-}
 
 // The answer and the buffer.
 fn written(n: &[u64; 4], floor: &[u8], table: &[u32], buffer: &mut [u8], out: &mut [u8]) -> usize
@@ -39,7 +21,7 @@ fn written(n: &[u64; 4], floor: &[u8], table: &[u32], buffer: &mut [u8], out: &m
         table,
         buffer,
     );
-    let at = answer(out, w);
+    let at = show::written(out, 0, w);
     let end = show::list8(out, at, &buffer[..]);
     print::byte(out, end, 10)
 }

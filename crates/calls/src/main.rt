@@ -33,6 +33,7 @@ fn answer(input: &[u8], out: &mut Line) -> usize
         8 => files::find_records(input, c, out),
         9 => files::check_trailer(input, c, out),
         10 => jobs::fill_opening(input, c, out),
+        11 => texts::write_floor(input, c, out),
         _ => show::malformed(out),
     }
 }

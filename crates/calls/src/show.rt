@@ -5,6 +5,7 @@ use crate::rooms::Line;
 use learner::Place;
 use learner::Refusal;
 use learner::Verdict;
+use learner::Written;
 use line::print;
 
 // The whole line of an input that is none of a call.
@@ -46,6 +47,23 @@ pub fn verdict(out: &mut [u8], at: usize, v: Verdict) -> usize
     match v {
         Verdict::Done => three(out, at, 0, 0, 0),
         Verdict::Refused(r) => refusal(out, at, r),
+    }
+}
+
+// What a writer answers: the refusal and the length.
+pub fn written(out: &mut [u8], at: usize, w: Written) -> usize
+    requires { ⌜ at + 84 ≤ length (now out) ⌝ }
+    ensures { λ r. ⌜ r ≤ at + 84 ⌝ }
+{
+    match w {
+        Written::Length(n) => {
+            let end = three(out, at, 0, 0, 0);
+            print::field(out, end, n)
+        }
+        Written::Refused(r) => {
+            let end = refusal(out, at, r);
+            print::field(out, end, 0)
+        }
     }
 }
 

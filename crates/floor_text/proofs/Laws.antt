@@ -1,14 +1,14 @@
 -- Laws of the floor text's definitions, one for each way through the code's tests.
 -- A loop's invariant says that what is left to judge answers like the whole.
 use mathlib.Core.Path.{_≡_, refl, sym, _∙_, ap}
-use mathlib.Core.Bool.{Bool, true, false, _&&_, _||_}
+use mathlib.Core.Bool.{Bool, true, false, _&&_}
 use mathlib.Core.List.{List, [], _∷_, _++_, map, append-assoc, append-nil}
 use Prim.Native.Nat.{ℕ, zero, suc, _+_, _-_, _*_, _≤_, _<_}
 use native.Mathlib.Numerals.{add-one}
 use native.Mathlib.Nat.{mul-le-mul-right, mul-comm}
 use native.Mathlib.Omega.{arith}
 use lib.Dec.{leb, eqb}
-use borrow.Author.Tests.{lt-leb, le-leb, eq-eqb, ne-eqb, leb-true}
+use borrow.Author.Tests.{lt-leb, le-leb, eq-eqb, ne-eqb}
 use lib.ListN.{length, take, drop, set, getD, length-append, length-drop, length-map, length-set, drop-of-length-le}
 use lib.Seq.{drop-cons, take-suc, take-all, set-at, drop-drop, take-at, drop-at, length-take-le}
 use Rattle.answers.specs.Says.{saysFloorRead}
@@ -18,8 +18,9 @@ use Rattle.answers.specs.declared.Verdict.the-variants as Vd
 use Rattle.answers.specs.declared.FloorRead.the-variants as Fr
 use Rattle.model.specs.Basics.{choose, every, refuseAt}
 use Rattle.model.specs.FloorText.{begins, sizeBytes, header, heightIn, widthIn, rowsIn, afterHeight, afterWidth, typeAndHeight, andWidth, andMap}
-use Rattle.model.specs.FloorText.{freeLetter, blockedLetter, byteOf, rowHolds, rows, cellsOf, readFloor, floorVerdict}
+use Rattle.model.specs.FloorText.{isLetter, byteOf, rowHolds, rows, cellsOf, readFloor, floorVerdict}
 use Rattle.model.proofs.Parts.{rest}
+use Rattle.model.proofs.FloorTexts.{rows-fault, rows-more, length-cells}
 use Rattle.floor_text.specs.Reads.{Sound, Reads}
 
 and-false : (a : Bool) → (a && false) ≡ false
@@ -60,10 +61,7 @@ module _ (w t : List ℕ) (i : ℕ) (g : Begun w t i) where
   begun-all h = (let z = drop-of-length-le w {i = i} h in rw z) ∙ g .left
 
 -- The letters of a row.
-abbrev letters : ℕ → Bool
-letters b = freeLetter b || blockedLetter b
-
-row-at : (w : ℕ) (t : List ℕ) (i : ℕ) → (i < w) × (i < length t) → every letters (take (w - i) (drop i t)) ≡ (letters (getD t i 0) && every letters (take (w - (i + 1)) (drop (i + 1) t)))
+row-at : (w : ℕ) (t : List ℕ) (i : ℕ) → (i < w) × (i < length t) → every isLetter (take (w - i) (drop i t)) ≡ (isLetter (getD t i 0) && every isLetter (take (w - (i + 1)) (drop (i + 1) t)))
 unfolding every
 row-at w t i h =
     let l = h .1 in
@@ -73,7 +71,7 @@ row-at w t i h =
 -- after i letters
 pub record Lettered (w : ℕ) (t : List ℕ) (i : ℕ) : Type 0 where
   pub most : i ≤ w
-  pub left : every letters (take (w - i) (drop i t)) ≡ every letters (take w t)
+  pub left : every isLetter (take (w - i) (drop i t)) ≡ every isLetter (take w t)
 
 pub lettered : (w : ℕ) (t : List ℕ) → Lettered w t 0
 lettered w t = record { most = omega arith; left = let e : w - 0 ≡ w = omega arith in rw e }
@@ -83,41 +81,23 @@ unfolding rowHolds
 row-short w t h = simp (lt-leb (suc w) (length t) (omega arith))
 
 module _ (w : ℕ) (t : List ℕ) (i : ℕ) (g : Lettered w t i) where
-  pub lettered-more : letters (getD t i 0) ≡ true → (i < w) × (i < length t) → Lettered w t (i + 1)
+  pub lettered-more : isLetter (getD t i 0) ≡ true → (i < w) × (i < length t) → Lettered w t (i + 1)
   lettered-more e h = record { most = omega arith; left = rw e at (sym (row-at w t i h)) ∙ g .left }
 
-  pub row-not : letters (getD t i 0) ≡ false → (i < w) × (w < length t) → false ≡ rowHolds w t
+  pub row-not : isLetter (getD t i 0) ≡ false → (i < w) × (w < length t) → false ≡ rowHolds w t
   unfolding rowHolds
   row-not e h =
-      let z : every letters (take w t) ≡ false = sym (g .left) ∙ rw e at (row-at w t i (omega arith)) in
+      let z : every isLetter (take w t) ≡ false = sym (g .left) ∙ rw e at (row-at w t i (omega arith)) in
       simp (le-leb (suc w) (length t) (omega arith), z)
 
   pub row-end : (w ≤ i) × (w < length t) → eqb (getD t w 0) 10 ≡ rowHolds w t
   unfolding rowHolds every
   row-end h =
       let n : w - i ≡ 0 = omega arith in
-      let z : every letters (take w t) ≡ true = sym (g .left) ∙ rw n in
+      let z : every isLetter (take w t) ≡ true = sym (g .left) ∙ rw n in
       simp (le-leb (suc w) (length t) (omega arith), z)
 
-and-left : (a b : Bool) → (a && b) ≡ true → a ≡ true
-and-left true b e = refl
-and-left false b e = e
-
-pub row-long : (w : ℕ) (t : List ℕ) → rowHolds w t ≡ true → w < length t
-unfolding rowHolds
-row-long w t e = leb-true (suc w) (length t) (and-left _ (every letters (take w t)) (and-left _ (eqb (getD t w 0) 10) e))
-
--- The rows, one after another.
-rows-fault : (w n line : ℕ) (t : List ℕ) → rowHolds w t ≡ false → 1 ≤ n → refuseAt 12 (P.Line line) ≡ rows w n line t
-unfolding rows
-rows-fault w zero line t e h = absurd (omega arith)
-rows-fault w (suc n) line t e h = rw (rows, e)
-
-rows-more : (w n line : ℕ) (t : List ℕ) → rowHolds w t ≡ true → rows w (suc n) line t ≡ rows w n (suc line) (drop (suc w) t)
-unfolding rows
-rows-more w n line t e = rw (rows, e)
-
--- after the given number of sound rows
+-- The rows, one after another: after the given number of sound ones
 pub record Rowed (w h : ℕ) (text t : List ℕ) (row : ℕ) : Type 0 where
   pub most : row ≤ h
   pub left : rows w (h - row) (5 + row) t ≡ rows w h 5 text
@@ -142,20 +122,6 @@ module _ (w h : ℕ) (text t : List ℕ) (row : ℕ) (g : Rowed w h text t row) 
   pub rowed-all : h ≤ row → choose (eqb (length t) 0) Vd.Done (refuseAt 12 (P.Line (5 + row))) ≡ rows w h 5 text
   unfolding rows
   rowed-all l = (let n : h - row ≡ 0 = omega arith in rw n) ∙ g .left
-
--- rows that were accepted are all there
-pub rows-there : (w n line : ℕ) (t : List ℕ) → rows w n line t ≡ Vd.Done → n * (w + 1) ≤ length t
-unfolding rows
-rows-there w zero line t e = omega arith
-rows-there w (suc n) line t e = go (rowHolds w t) refl (λ z. rows-there w n (suc line) (drop (suc w) t) (sym (rows-more w n line t z) ∙ e))
-  where
-    go : (b : Bool) → rowHolds w t ≡ b → (rowHolds w t ≡ true → n * (w + 1) ≤ length (drop (suc w) t)) → suc n * (w + 1) ≤ length t
-    go true z r =
-        let s : n * (w + 1) ≤ length (drop (suc w) t) = r z in
-        let l = row-long w t z in
-        let d : length (drop (suc w) t) ≡ length t - suc w = length-drop (suc w) t in
-        omega arith
-    go false z r = let y : _≡_ {A = ℕ} 0 1 = cc (rows-fault w (suc n) line t z (omega arith)) in absurd (omega arith)
 
 -- The cells of one row, and of one row more.
 map-append : (xs ys : List ℕ) → map byteOf (xs ++ ys) ≡ map byteOf xs ++ map byteOf ys
@@ -186,13 +152,6 @@ module _ (ls part₀ part : List ℕ) (i : ℕ) (g : Stored ls part₀ part i) w
 
   pub stored-all : (length ls ≤ i) × (length part₀ ≡ length ls) → part ≡ map byteOf ls
   stored-all h = g .so-far ∙ rw (take-all i ls (h .0), drop-of-length-le part₀ {i = i} (omega arith)) (append-nil (map byteOf ls))
-
-pub length-cells : (w n : ℕ) (t : List ℕ) → n * (w + 1) ≤ length t → length (cellsOf w n t) ≡ n * w
-unfolding cellsOf
-length-cells w zero t h = omega arith
-length-cells w (suc n) t h =
-    let d : length (drop (suc w) t) ≡ length t - suc w = length-drop (suc w) t in
-    rw (length-append, length-map, length-take-le w t (omega arith), length-cells w n (drop (suc w) t) (omega arith)) (omega arith)
 
 cells-more : (w n : ℕ) (t : List ℕ) → cellsOf w (suc n) t ≡ cellsOf w n t ++ map byteOf (take w (drop (n * (w + 1)) t))
 unfolding cellsOf

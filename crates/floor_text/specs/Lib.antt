@@ -1,2 +1,3 @@
--- What reading a floor text promises.
+-- What reading a floor text promises, and the header that writing one puts.
 pub mod Reads
+pub mod Heads

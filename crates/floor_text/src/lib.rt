@@ -1,15 +1,17 @@
-// Reads floor text by the octile grid benchmark format. Everything is judged before the first byte is stored.
+// Reads and writes floor text by the octile grid benchmark format. Everything is judged before the first byte is stored.
+mod writer;
+
 use answers::FloorRead;
 use answers::Place;
 use answers::Refusal;
 use answers::Verdict;
 use notation::digits;
+pub use writer::write_floor;
 ghost use mathlib.Core.Path.{_≡_};
-ghost use mathlib.Core.Bool.{_||_};
 ghost use mathlib.Core.List.{_++_, map};
 ghost use Prim.Native.Nat.{_+_, _*_, _≤_};
 ghost use lib.ListN.{length, drop, getD};
-ghost use Rattle.model.specs.FloorText.{begins, sizeIn, sizeBytes, heightIn, afterHeight, widthIn, afterWidth, freeLetter, blockedLetter, byteOf, rowHolds, rows, cellsOf, readFloor};
+ghost use Rattle.model.specs.FloorText.{begins, sizeIn, sizeBytes, heightIn, afterHeight, widthIn, afterWidth, isLetter, byteOf, rowHolds, rows, cellsOf, readFloor};
 ghost use Rattle.floor_text.specs.Reads.{Sound, Heads, Reads};
 
 // What a header says.
@@ -142,12 +144,15 @@ fn read_header(text: &[u8]) -> Header
 
 // Whether a byte is a letter of a floor.
 fn is_letter(b: u8) -> bool
-    ensures { λ r. ⌜ r ≡ (freeLetter b || blockedLetter b) ⌝ }
+    ensures { λ r. ⌜ r ≡ isLetter b ⌝ }
 {
     if b == b'.' {
         return true;
     }
     if b == b'G' {
+        return true;
+    }
+    if b == b'S' {
         return true;
     }
     if b == b'@' {
@@ -164,12 +169,15 @@ fn byte_of(b: u8) -> u8
     ensures { λ r. ⌜ r ≡ byteOf b ⌝ }
 {
     if b == b'.' {
-        return 0;
+        return floor::PLAIN;
     }
     if b == b'G' {
-        return 0;
+        return floor::PLAIN;
     }
-    1
+    if b == b'S' {
+        return floor::SLOW;
+    }
+    floor::BLOCKED
 }
 
 // Whether a row stands at the front of a text: its letters and its LF.

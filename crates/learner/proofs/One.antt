@@ -18,7 +18,9 @@ use Rattle.model.specs.Floor.{Floor}
 use Rattle.model.specs.Decision.{Outcome}
 use Rattle.model.specs.Ride.{TrialOutcome, RunOutcome}
 use Rattle.model.specs.FloorText.{FloorOutcome}
-use Rattle.model.specs.TableFile.{WriteOutcome, checkTrailer, findRecords}
+use Rattle.model.specs.FloorWritten.{writeFloor}
+use Rattle.model.specs.TableFile.{checkTrailer, findRecords, writeTable}
+use Rattle.model.specs.Writing.{WriteOutcome, Writes}
 use Rattle.opening.specs.Promise.{Answers, Fills}
 use Rattle.decision.specs.Ready.{Decides}
 use Rattle.run.specs.Trials.{IsTrial, IsRun}
@@ -63,6 +65,14 @@ run-one h k = (
 pub read-floor-one : {o : FloorOutcome} {r s : FloorRead} {b c : List ℕ} → text.Reads o r b → text.Reads o s c → (r ≡ s) × (b ≡ c)
 read-floor-one h k = (floor-one _ _ (same (h .answer) (k .answer)), same (h .buffer) (k .buffer))
 
+-- what both writers promise: the answer with its length, and the buffer
+writes-one : {o : WriteOutcome} {r s : Written} {b c : List ℕ} → Writes o r b → Writes o s c → (r ≡ s) × (b ≡ c)
+writes-one h k = (written-one _ _ (same (h .answer) (k .answer)), same (h .buffer) (k .buffer))
+
+-- `write_floor`: the answer with its length, and the buffer.
+pub write-floor-one : (f : Floor) (buffer : List ℕ) {r s : Written} {b c : List ℕ} → Writes (writeFloor f buffer) r b → Writes (writeFloor f buffer) s c → (r ≡ s) × (b ≡ c)
+write-floor-one f buffer h k = writes-one h k
+
 -- `check_trailer`: the verdict.
 pub check-trailer-one : (bytes : List ℕ) (r s : Verdict) → saysVerdict r ≡ saysVerdict (checkTrailer bytes) → saysVerdict s ≡ saysVerdict (checkTrailer bytes) → r ≡ s
 check-trailer-one bytes r s h k = verdict-one r s (same h k)
@@ -79,5 +89,6 @@ pub read-table-one : {v r s : Verdict} {left t u : List ℕ} → file.Reads v le
 read-table-one h k = (verdict-one _ _ (same (h .answer) (k .answer)), same (h .table) (k .table))
 
 -- `write_table`: the answer with its length, and the buffer.
-pub write-table-one : {o : WriteOutcome} {r s : Written} {b c : List ℕ} → file.Writes o r b → file.Writes o s c → (r ≡ s) × (b ≡ c)
-write-table-one h k = (written-one _ _ (same (h .answer) (k .answer)), same (h .buffer) (k .buffer))
+pub write-table-one : (f : Floor) (q : ℕ) (gs table buffer : List ℕ) {r s : Written} {b c : List ℕ}
+    → Writes (writeTable f q gs table buffer) r b → Writes (writeTable f q gs table buffer) s c → (r ≡ s) × (b ≡ c)
+write-table-one f q gs table buffer h k = writes-one h k

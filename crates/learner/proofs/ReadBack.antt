@@ -1,21 +1,33 @@
 -- Demand 2 of the mission, its last sentence, from what `write_table` and `read_table` promise: "A written table reads back the same, and an accepted table's bytes,
--- from its first record on, are what writing it again gives." What the calls answer and leave is the model's, and of that RoundTrip says it.
-use Prim.Native.Nat.{ℕ, _+_, _-_, _≤_}
-use mathlib.Core.Path.{_≡_, refl, sym, ap, _∙_, subst}
-use mathlib.Core.List.{List, [], _∷_, _++_}
+-- from its first record on, are what writing it again gives." And document 02 of floor text, from what `write_floor` and `read_floor` promise.
+-- What the calls answer and leave is the model's, and of that RoundTrip and FloorRoundTrip say it.
+use Prim.Native.Nat.{ℕ, _+_, _-_, _*_, _≤_}
+use mathlib.Core.Path.{_≡_, refl, sym, ap, ap₂, _∙_, subst}
+use mathlib.Core.Bool.{true}
+use mathlib.Core.List.{List, [], _∷_, _++_, map}
 use native.Mathlib.Omega.{arith}
 use lib.ListN.{length, take, drop}
 use lib.Seq.{take-at}
+use Rattle.answers.specs.declared.FloorRead.{FloorRead}
+use Rattle.answers.specs.declared.FloorRead.the-variants as Fr
 use Rattle.answers.specs.declared.Verdict.{Verdict}
 use Rattle.answers.specs.declared.Verdict.the-variants as Vd
 use Rattle.answers.specs.declared.Written.{Written}
 use Rattle.answers.specs.declared.Written.the-variants as Wr
-use Rattle.answers.proofs.One.{verdict-one, written-one}
-use Rattle.model.specs.Floor.{Floor}
-use Rattle.model.specs.TableFile.{backIn, readVerdict, readTable, writeVerdict, fileOf, writeOf, writeTable}
+use Rattle.answers.proofs.One.{verdict-one, floor-one, written-one}
+use Rattle.model.specs.Basics.{every}
+use Rattle.model.specs.Floor.{Floor, size}
+use Rattle.model.specs.TableFile.{backIn, readVerdict, readTable, writeVerdict, fileOf, writeTable}
+use Rattle.model.specs.Writing.{writeOf, Writes}
+use Rattle.model.specs.FloorText.{widthIn, heightIn, rowsIn, cellsOf, floorVerdict, floorFrom, readFloor}
+use Rattle.model.specs.FloorWritten.{textOf, textVerdict, writeFloor}
 use Rattle.model.proofs.Records.{Bytes}
 use Rattle.model.proofs.RoundTrip.{written-table-reads-back, accepted-table-writes-again, accepted-table-is-writable}
-use Rattle.table_file.specs.Promises.{Reads, Writes}
+use Rattle.model.proofs.FloorTexts.{sized-needs-room, room-judges, text-gives}
+use Rattle.model.proofs.FloorLines.{asRead, isRowByte}
+use Rattle.model.proofs.FloorRoundTrip.{written-floor-reads-back, floorIn, read-sized, read-floor-writes-again}
+use Rattle.floor_text.specs.Reads as text
+use Rattle.table_file.specs.Promises.{Reads}
 
 module _ (f : Floor) (q goal : ℕ) where
   abbrev gs : List ℕ
@@ -56,3 +68,45 @@ module _ (f : Floor) (q goal : ℕ) where
         written-one r (Wr.Length n) (k .answer),
         ap (take n) (k .buffer) ∙ take-at (fileOf f q gs t) (drop n buffer) n refl ∙ ap (fileOf f q gs) (h .table) ∙ accepted-table-writes-again f q goal bytes table small accepted,
       )
+
+-- where a floor was written in n bytes of the buffer, reading these into any list with room answers the floor's sizes, and gives its bytes, each as `asRead` says
+pub floor-reads-back : (f : Floor) (buffer : List ℕ) {n : ℕ} {b : List ℕ} → Writes (writeFloor f buffer) (Wr.Length n) b
+    → (lent : List ℕ) → size f ≤ length lent → {r : FloorRead} {c : List ℕ} → text.Reads (readFloor (take n b) lent) r c
+    → (r ≡ Fr.Sizes (f .width) (f .height)) × (c ≡ map asRead (f .bytes) ++ drop (size f) lent)
+unfolding writeFloor
+floor-reads-back f buffer {n} {b} w lent room {r} {c} h = by (textVerdict f (length buffer)) refl w
+  where
+    by : (u : Verdict) → textVerdict f (length buffer) ≡ u → Writes (writeOf u (textOf f) buffer) (Wr.Length n) b
+        → (r ≡ Fr.Sizes (f .width) (f .height)) × (c ≡ map asRead (f .bytes) ++ drop (size f) lent)
+    by (Vd.Refused x) e k = absurd (omega (arith, ap (λ s. s .kind) (k .answer)))
+    by Vd.Done e k =
+        let same = written-one (Wr.Length n) (Wr.Length (length (textOf f))) (k .answer) in
+        let long : n ≡ length (textOf f) = cc in
+        let written : take n b ≡ textOf f = ap (take n) (k .buffer) ∙ take-at (textOf f) (drop (length (textOf f)) buffer) n (sym long) in
+        let read = ap (λ xs. readFloor xs lent) written ∙ written-floor-reads-back f (text-gives f (length buffer) e .0) lent room in
+        (floor-one r _ (h .answer) ∙ ap (λ o. o .answer) read, h .buffer ∙ ap (λ o. o .buffer) read)
+
+-- where a text of `.`, `S` and `@` alone was read, writing the floor that it gave where there is room gives that text
+pub floor-writes-again : (bytes lent : List ℕ) {width height : ℕ} {c : List ℕ} → text.Reads (readFloor bytes lent) (Fr.Sizes width height) c → every isRowByte (rowsIn bytes) ≡ true
+    → (buffer : List ℕ) → length bytes ≤ length buffer → {r : Written} {b : List ℕ}
+    → Writes (writeFloor (record { width = width; height = height; bytes = take (width * height) c }) buffer) r b → (r ≡ Wr.Length (length bytes)) × (take (length bytes) b ≡ bytes)
+unfolding readFloor writeFloor
+floor-writes-again bytes lent {width} {height} {c} h alone buffer room {r} {b} w = by (floorVerdict bytes (length lent)) refl h
+  where
+    by : (u : Verdict) → floorVerdict bytes (length lent) ≡ u → text.Reads (floorFrom u bytes lent) (Fr.Sizes width height) c → (r ≡ Wr.Length (length bytes)) × (take (length bytes) b ≡ bytes)
+    by (Vd.Refused x) e k = absurd (omega (arith, ap (λ s. s .kind) (k .answer)))
+    by Vd.Done e k =
+        let same = floor-one (Fr.Sizes width height) (Fr.Sizes (widthIn bytes) (heightIn bytes)) (k .answer) in
+        let wide : width ≡ widthIn bytes = cc in
+        let high : height ≡ heightIn bytes = cc in
+        let sized = read-sized bytes (length lent) e in
+        let cells : take (width * height) c ≡ cellsOf (widthIn bytes) (heightIn bytes) (rowsIn bytes) =
+        ap₂ take (ap₂ (λ (x y : ℕ). x * y) wide high) (k .buffer) ∙ take-at (floorIn bytes .bytes) (drop (widthIn bytes * heightIn bytes) lent) (widthIn bytes * heightIn bytes) (sized .cells) in
+        let again = read-floor-writes-again bytes (length lent) e alone in
+        let may : textVerdict (floorIn bytes) (length buffer) ≡ Vd.Done =
+        sized-needs-room (floorIn bytes) sized (length buffer) ∙ room-judges (length (textOf (floorIn bytes))) (length buffer) .done (omega (arith, ap length again)) in
+        let o = subst (λ u. Writes (writeOf u (textOf (floorIn bytes)) buffer) r b) may
+        (subst (λ (f : Floor). Writes (writeOf (textVerdict f (length buffer)) (textOf f) buffer) r b) (λ i. record { width = wide i; height = high i; bytes = cells i }) w) in (
+          written-one r (Wr.Length (length (textOf (floorIn bytes)))) (o .answer) ∙ ap (λ (t : List ℕ). Wr.Length (length t)) again,
+          ap (take (length bytes)) (o .buffer) ∙ take-at (textOf (floorIn bytes)) (drop (length (textOf (floorIn bytes))) buffer) (length bytes) (ap length again) ∙ again,
+        )

@@ -30,7 +30,9 @@ use Rattle.model.specs.Decision.{atGoal, Deed, rise, forward, backOut, stay, go
 use Rattle.model.specs.Opening.{openTrial, openRun, filled}
 use Rattle.model.specs.Ride.{ride, trialOf, trial, courseFrom, runOf, run}
 use Rattle.model.specs.FloorText.{floorVerdict, floorFrom, readFloor}
-use Rattle.model.specs.TableFile.{readVerdict, readOf, readTable, writeVerdict, fileOf, writeOf, writeTable}
+use Rattle.model.specs.FloorWritten.{textOf, textVerdict, writeFloor}
+use Rattle.model.specs.TableFile.{readVerdict, readOf, readTable, writeVerdict, fileOf, writeTable}
+use Rattle.model.specs.Writing.{writeOf, Writes}
 use Rattle.model.proofs.Cases.{act-arrived, act-blind, act-learns, learn-over, learn-forward, learn-back, back-stays, back-lost, back-goes, decide-refused, decide-acts}
 use Rattle.model.proofs.Steps.{newHere, targetHere}
 use Rattle.decision.specs.Ready.{Decides}
@@ -141,11 +143,17 @@ pub refused-read-table : (f : Floor) (q : ℕ) (gs bytes table : List ℕ) {x : 
 unfolding readTable
 refused-read-table f q gs bytes table {x} h = h .table ∙ ap (λ v. readOf v f q gs bytes table) (sym (verdict-one (Vd.Refused x) (readVerdict f q gs bytes (length table)) (h .answer)))
 
+-- what both writers promise
+refused-writing : (v : Verdict) (file buffer : List ℕ) {x : Refusal} {b : List ℕ} → Writes (writeOf v file buffer) (Wr.Refused x) b → b ≡ buffer
+refused-writing (Vd.Refused y) file buffer h = h .buffer
+refused-writing Vd.Done file buffer h = absurd (omega (arith, ap (λ s. s .kind) (h .answer)))
+
+-- `write_floor`: the buffer
+pub refused-write-floor : (f : Floor) (buffer : List ℕ) {x : Refusal} {b : List ℕ} → Writes (writeFloor f buffer) (Wr.Refused x) b → b ≡ buffer
+unfolding writeFloor
+refused-write-floor f buffer h = refused-writing (textVerdict f (length buffer)) (textOf f) buffer h
+
 -- `write_table`: the buffer
-pub refused-write-table : (f : Floor) (q : ℕ) (gs table buffer : List ℕ) {x : Refusal} {b : List ℕ} → file.Writes (writeTable f q gs table buffer) (Wr.Refused x) b → b ≡ buffer
+pub refused-write-table : (f : Floor) (q : ℕ) (gs table buffer : List ℕ) {x : Refusal} {b : List ℕ} → Writes (writeTable f q gs table buffer) (Wr.Refused x) b → b ≡ buffer
 unfolding writeTable
-refused-write-table f q gs table buffer {x} {b} = by (writeVerdict f q gs table (length buffer))
-  where
-    by : (v : Verdict) → file.Writes (writeOf v (fileOf f q gs table) buffer) (Wr.Refused x) b → b ≡ buffer
-    by (Vd.Refused y) h = h .buffer
-    by Vd.Done h = absurd (omega (arith, ap (λ s. s .kind) (h .answer)))
+refused-write-table f q gs table buffer h = refused-writing (writeVerdict f q gs table (length buffer)) (fileOf f q gs table) buffer h

@@ -13,6 +13,7 @@ pub use answers::Verdict;
 pub use answers::Written;
 pub use decision::decide;
 pub use floor_text::read_floor;
+pub use floor_text::write_floor;
 pub use opening::fill_opening;
 pub use opening::open;
 pub use run::run;

@@ -167,6 +167,20 @@ pub extern "C" fn probe_floor(text: &[u8], buffer: &mut [u8]) -> usize {
     }
 }
 
+// The length of the floor text that is written; 0 where it is refused.
+#[no_mangle]
+pub extern "C" fn probe_write_floor(
+    width: usize,
+    height: usize,
+    floor: &[u8],
+    buffer: &mut [u8],
+) -> usize {
+    match floor_text::write_floor(width, height, floor, buffer) {
+        Written::Length(n) => n,
+        Written::Refused(_) => 0,
+    }
+}
+
 // How many bytes of a table file are records.
 #[no_mangle]
 pub extern "C" fn probe_find(file: &[u8]) -> usize {

@@ -19,10 +19,11 @@ use Rattle.answers.specs.declared.Written.the-variants as Wr
 use Rattle.model.specs.Basics.{refuseAt}
 use Rattle.model.specs.Floor.{Floor, size, free, opening, goalsOf}
 use Rattle.model.specs.Checks.{finest}
-use Rattle.model.specs.TableFile.{half, word, changed, recordsOf, trailerOf, fileOf, unlike, fileRoom, writeVerdict, writeTable}
+use Rattle.model.specs.TableFile.{half, word, changed, recordsOf, trailerOf, fileOf, unlike, writeVerdict, writeTable}
+use Rattle.model.specs.Writing.{fileRoom, Writes}
 use Rattle.model.proofs.Files.{changed-same, changed-more, changed-few, length-records, length-file, write-gives}
 use Rattle.model.proofs.Cells.{cells-le}
-use Rattle.table_file.specs.Promises.{Opened, Writes}
+use Rattle.table_file.specs.Promises.{Opened}
 use Rattle.notation.specs.Puts.{put}
 use Rattle.notation.proofs.Puts.{put-next, put-then, length-put}
 use Rattle.table_file.proofs.Reading.{opened}

@@ -3,13 +3,12 @@ use Prim.Native.Nat.{ℕ, _-_, _≤_, _<_}
 use mathlib.Core.Path.{_≡_}
 use mathlib.Core.List.{List}
 use lib.ListN.{length}
-use Rattle.answers.specs.Says.{saysVerdict, saysWritten}
+use Rattle.answers.specs.Says.{saysVerdict}
 use Rattle.answers.specs.declared.Verdict.{Verdict}
-use Rattle.answers.specs.declared.Written.{Written}
 use Rattle.model.specs.Basics.{choose}
 use Rattle.model.specs.Floor.{Floor, Sized, size}
 use Rattle.model.specs.Checks.{finest}
-use Rattle.model.specs.TableFile.{backIn, trailerHolds, WriteOutcome}
+use Rattle.model.specs.TableFile.{backIn, trailerHolds}
 
 -- what 1, 3 and 4 have shown
 pub record Opened (f : Floor) (q goal : ℕ) : Type 0 where
@@ -25,8 +24,3 @@ startOf file = choose (trailerHolds file) (length file - backIn file) 0
 pub record Reads (v : Verdict) (left : List ℕ) (r : Verdict) (after : List ℕ) : Type 0 where
   pub answer : saysVerdict r ≡ saysVerdict v
   pub table : after ≡ left
-
--- writing: the answer by its number and values, and the buffer as it is left
-pub record Writes (o : WriteOutcome) (r : Written) (after : List ℕ) : Type 0 where
-  pub answer : saysWritten r ≡ saysWritten (o .answer)
-  pub buffer : after ≡ o .buffer

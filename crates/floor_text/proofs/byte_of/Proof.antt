@@ -10,4 +10,5 @@ byte-of-spec =
     (tie.spec
     (λ c. simp (eq-eqb _ 46 (c .if1 .taken)))
     (λ c. simp (ne-eqb _ 46 (c .before .if1 .left), eq-eqb _ 71 (c .if2 .taken)))
-    (λ c. simp (ne-eqb _ 46 (c .before .if1 .left), ne-eqb _ 71 (c .if2 .left))))
+    (λ c. simp (ne-eqb _ 46 (c .before .before .if1 .left), ne-eqb _ 71 (c .before .if2 .left), eq-eqb _ 83 (c .if3 .taken)))
+    (λ c. simp (ne-eqb _ 46 (c .before .before .if1 .left), ne-eqb _ 71 (c .before .if2 .left), ne-eqb _ 83 (c .if3 .left))))

@@ -4,7 +4,8 @@ use Prim.Native.Nat.{_-_}
 use lib.ListN.{length}
 use mathlib.Core.Path.{sym, _∙_}
 use borrow.Author.Tests.{eq-eqb, ne-eqb, not-true, not-false}
-use Rattle.floor_text.proofs.Laws.{Rowed, rowed, rowed-more, rowed-fault, rowed-all, row-long}
+use Rattle.floor_text.proofs.Laws.{Rowed, rowed, rowed-more, rowed-fault, rowed-all}
+use Rattle.model.proofs.FloorTexts.{row-gives}
 use borrow.Author.Needs.{needs}
 use native.Mathlib.Omega.{arith}
 use Rattle.floor_text.proofs.judge_rows.Statement.{statement}
@@ -39,8 +40,8 @@ judge-rows-spec =
     (λ c. search needs)
     returns
     (λ c. search needs)
-    (λ c. omega (arith, row-long _ _ (sym (c .before .row-holds .ensures) ∙ not-false _ (c .if1 .left))))
-    (λ c. omega (arith, row-long _ _ (sym (c .before .row-holds .ensures) ∙ not-false _ (c .if1 .left))))
+    (λ c. omega (arith, row-gives _ _ (sym (c .before .row-holds .ensures) ∙ not-false _ (c .if1 .left)) .0))
+    (λ c. omega (arith, row-gives _ _ (sym (c .before .row-holds .ensures) ∙ not-false _ (c .if1 .left)) .0))
     (λ c. search needs)
     (λ c. search needs)
     (λ c. search needs)

@@ -4,7 +4,8 @@ use mathlib.Core.Path.{_≡_, sym, _∙_, ap}
 use native.Mathlib.Nat.{mul-le-mul}
 use lib.ListN.{drop}
 use Rattle.model.specs.FloorText.{rows, rowsIn}
-use Rattle.floor_text.proofs.Laws.{no-room, rows-refused, rows-read, rows-there}
+use Rattle.floor_text.proofs.Laws.{no-room, rows-refused, rows-read}
+use Rattle.model.proofs.FloorTexts.{rows-there}
 use borrow.Author.Needs.{needs}
 use native.Mathlib.Omega.{arith}
 use Rattle.floor_text.proofs.read_rows.Statement.{statement}
