@@ -1,24 +1,24 @@
-// The floor's cells: of each shade one path, in which cells side by side are one oblong; and thin lines between the cells.
+// The floor's cells: of each shade one path, in which cells side by side are one oblong; slow cells hatched; and thin lines between the cells.
 ghost use Prim.Native.Nat.{_≤_, _<_};
+ghost use lib.ListN.{length};
 use crate::rooms;
-use crate::rooms::Shades;
 use crate::shades;
 use crate::sheet;
 use crate::sheet::Sheet;
 use drawing::Page;
 
-// Where, of the first n cells, those from x on stop to be of one shade, or the row stops.
-fn stretch_end(shade: &Shades, n: usize, columns: usize, x: usize) -> usize
-    requires { ⌜ (x < n) × (n ≤ 4096) ⌝ }
-    ensures { λ r. ⌜ (x < r) × (r ≤ n) ⌝ }
+// Where the cells from x on stop to be of one kind, or the row stops.
+fn stretch_end(kinds: &[u8], columns: usize, x: usize) -> usize
+    requires { ⌜ x < length (now kinds) ⌝ }
+    ensures { λ r. ⌜ (x < r) × (r ≤ length (now (kinds .entry))) ⌝ }
 {
     let row = sheet::larger(1, columns);
     let mut end = x + 1;
-    while end < n {
+    while end < kinds.len() {
         if end % row == 0 {
             return end;
         }
-        if shade[end] != shade[x] {
+        if kinds[end] != kinds[x] {
             return end;
         }
         end += 1;
@@ -36,22 +36,13 @@ fn oblong(page: &mut Page, at: usize, columns: usize, x: usize, n: usize) -> usi
     drawing::words(page, at, b"z")
 }
 
-// The oblongs of one shade among the first n cells.
-fn oblongs(
-    page: &mut Page,
-    from: usize,
-    columns: usize,
-    shade: &Shades,
-    n: usize,
-    which: u8,
-) -> usize
-    requires { ⌜ n ≤ 4096 ⌝ }
-{
+// The oblongs of the cells of one kind: a shade, or a byte of the floor.
+fn oblongs(page: &mut Page, from: usize, columns: usize, kinds: &[u8], which: u8) -> usize {
     let mut at = from;
     let mut x = 0;
-    while x < n {
-        let end = stretch_end(shade, n, columns, x);
-        if shade[x] == which {
+    while x < kinds.len() {
+        let end = stretch_end(kinds, columns, x);
+        if kinds[x] == which {
             at = oblong(page, at, columns, x, end - x);
         }
         x = end;
@@ -60,32 +51,62 @@ fn oblongs(
 }
 
 // The cells of one shade.
-fn of_shade(
-    page: &mut Page,
-    at: usize,
-    columns: usize,
-    shade: &Shades,
-    n: usize,
-    which: u8,
-) -> usize
-    requires { ⌜ n ≤ 4096 ⌝ }
-{
+fn of_shade(page: &mut Page, at: usize, columns: usize, shade: &[u8], which: u8) -> usize {
     let at = drawing::words(page, at, b"<path fill='");
     let at = shades::colour(page, at, which as usize);
     let at = drawing::words(page, at, b"' d='");
-    let at = oblongs(page, at, columns, shade, n, which);
+    let at = oblongs(page, at, columns, shade, which);
     drawing::words(page, at, b"'/>\n")
 }
 
 // The cells of every shade but 0, which is the sheet's own.
-fn of_all_shades(page: &mut Page, from: usize, columns: usize, shade: &Shades, n: usize) -> usize
-    requires { ⌜ n ≤ 4096 ⌝ }
-{
+fn of_all_shades(page: &mut Page, from: usize, columns: usize, shade: &[u8]) -> usize {
     let mut at = from;
     for which in 1..8 {
-        at = of_shade(page, at, columns, shade, n, which);
+        at = of_shade(page, at, columns, shade, which);
     }
     at
+}
+
+// Each cell in its shade, on a list that is lent for the shades.
+fn shaded(
+    page: &mut Page,
+    at: usize,
+    columns: usize,
+    floor: &[u8],
+    table: &[u32],
+    opening: &[u32],
+    most: usize,
+    shade: &mut [u8],
+) -> usize
+    requires { ⌜ most < 4294967296 ⌝ }
+{
+    shades::fill(floor, table, opening, most, shade);
+    let at = drawing::words(page, at, b"<g shape-rendering='crispEdges'>\n");
+    let at = of_all_shades(page, at, columns, shade);
+    drawing::words(page, at, b"</g>\n")
+}
+
+// Slow cells hatched over their shades, where there are any: each dark line has a white one beside it, so that one of the two is seen on any
+// shade. The lines are 8 points apart, in the legend and on the floor, whose unit is a cell.
+fn hatched(page: &mut Page, at: usize, s: Sheet, floor: &[u8]) -> usize {
+    if !s.slow {
+        return at;
+    }
+    let at = drawing::words(
+        page,
+        at,
+        b"<pattern id='hatch' width='8' height='8' patternUnits='userSpaceOnUse'><path d='M-2 2L2-2M0 8L8 0M6 10L10 6' stroke='#000000' stroke-opacity='0.6'/><path d='M-1 3L3-1M1 9L9 1' stroke='#ffffff'/></pattern>\n",
+    );
+    let at = drawing::words(
+        page,
+        at,
+        b"<pattern id='slow' xlink:href='#hatch' patternTransform='scale(",
+    );
+    let at = sheet::points(page, at, s, 1);
+    let at = drawing::words(page, at, b")'/>\n<path fill='url(#slow)' d='");
+    let at = oblongs(page, at, s.columns, floor, floor::SLOW);
+    drawing::words(page, at, b"'/>\n")
 }
 
 // Thin lines at the left and upper edge of each cell.
@@ -109,7 +130,7 @@ fn frame(page: &mut Page, at: usize, s: Sheet) -> usize {
     drawing::words(page, at, b"</g>\n")
 }
 
-// The floor, each cell in the shade of what was learned of it.
+// The floor, each cell in the shade of what was learned of it, slow ones hatched.
 pub(crate) fn draw(
     page: &mut Page,
     at: usize,
@@ -123,10 +144,17 @@ pub(crate) fn draw(
 {
     let n = sheet::cells(s.columns, s.rows);
     let mut shade = rooms::floor();
-    shades::fill(floor, table, opening, most, &mut shade, n);
-    let at = drawing::words(page, at, b"<g shape-rendering='crispEdges'>\n");
-    let at = of_all_shades(page, at, s.columns, &shade, n);
-    let at = drawing::words(page, at, b"</g>\n");
+    let at = shaded(
+        page,
+        at,
+        s.columns,
+        floor,
+        table,
+        opening,
+        most,
+        &mut shade[..n],
+    );
+    let at = hatched(page, at, s, floor);
     let at = grid(page, at, s);
     frame(page, at, s)
 }

@@ -59,9 +59,24 @@ fn sample(page: &mut Page, at: usize, x: usize, row: usize, shade: usize) -> usi
     drawing::words(page, at, b"</g>\n")
 }
 
+// Slow cells, where there are any.
+fn slow(page: &mut Page, at: usize, s: Sheet, x: usize) -> usize
+    requires { ⌜ x ≤ 6188 ⌝ }
+{
+    if !s.slow {
+        return at;
+    }
+    let y = sheet::legend_y(5);
+    let at = sample(page, at, x, 5, 0);
+    let at = drawing::rectangle(page, at, x, y - 8, 28, 16, b" fill='url(#hatch)'");
+    drawing::caption(page, at, x + 38, y + 5, b"slow, moves cost double")
+}
+
 // What the shades measure; figures count in units of 1/q.
-fn heading(page: &mut Page, at: usize, x: usize, q: usize) -> usize {
-    let at = drawing::caption_from(page, at, x, sheet::legend_y(5) + 5);
+fn heading(page: &mut Page, at: usize, x: usize, row: usize, q: usize) -> usize
+    requires { ⌜ row ≤ 6 ⌝ }
+{
+    let at = drawing::caption_from(page, at, x, sheet::legend_y(row) + 5);
     let at = drawing::words(page, at, b"Learned above the opening");
     if q == 1 {
         return drawing::caption_end(page, at);
@@ -70,14 +85,14 @@ fn heading(page: &mut Page, at: usize, x: usize, q: usize) -> usize {
     drawing::caption_end(page, at)
 }
 
-// The rises of the step k of n.
-fn range(page: &mut Page, at: usize, x: usize, most: usize, n: usize, k: usize) -> usize
-    requires { ⌜ (x ≤ 6188) × (most < 4294967296) × (n ≤ 6) × (1 ≤ k) × (k ≤ 6) ⌝ }
+// The rises of the step k of n, so many rows below a row.
+fn range(page: &mut Page, at: usize, x: usize, row: usize, most: usize, n: usize, k: usize) -> usize
+    requires { ⌜ (x ≤ 6188) × (row ≤ 7) × (most < 4294967296) × (n ≤ 6) × (1 ≤ k) × (k ≤ 6) ⌝ }
 {
-    let at = sample(page, at, x, 6 + k, shades::shade_of(n, k));
+    let at = sample(page, at, x, row + k, shades::shade_of(n, k));
     let from = shades::bound(most, n, k - 1) + 1;
     let to = shades::bound(most, n, k);
-    let at = drawing::caption_from(page, at, x + 38, sheet::legend_y(6 + k) + 5);
+    let at = drawing::caption_from(page, at, x + 38, sheet::legend_y(row + k) + 5);
     let at = drawing::number(page, at, from);
     let at = to_number(page, at, from, to);
     drawing::caption_end(page, at)
@@ -92,18 +107,28 @@ fn to_number(page: &mut Page, at: usize, from: usize, to: usize) -> usize {
 }
 
 // The steps that are told apart.
-fn ranges(page: &mut Page, from: usize, x: usize, most: usize) -> usize
-    requires { ⌜ (x ≤ 6188) × (most < 4294967296) ⌝ }
+fn ranges(page: &mut Page, from: usize, x: usize, row: usize, most: usize) -> usize
+    requires { ⌜ (x ≤ 6188) × (row ≤ 7) × (most < 4294967296) ⌝ }
 {
     let n = shades::steps(most);
     let mut at = from;
     for k in 0..n {
-        at = range(page, at, x, most, n, k + 1);
+        at = range(page, at, x, row, most, n, k + 1);
     }
     at
 }
 
-// Marks, ways, blocked cells, and the shades with their ranges.
+// The shades with their ranges, from a row on.
+fn learned(page: &mut Page, at: usize, x: usize, row: usize, q: usize, most: usize) -> usize
+    requires { ⌜ (x ≤ 6188) × (row ≤ 6) × (most < 4294967296) ⌝ }
+{
+    let at = heading(page, at, x, row, q);
+    let at = sample(page, at, x, row + 1, 0);
+    let at = drawing::caption(page, at, x + 38, sheet::legend_y(row + 1) + 5, b"nothing");
+    ranges(page, at, x, row + 1, most)
+}
+
+// Marks, ways, blocked and slow cells, and the shades.
 pub(crate) fn draw(
     page: &mut Page,
     at: usize,
@@ -120,8 +145,6 @@ pub(crate) fn draw(
     let at = lines(page, at, x);
     let at = sample(page, at, x, 4, 7);
     let at = drawing::caption(page, at, x + 38, sheet::legend_y(4) + 5, b"blocked");
-    let at = heading(page, at, x, q);
-    let at = sample(page, at, x, 6, 0);
-    let at = drawing::caption(page, at, x + 38, sheet::legend_y(6) + 5, b"nothing");
-    ranges(page, at, x, most)
+    let at = slow(page, at, s, x);
+    learned(page, at, x, sheet::learned_row(s), q, most)
 }

@@ -56,7 +56,7 @@ fn explained(
     page: &mut Page,
     at: usize,
 ) -> usize {
-    let s = sheet::sheet_of(job.width, job.height);
+    let s = sheet::sheet_of(job.width, job.height, floor);
     let most = shades::largest(table, opening);
     let at = sheet::on_floor(page, at, s);
     let at = ground::draw(page, at, s, floor, table, opening, most);
@@ -79,7 +79,7 @@ fn drawn(
     path: &mut [u16],
     page: &mut Page,
 ) -> usize {
-    let s = sheet::sheet_of(job.width, job.height);
+    let s = sheet::sheet_of(job.width, job.height, floor);
     let at = sheet::begin(page, 0, s);
     let at = watched(job, floor, start, o, table, path, page, at);
     let at = sides::above(page, at, job, trials);

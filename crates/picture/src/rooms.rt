@@ -1,10 +1,11 @@
 // The lists that a drawing needs. A contract gives the length alone, so that no proof goes through the zeros.
 ghost use mathlib.Core.Path.{_≡_};
+ghost use Prim.Native.Nat.{suc, _*_};
 ghost use lib.ListN.{length};
+ghost use Rattle.model.specs.Lookahead.{mostMoves};
+use lookahead::MOST_MOVES;
 
-// A byte for each cell of the largest floor: whether it is free, or its shade.
-pub type Shades = [u8; 4096];
-
+// A byte for each cell of the largest floor: the floor's own, or its shade.
 pub(crate) fn floor() -> [u8; 4096]
     ensures { λ r. ⌜ 4096 ≡ length r ⌝ }
 {
@@ -41,11 +42,13 @@ pub(crate) fn moves() -> Moves
     [0; 288]
 }
 
-// For each place of the path twelve bytes: how many moves lead on from it, at most 11, and then those moves.
-pub type Legs = [u8; 49152];
+// For each place of the path a byte for how many moves lead on from it, and then those moves.
+pub const LEG: usize = 1 + MOST_MOVES;
+
+pub type Legs = [u8; 4096 * LEG];
 
 pub(crate) fn legs() -> Legs
-    ensures { λ r. ⌜ 49152 ≡ length r ⌝ }
+    ensures { λ r. ⌜ 4096 * suc mostMoves ≡ length r ⌝ }
 {
-    [0; 49152]
+    [0; 4096 * LEG]
 }

@@ -2,7 +2,6 @@
 //
 // 0 is a free cell whose figure is as it was, 1 to 6 are the steps, light to dark, and 7 is a blocked cell.
 ghost use Prim.Native.Nat.{_≤_, _<_};
-use crate::rooms::Shades;
 use crate::sheet;
 use drawing::Page;
 use notation::wide32;
@@ -93,7 +92,7 @@ pub(crate) fn shade_at(floor: &[u8], table: &[u32], first: &[u32], x: usize, mos
     if floor.len() <= x {
         return 7;
     }
-    if floor[x] != 0 {
+    if !floor::free_byte(floor[x]) {
         return 7;
     }
     let r = rise(table, first, x);
@@ -103,19 +102,12 @@ pub(crate) fn shade_at(floor: &[u8], table: &[u32], first: &[u32], x: usize, mos
     shade_of(steps(most), step_of(r, most)) as u8
 }
 
-// The shade of each of n cells.
-pub(crate) fn fill(
-    floor: &[u8],
-    table: &[u32],
-    first: &[u32],
-    most: usize,
-    shades: &mut Shades,
-    n: usize,
-)
-    requires { ⌜ (most < 4294967296) × (n ≤ 4096) ⌝ }
+// The shade of each cell.
+pub(crate) fn fill(floor: &[u8], table: &[u32], first: &[u32], most: usize, shades: &mut [u8])
+    requires { ⌜ most < 4294967296 ⌝ }
 {
     let mut x = 0;
-    while x < n {
+    while x < shades.len() {
         shades[x] = shade_at(floor, table, first, x, most);
         x += 1;
     }

@@ -3,11 +3,13 @@ ghost use mathlib.Core.Path.{_≡_};
 ghost use Prim.Native.Nat.{_≤_, max};
 use drawing::Page;
 
-// The floor's sizes and the side of a cell. The floor stands 20 points from the left and 50 from the top, the legend to its right.
+// The floor's sizes, the side of a cell, and whether some cell is slow, for which the legend has a row more. The floor stands 20 points from
+// the left and 50 from the top, the legend to its right.
 pub struct Sheet {
     pub columns: usize,
     pub rows: usize,
     pub cell: usize,
+    pub slow: bool,
 }
 
 pub(crate) fn larger(a: usize, b: usize) -> usize
@@ -27,12 +29,13 @@ fn held(n: usize) -> usize
 }
 
 // A floor's longer side gets 480 points, but a cell no fewer than 10 and no more than 96.
-pub(crate) fn sheet_of(columns: usize, rows: usize) -> Sheet {
+pub(crate) fn sheet_of(columns: usize, rows: usize, floor: &[u8]) -> Sheet {
     let longest = larger(1, larger(columns, rows));
     Sheet {
         columns: columns,
         rows: rows,
         cell: held(480 / longest),
+        slow: floor::kinds_on(floor) == floor::KINDS,
     }
 }
 
@@ -77,11 +80,18 @@ pub(crate) fn legend_y(row: usize) -> usize
     60 + 22 * row
 }
 
-// Where the counts stand: below the floor and the legend's thirteen rows, whichever ends lower.
+// The legend's row where what was learned begins: below that of slow cells, where there is one.
+pub(crate) fn learned_row(s: Sheet) -> usize
+    ensures { λ r. ⌜ (5 ≤ r) × (r ≤ 6) ⌝ }
+{
+    if s.slow { 6 } else { 5 }
+}
+
+// Where the counts stand: below the floor and the legend's rows, whichever ends lower.
 pub(crate) fn counts_y(s: Sheet) -> usize
     ensures { λ r. ⌜ (366 ≤ r) × (r ≤ 6224) ⌝ }
 {
-    80 + larger(286, reach(s.cell, s.rows))
+    80 + larger(22 * (8 + learned_row(s)), reach(s.cell, s.rows))
 }
 
 // The sheet's own sizes: wide enough for a line of counts.

@@ -1,7 +1,9 @@
 // The ways: the last trial made again, drawn move by move, and of the way that it keeps the moves from each place of the path to the next.
 ghost use Prim.Native.Nat.{_≤_};
 ghost use lib.ListN.{length};
+ghost use Rattle.model.specs.Lookahead.{mostMoves};
 use crate::rooms;
+use crate::rooms::LEG;
 use crate::rooms::Legs;
 use crate::rooms::Moves;
 use crate::sheet;
@@ -9,6 +11,7 @@ use crate::sheet::Sheet;
 use drawing::Page;
 use learner::Job;
 use learner::State;
+use lookahead::MOST_MOVES;
 use notation::wide8;
 
 // One move: from the middle of a cell to the middle of the next.
@@ -27,7 +30,7 @@ fn draw_move(page: &mut Page, at: usize, m: u8) -> usize {
 
 // The first n moves.
 fn draw_moves(page: &mut Page, from: usize, moves: &Moves, n: usize) -> usize
-    requires { ⌜ n ≤ 11 ⌝ }
+    requires { ⌜ n ≤ mostMoves ⌝ }
 {
     let mut at = from;
     for i in 0..n {
@@ -38,12 +41,12 @@ fn draw_moves(page: &mut Page, from: usize, moves: &Moves, n: usize) -> usize
 
 // The n moves that lead on from a place of the path are noted.
 fn note(legs: &mut Legs, place: usize, moves: &Moves, n: usize)
-    requires { ⌜ n ≤ 11 ⌝ }
+    requires { ⌜ n ≤ mostMoves ⌝ }
 {
     if 4096 <= place {
         return;
     }
-    let front = 12 * place;
+    let front = LEG * place;
     legs[front] = n as u8;
     for i in 0..n {
         legs[front + 1 + i] = moves[i];
@@ -52,7 +55,7 @@ fn note(legs: &mut Legs, place: usize, moves: &Moves, n: usize)
 
 // Where a decision added a cell to the path, the moves from the cell before it are noted.
 fn note_leg(legs: &mut Legs, before: usize, after: usize, moves: &Moves, n: usize)
-    requires { ⌜ n ≤ 11 ⌝ }
+    requires { ⌜ n ≤ mostMoves ⌝ }
 {
     if before < after {
         note(legs, before, moves, n);
@@ -81,7 +84,7 @@ fn go_on(
     let answer = d.answer;
     let after = d.state;
     let n = run::moves_of(answer);
-    if 11 < n {
+    if MOST_MOVES < n {
         return under;
     }
     note_leg(legs, before.length, after.length, &moves, n);
@@ -126,9 +129,9 @@ fn draw_leg(page: &mut Page, from: usize, legs: &Legs, place: usize) -> usize {
     if 4096 <= place {
         return at;
     }
-    let front = 12 * place;
+    let front = LEG * place;
     let n = wide8(legs[front]);
-    if 11 < n {
+    if MOST_MOVES < n {
         return at;
     }
     for i in 0..n {

@@ -1,15 +1,16 @@
 -- `picture::ground::oblongs` is safe and ends: each stretch of cells begins where the one before it ends.
 -- Assumes nothing.
 use Prim.Native.Nat.{_≤_, _-_}
+use lib.ListN.{length}
 use borrow.Author.Needs.{needs}
 use Rattle.picture.proofs.ground.oblongs.Statement.{statement}
 use Rattle.picture.proofs.ground.oblongs.Tie as tie
 
 abbrev Inv-loop : tie.InvT-loop
-Inv-loop page₀ from columns shade n which at₀ x₀ page at x = x ≤ n
+Inv-loop page₀ from columns kinds which at₀ x₀ page at x = x ≤ length kinds
 
 abbrev μ-loop : tie.MeasureT-loop
-μ-loop page₀ from columns shade n which at₀ x₀ page at x = n - x
+μ-loop page₀ from columns kinds which at₀ x₀ page at x = length kinds - x
 
 pub oblongs-spec : {M : Type 1} → statement M
 oblongs-spec =

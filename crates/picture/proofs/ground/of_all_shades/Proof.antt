@@ -6,10 +6,10 @@ use Rattle.picture.proofs.ground.of_all_shades.Statement.{statement}
 use Rattle.picture.proofs.ground.of_all_shades.Tie as tie
 
 abbrev Inv-loop : tie.InvT-loop
-Inv-loop page₀ from columns shade n at₀ which₀ page at which = which ≤ 8
+Inv-loop page₀ from columns shade at₀ which₀ page at which = which ≤ 8
 
 abbrev μ-loop : tie.MeasureT-loop
-μ-loop page₀ from columns shade n at₀ which₀ page at which = 8 - which
+μ-loop page₀ from columns shade at₀ which₀ page at which = 8 - which
 
 pub of-all-shades-spec : {M : Type 1} → statement M
 of-all-shades-spec =

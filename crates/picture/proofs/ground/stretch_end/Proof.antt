@@ -1,15 +1,16 @@
 -- `picture::ground::stretch_end` meets its contract: the loop goes on from the cell after x and stops at the end of the list at the latest.
 -- Assumes nothing.
 use Prim.Native.Nat.{_≤_, _<_, _-_}
+use lib.ListN.{length}
 use borrow.Author.Needs.{needs}
 use Rattle.picture.proofs.ground.stretch_end.Statement.{statement}
 use Rattle.picture.proofs.ground.stretch_end.Tie as tie
 
 abbrev Inv-loop : tie.InvT-loop
-Inv-loop shade n columns x row end₀ end = (x < end) × (end ≤ n) × (n ≤ 4096) × (1 ≤ row)
+Inv-loop kinds columns x row end₀ end = (x < end) × (end ≤ length kinds) × (1 ≤ row)
 
 abbrev μ-loop : tie.MeasureT-loop
-μ-loop shade n columns x row end₀ end = n - end
+μ-loop kinds columns x row end₀ end = length kinds - end
 
 pub stretch-end-spec : {M : Type 1} → statement M
 stretch-end-spec =

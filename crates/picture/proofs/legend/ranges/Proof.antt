@@ -6,10 +6,10 @@ use Rattle.picture.proofs.legend.ranges.Statement.{statement}
 use Rattle.picture.proofs.legend.ranges.Tie as tie
 
 abbrev Inv-loop : tie.InvT-loop
-Inv-loop page₀ from x most n at₀ k₀ page at k = (n ≤ 6) × (k ≤ n)
+Inv-loop page₀ from x row most n at₀ k₀ page at k = (n ≤ 6) × (k ≤ n)
 
 abbrev μ-loop : tie.MeasureT-loop
-μ-loop page₀ from x most n at₀ k₀ page at k = n - k
+μ-loop page₀ from x row most n at₀ k₀ page at k = n - k
 
 pub ranges-spec : {M : Type 1} → statement M
 ranges-spec =

@@ -1,15 +1,17 @@
--- `picture::shades::fill` is safe and ends: it goes through the cells, of which there are at most as many as places.
+-- `picture::shades::fill` is safe and ends: it goes through the cells.
 -- Assumes nothing.
 use Prim.Native.Nat.{_≤_, _-_}
+use mathlib.Core.Path.{_≡_}
+use lib.ListN.{length}
 use borrow.Author.Needs.{needs}
 use Rattle.picture.proofs.shades.fill.Statement.{statement}
 use Rattle.picture.proofs.shades.fill.Tie as tie
 
 abbrev Inv-loop : tie.InvT-loop
-Inv-loop floor table first most shades₀ n x₀ shades x = x ≤ n
+Inv-loop floor table first most shades₀ x₀ shades x = (x ≤ length shades₀) × (length shades ≡ length shades₀)
 
 abbrev μ-loop : tie.MeasureT-loop
-μ-loop floor table first most shades₀ n x₀ shades x = n - x
+μ-loop floor table first most shades₀ x₀ shades x = length shades₀ - x
 
 pub fill-spec : {M : Type 1} → statement M
 fill-spec =
@@ -19,6 +21,7 @@ fill-spec =
     μ-loop
     (λ c. search needs)
     (λ c κs. search needs)
+    (λ c. search needs)
     (λ c. search needs)
     (λ c. search needs)
     (λ c. search needs)

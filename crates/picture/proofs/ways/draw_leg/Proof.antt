@@ -1,12 +1,13 @@
--- `picture::ways::draw_leg` is safe and ends: a place has twelve bytes, and at most eleven of them are moves.
+-- `picture::ways::draw_leg` is safe and ends: a place has a byte for how many moves there are, and a byte for each.
 -- Assumes nothing.
-use Prim.Native.Nat.{_≤_, _+_, _-_}
+use Prim.Native.Nat.{suc, _≤_, _+_, _*_, _-_}
 use borrow.Author.Needs.{needs}
+use Rattle.model.specs.Lookahead.{mostMoves}
 use Rattle.picture.proofs.ways.draw_leg.Statement.{statement}
 use Rattle.picture.proofs.ways.draw_leg.Tie as tie
 
 abbrev Inv-loop : tie.InvT-loop
-Inv-loop page₀ from legs place at₀ front n i₀ page at i = (i ≤ n) × (n ≤ 11) × (front + 12 ≤ 49152)
+Inv-loop page₀ from legs place at₀ front n i₀ page at i = (i ≤ n) × (n ≤ mostMoves) × (front + suc mostMoves ≤ 4096 * suc mostMoves)
 
 abbrev μ-loop : tie.MeasureT-loop
 μ-loop page₀ from legs place at₀ front n i₀ page at i = n - i

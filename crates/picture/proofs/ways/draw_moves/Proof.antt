@@ -1,12 +1,13 @@
--- `picture::ways::draw_moves` is safe and ends: it goes through at most eleven of 288 moves.
+-- `picture::ways::draw_moves` is safe and ends: it goes through at most as many of 288 moves as a leg has.
 -- Assumes nothing.
 use Prim.Native.Nat.{_≤_, _-_}
 use borrow.Author.Needs.{needs}
+use Rattle.model.specs.Lookahead.{mostMoves}
 use Rattle.picture.proofs.ways.draw_moves.Statement.{statement}
 use Rattle.picture.proofs.ways.draw_moves.Tie as tie
 
 abbrev Inv-loop : tie.InvT-loop
-Inv-loop page₀ from moves n at₀ i₀ page at i = (i ≤ n) × (n ≤ 11)
+Inv-loop page₀ from moves n at₀ i₀ page at i = (i ≤ n) × (n ≤ mostMoves)
 
 abbrev μ-loop : tie.MeasureT-loop
 μ-loop page₀ from moves n at₀ i₀ page at i = n - i

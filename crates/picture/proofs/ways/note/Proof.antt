@@ -1,12 +1,13 @@
--- `picture::ways::note` is safe and ends: a place has twelve bytes, and at most eleven of them are moves.
+-- `picture::ways::note` is safe and ends: a place has a byte for how many moves there are, and a byte for each.
 -- Assumes nothing.
-use Prim.Native.Nat.{_≤_, _+_, _-_}
+use Prim.Native.Nat.{suc, _≤_, _+_, _*_, _-_}
 use borrow.Author.Needs.{needs}
+use Rattle.model.specs.Lookahead.{mostMoves}
 use Rattle.picture.proofs.ways.note.Statement.{statement}
 use Rattle.picture.proofs.ways.note.Tie as tie
 
 abbrev Inv-loop : tie.InvT-loop
-Inv-loop legs₀ place moves n front i₀ legs i = (i ≤ n) × (n ≤ 11) × (front + 12 ≤ 49152)
+Inv-loop legs₀ place moves n front i₀ legs i = (i ≤ n) × (n ≤ mostMoves) × (front + suc mostMoves ≤ 4096 * suc mostMoves)
 
 abbrev μ-loop : tie.MeasureT-loop
 μ-loop legs₀ place moves n front i₀ legs i = n - i
