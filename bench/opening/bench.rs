@@ -12,14 +12,20 @@ extern "C" {
 const SIDE: usize = 64;
 const CELLS: usize = SIDE * SIDE;
 const Q: usize = 16;
-const CEILING: u32 = 917_280;
+const CEILING: u32 = 1_834_560;
 const FAR: u32 = CEILING;
+const FARTHEST: u32 = 28 * (CELLS as u32 - 1);
+
+// The bytes of free cells: an ordinary one, and a slow one, at which a move costs double.
+const FREE: u8 = 0;
+const SLOW: u8 = 2;
 
 // An entry of the search in rising order: the distance above, the next cell of the queue below.
 const LINK: u32 = 13;
 const END: usize = (1 << LINK) - 1;
 const NONE: u32 = u32::MAX >> LINK;
-const COSTS: [u32; 2] = [10, 14];
+// What moves cost: straight and diagonal, and the same doubled, which a floor without slow cells has no use for.
+const COSTS: [u32; 4] = [10, 14, 20, 28];
 
 // Lists without a test of their bounds: the proved code has none either.
 struct Bare<'a, T>(&'a mut [T]);
@@ -37,73 +43,145 @@ impl<T: Copy> Bare<'_, T> {
 }
 
 #[inline(always)]
-fn free(floor: &[u8], cell: usize) -> bool {
-    unsafe { *floor.get_unchecked(cell) == 0 }
+fn byte(floor: &[u8], cell: usize) -> u8 {
+    unsafe { *floor.get_unchecked(cell) }
+}
+
+// Here and below, `HAS_SLOW` says whether the floor has slow cells; one without them pays nothing for them.
+#[inline(always)]
+fn free<const HAS_SLOW: bool>(floor: &[u8], cell: usize) -> bool {
+    let byte = byte(floor, cell);
+    byte == FREE || HAS_SLOW && byte == SLOW
 }
 
 // Which of the straight cells beside a cell are free: north, east, south, west.
 #[inline(always)]
-fn sides(width: usize, height: usize, floor: &[u8], cell: usize) -> [bool; 4] {
+fn sides<const HAS_SLOW: bool>(width: usize, height: usize, floor: &[u8], cell: usize) -> [bool; 4] {
     let (x, y) = (cell % width, cell / width);
     [
-        y > 0 && free(floor, cell - width),
-        x + 1 < width && free(floor, cell + 1),
-        y + 1 < height && free(floor, cell + width),
-        x > 0 && free(floor, cell - 1),
+        y > 0 && free::<HAS_SLOW>(floor, cell - width),
+        x + 1 < width && free::<HAS_SLOW>(floor, cell + 1),
+        y + 1 < height && free::<HAS_SLOW>(floor, cell + width),
+        x > 0 && free::<HAS_SLOW>(floor, cell - 1),
     ]
 }
 
-// The same search, tuned by hand in plain Rust: one list, the queue linked inside it, a place for each cost.
+// The same search, tuned by hand in plain Rust: one list, the queue linked inside it, a place for each cost in use.
 fn rising(width: usize, height: usize, floor: &[u8], goal: usize, list: &mut [u32]) {
-    list.fill(u32::MAX);
-    let mut list = Bare(list);
-    list.set(goal, END as u32);
-    let (mut places, mut last) = ([goal; 2], goal);
-    loop {
-        let offer = |k: usize| if places[k] == END { NONE } else { (list.at(places[k]) >> LINK) + COSTS[k] };
-        let k = usize::from(offer(1) < offer(0));
-        let cell = places[k];
-        if cell == END {
-            break;
-        }
-        let (v, before) = (offer(k), last);
-        let mut reach = |to: usize| {
-            if list.at(to) >> LINK == NONE {
-                list.set(last, list.at(last) & !(END as u32) | to as u32);
-                list.set(to, v << LINK | END as u32);
-                last = to;
-            }
-        };
-        let [north, east, south, west] = sides(width, height, floor, cell);
-        if k == 0 {
-            for (clear, to) in [(north, cell.wrapping_sub(width)), (east, cell + 1), (south, cell + width), (west, cell.wrapping_sub(1))] {
-                if clear {
-                    reach(to);
-                }
-            }
-        } else {
-            let up = cell.wrapping_sub(width);
-            for (clear, to) in [(north && east, up.wrapping_add(1)), (south && east, cell + width + 1), (south && west, cell + width - 1), (north && west, up.wrapping_sub(1))] {
-                if clear && free(floor, to) {
-                    reach(to);
-                }
-            }
-        }
-        let came = list.at(before) as usize & END;
-        for place in &mut places {
-            if *place == END {
-                *place = came;
-            }
-        }
-        places[k] = list.at(cell) as usize & END;
+    if floor.contains(&SLOW) {
+        rising_by::<true, 4>(width, height, floor, goal, list)
+    } else {
+        rising_by::<false, 2>(width, height, floor, goal, list)
     }
-    for entry in list.0 {
+}
+
+fn rising_by<const HAS_SLOW: bool, const USED: usize>(width: usize, height: usize, floor: &[u8], goal: usize, list: &mut [u32]) {
+    list.fill(u32::MAX);
+    let mut search = Rising::<HAS_SLOW, USED> { width, height, floor, list: Bare(list), places: [goal; USED], last: goal };
+    search.list.set(goal, END as u32);
+    while search.step() {}
+    for entry in search.list.0 {
         *entry = if *entry >> LINK < NONE { *entry >> LINK } else { FAR };
+    }
+}
+
+struct Rising<'a, const HAS_SLOW: bool, const USED: usize> {
+    width: usize,
+    height: usize,
+    floor: &'a [u8],
+    list: Bare<'a, u32>,
+    places: [usize; USED],
+    last: usize,
+}
+
+impl<const HAS_SLOW: bool, const USED: usize> Rising<'_, HAS_SLOW, USED> {
+    #[inline(always)]
+    fn offer(&self, k: usize) -> u32 {
+        if self.places[k] == END { NONE } else { (self.list.at(self.places[k]) >> LINK) + COSTS[k] }
+    }
+
+    // Goes on from the place with the least offer, by a branch for each cost: a branch can be foreseen. False where no place is left.
+    #[inline(always)]
+    fn step(&mut self) -> bool {
+        let (straight, diagonal) = (self.offer(0), self.offer(1));
+        if HAS_SLOW {
+            let (slow_straight, slow_diagonal) = (self.offer(2), self.offer(3));
+            let slow = slow_straight.min(slow_diagonal);
+            if slow < straight.min(diagonal) {
+                return if slow_straight == slow { self.follow::<2>(slow) } else { self.follow::<3>(slow) };
+            }
+        }
+        if diagonal < straight {
+            self.follow::<1>(diagonal)
+        } else {
+            self.follow::<0>(straight)
+        }
+    }
+
+    #[inline(always)]
+    fn follow<const K: usize>(&mut self, v: u32) -> bool {
+        if v == NONE {
+            return false;
+        }
+        let (cell, before) = (self.places[K], self.last);
+        let slow = HAS_SLOW && byte(self.floor, cell) == SLOW;
+        let doubled = K > 1;
+        let leads_on = if slow { doubled } else { !doubled || self.may_meet_slow::<K>(cell) };
+        if leads_on {
+            let (width, up) = (self.width, cell.wrapping_sub(self.width));
+            let [north, east, south, west] = sides::<HAS_SLOW>(width, self.height, self.floor, cell);
+            let moves = if K % 2 == 0 {
+                [(north, up), (east, cell + 1), (south, cell + width), (west, cell.wrapping_sub(1))]
+            } else {
+                [(north && east, up.wrapping_add(1)), (south && east, cell + width + 1), (south && west, cell + width - 1), (north && west, up.wrapping_sub(1))]
+            };
+            for (clear, to) in moves {
+                // a doubled cost leads from a slow cell to any free one and from an ordinary one to slow ones; a plain cost between ordinary ones
+                let fits = || if slow { free::<HAS_SLOW>(self.floor, to) } else { byte(self.floor, to) == if doubled { SLOW } else { FREE } };
+                if clear && (!HAS_SLOW && K == 0 || fits()) {
+                    self.reach(to, v);
+                }
+            }
+        }
+        for place in &mut self.places {
+            if *place == END {
+                *place = self.list.at(before) as usize & END;
+            }
+        }
+        self.places[K] = self.list.at(cell) as usize & END;
+        true
+    }
+
+    // Whether a move of the cost K may lead to a slow cell: tested ahead of all else, and so roughly that past an edge the next row is looked at.
+    #[inline(always)]
+    fn may_meet_slow<const K: usize>(&self, cell: usize) -> bool {
+        let (up, down) = (cell.wrapping_sub(self.width), cell + self.width);
+        let straight = [up, cell.wrapping_sub(1), cell + 1, down];
+        let diagonal = [up.wrapping_sub(1), up.wrapping_add(1), down - 1, down + 1];
+        let ways = if K % 2 == 0 { straight } else { diagonal };
+        ways.iter().any(|&to| to < self.floor.len() && byte(self.floor, to) == SLOW)
+    }
+
+    #[inline(always)]
+    fn reach(&mut self, to: usize, v: u32) {
+        if self.list.at(to) >> LINK == NONE {
+            self.list.set(self.last, self.list.at(self.last) & !(END as u32) | to as u32);
+            self.list.set(to, v << LINK | END as u32);
+            self.last = to;
+        }
     }
 }
 
 // Dijkstra as the textbooks have it: a heap of distances, and what was reached more cheaply since is passed over.
 fn heap(width: usize, height: usize, floor: &[u8], goal: usize, dist: &mut [u32]) {
+    if floor.contains(&SLOW) {
+        heap_by::<true>(width, height, floor, goal, dist)
+    } else {
+        heap_by::<false>(width, height, floor, goal, dist)
+    }
+}
+
+fn heap_by<const HAS_SLOW: bool>(width: usize, height: usize, floor: &[u8], goal: usize, dist: &mut [u32]) {
     dist.fill(FAR);
     let mut dist = Bare(dist);
     dist.set(goal, 0);
@@ -113,10 +191,15 @@ fn heap(width: usize, height: usize, floor: &[u8], goal: usize, dist: &mut [u32]
         if dist.at(cell) < d {
             continue;
         }
-        let [north, east, south, west] = sides(width, height, floor, cell);
+        let [north, east, south, west] = sides::<HAS_SLOW>(width, height, floor, cell);
         let up = cell.wrapping_sub(width);
+        let slow = HAS_SLOW && byte(floor, cell) == SLOW;
         let mut reach = |clear: bool, to: usize, cost: u32| {
-            if clear && free(floor, to) && d + cost < dist.at(to) {
+            if !clear || !free::<HAS_SLOW>(floor, to) {
+                return;
+            }
+            let cost = if slow || HAS_SLOW && byte(floor, to) == SLOW { 2 * cost } else { cost };
+            if d + cost < dist.at(to) {
                 dist.set(to, d + cost);
                 heap.push(Reverse((d + cost, to as u32)));
             }
@@ -136,7 +219,7 @@ type Search = fn(usize, usize, &[u8], usize, &mut [u32]);
 
 // A plain opening, by either search: places, figures, a walk from the start, no figure above the truth. The number that it answers.
 fn plain_open(search: Search, width: usize, height: usize, floor: &[u8], start: usize, goal: usize, table: &[u32]) -> usize {
-    if floor[start] != 0 || floor[goal] != 0 {
+    if !free::<true>(floor, start) || !free::<true>(floor, goal) {
         return 4;
     }
     if table.iter().any(|&figure| figure > CEILING) {
@@ -165,6 +248,19 @@ fn micros(mut call: impl FnMut() -> usize) -> f64 {
 
 fn cells(blocked: impl Fn(usize, usize) -> bool) -> Vec<u8> {
     (0..CELLS).map(|cell| blocked(cell % SIDE, cell / SIDE) as u8).collect()
+}
+
+fn racks() -> Vec<u8> {
+    cells(|x, y| x % 3 != 0 && y % 8 != 0)
+}
+
+// The same racks with every other aisle across a charging lane.
+fn lanes() -> Vec<u8> {
+    let mut floor = racks();
+    for row in (0..SIDE).step_by(16) {
+        floor[row * SIDE..][..SIDE].fill(SLOW);
+    }
+    floor
 }
 
 // A corridor one cell wide that winds inward from the first cell, clockwise, with walls one cell thick; and its last cell.
@@ -217,11 +313,12 @@ fn main() {
     let (spiral, centre) = spiral();
     let floors = [
         ("open", cells(|_, _| false), CELLS - 1),
-        ("racks", cells(|x, y| x % 3 != 0 && y % 8 != 0), CELLS - 1),
+        ("racks", racks(), CELLS - 1),
         ("random", random(), CELLS - 1),
         ("snake", cells(|x, y| y % 2 == 1 && x != if y % 4 == 1 { SIDE - 1 } else { 0 }), CELLS - 2 * SIDE),
         ("spiral", spiral, centre),
         ("comb", comb(), CELLS - 1),
+        ("lanes", lanes(), CELLS - 1),
     ];
     println!("opening a 64 x 64 job: us    ns a free cell    same search in plain Rust: us, ratio    binary heap: us, ratio");
     for (name, floor, far) in floors {
@@ -231,6 +328,8 @@ fn main() {
         let goal = (0..=far).rev().find(|&cell| dist[cell] < FAR).unwrap();
         let (mut a, mut b) = (vec![0u32; CELLS], vec![0u32; CELLS]);
         unsafe { probe_distances(SIDE, SIDE, goal, floor.as_ptr(), CELLS, a.as_mut_ptr(), CELLS) };
+        // where there is none, the proved search writes a number of its own, above every distance
+        a.iter_mut().filter(|d| **d > FARTHEST).for_each(|d| *d = FAR);
         rising(SIDE, SIDE, &floor, goal, &mut b);
         heap(SIDE, SIDE, &floor, goal, &mut dist);
         assert!(a == dist && b == dist, "{name}: the distances differ");
@@ -241,7 +340,7 @@ fn main() {
         let plain = |search| plain_open(search, side, side, floor, 0, goal, &table);
         assert!(proved() == 0 && plain(rising) == 0 && plain(heap) == 0, "{name}: refused");
         let (ours, same, other) = (micros(proved), micros(|| plain(rising)), micros(|| plain(heap)));
-        let free = floor.iter().filter(|&&byte| byte == 0).count();
+        let free = (0..CELLS).filter(|&cell| free::<true>(floor, cell)).count();
         println!("{name:8} {ours:9.1} {:9.1} {same:9.1} {:6.2} {other:9.1} {:6.2}", ours * 1e3 / free as f64, ours / same, ours / other);
     }
 }

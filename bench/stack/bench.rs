@@ -19,6 +19,7 @@ extern "C" {
         floor: *const u8, floor_len: usize, table: *mut u32, table_len: usize, path: *mut u16, path_len: usize, counts: *mut u64, counts_len: usize, n: usize,
     ) -> usize;
     fn probe_floor(text: *const u8, text_len: usize, buffer: *mut u8, buffer_len: usize) -> usize;
+    fn probe_write_floor(width: usize, height: usize, floor: *const u8, floor_len: usize, buffer: *mut u8, buffer_len: usize) -> usize;
     fn probe_fill(width: usize, height: usize, goal: usize, q: usize, floor: *const u8, floor_len: usize, table: *mut u32, table_len: usize) -> usize;
     fn probe_read(
         width: usize, height: usize, goal: usize, q: usize, floor: *const u8, floor_len: usize,
@@ -156,6 +157,11 @@ fn read_floor(map: &Map) -> usize {
     need(|| assert!(unsafe { probe_floor(text.as_ptr(), text.len(), buffer.as_mut_ptr(), CELLS) } == SIDE))
 }
 
+fn write_floor(map: &Map) -> usize {
+    let mut buffer = vec![0; 4195];
+    need(|| assert!(unsafe { probe_write_floor(SIDE, SIDE, map.floor.as_ptr(), CELLS, buffer.as_mut_ptr(), buffer.len()) } == buffer.len()))
+}
+
 // A table whose every figure is learned, 4,096 records as a file.
 fn file(map: &Map) -> (Vec<u32>, Vec<u8>) {
     let learned: Vec<u32> = map.table.iter().map(|figure| figure + 1).collect();
@@ -196,6 +202,7 @@ fn main() {
         ("trial", either(&|map, quota| trial(map, SIDE, quota))),
         ("run", either(&run)),
         ("read_floor", most(&read_floor)),
+        ("write_floor", most(&write_floor)),
         ("write_table", write_table(&bare)),
         ("read_table", read_table(&bare)),
         ("find_records", need(|| assert!(unsafe { probe_find(whole.as_ptr(), whole.len()) } == 6 * CELLS))),

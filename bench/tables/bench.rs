@@ -14,7 +14,12 @@ extern "C" {
 
 const SIDE: usize = 64;
 const CELLS: usize = SIDE * SIDE;
-const CEILING: u32 = 917_280;
+const CEILING: u32 = 1_834_560;
+
+/// Byte 0 is free, 2 is slow and free, every other is blocked.
+fn is_free(byte: u8) -> bool {
+    byte & !2 == 0
+}
 
 fn opening(goal: usize, q: usize, x: usize) -> u32 {
     let (dx, dy) = ((x % SIDE).abs_diff(goal % SIDE), (x / SIDE).abs_diff(goal / SIDE));
@@ -26,7 +31,7 @@ fn plain_write(goal: usize, q: usize, floor: &[u8], table: &[u32], buffer: &mut 
     let mut count = 0;
     for x in 0..CELLS {
         let o = opening(goal, q, x);
-        if table[x] > CEILING || (floor[x] == 0 && table[x] < o) || (floor[x] != 0 && table[x] != o) {
+        if table[x] > CEILING || (is_free(floor[x]) && table[x] < o) || (!is_free(floor[x]) && table[x] != o) {
             return 0;
         }
         count += (table[x] != o) as usize;
@@ -60,7 +65,7 @@ fn plain_write(goal: usize, q: usize, floor: &[u8], table: &[u32], buffer: &mut 
 fn fault(floor: &[u8], low: usize, x: usize, y: u32, opening: u32) -> usize {
     match x {
         _ if x >= CELLS => 18,
-        _ if floor[x] != 0 => 19,
+        _ if !is_free(floor[x]) => 19,
         _ if x < low => 20,
         _ if y <= opening => 21,
         _ => 22,
@@ -85,7 +90,7 @@ fn plain_read(goal: usize, q: usize, floor: &[u8], file: &[u8], table: &mut [u32
     let mut low = 0;
     for r in records.chunks_exact(6) {
         let (x, y) = (u16::from_be_bytes([r[0], r[1]]) as usize, u32::from_be_bytes([r[2], r[3], r[4], r[5]]));
-        if x >= CELLS || floor[x] != 0 || x < low || y <= opening(goal, q, x) || y > CEILING {
+        if x >= CELLS || !is_free(floor[x]) || x < low || y <= opening(goal, q, x) || y > CEILING {
             return fault(floor, low, x, y, opening(goal, q, x % CELLS));
         }
         low = x + 1;

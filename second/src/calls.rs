@@ -14,11 +14,11 @@ pub const MOST_INPUT: usize = 262_144;
 /// A number above this is malformed.
 const MOST_NUMBER: u64 = u32::MAX as u64;
 
-/// Room for floor, table and path, and for the floor text's buffer, which takes a floor.
+/// Room for floor, table and path.
 pub const CELL_ROOM: usize = 4_096 + 64;
 pub const MOVE_ROOM: usize = 1_024;
 pub const REPORT_ROOM: usize = 1_001;
-/// Room for files, texts and the writer's buffer, which takes a file.
+/// Room for files and texts, and for every buffer of bytes.
 pub const BYTE_ROOM: usize = 32_768;
 
 /// Why there is no line of numbers to print.
@@ -188,6 +188,7 @@ fn call(input: &[u8], most: u64) -> Result<Line, NoLine> {
         8 => call_find_records(arguments),
         9 => call_check_trailer(arguments),
         10 => call_opening_table(arguments),
+        11 => call_write_floor_text(arguments),
         _ => Err(NoLine::Malformed),
     }
 }
@@ -386,5 +387,19 @@ fn call_opening_table(mut arguments: Arguments) -> Result<Line, NoLine> {
     let mut line = Line::default();
     line.refusal(refusal);
     line.list(&table);
+    Ok(line)
+}
+
+fn call_write_floor_text(mut arguments: Arguments) -> Result<Line, NoLine> {
+    let (width, height) = (arguments.scalar()?, arguments.scalar()?);
+    let floor: Vec<u8> = arguments.list(CELL_ROOM)?;
+    let mut buffer: Vec<u8> = arguments.list(BYTE_ROOM)?;
+    arguments.end()?;
+
+    let (refusal, length) = split(floor_text::write(width, height, &floor, &mut buffer));
+    let mut line = Line::default();
+    line.refusal(refusal);
+    line.number(length as u64);
+    line.list(&buffer);
     Ok(line)
 }

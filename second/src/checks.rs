@@ -1,11 +1,11 @@
 //! The checks that several calls share, each for one number of document 01's table, and the job they judge.
 
-use crate::floor::MOST_SIDE;
+use crate::floor::{is_free_byte, MOST_SIDE};
 use crate::lookahead::MOST_DEPTH;
 use crate::refusal::Refusal;
 
 /// The greatest figure that a table may hold.
-pub const CEILING: u32 = 917_280;
+pub const CEILING: u32 = 1_834_560;
 
 pub const MOST_QUOTA: u64 = 1_000_000;
 pub const MOST_TRIALS: u64 = 1_000;
@@ -24,14 +24,23 @@ pub struct Job<'a> {
     pub floor: &'a [u8],
 }
 
-/// 1: the sides, and the lengths of floor and table. Answers how many cells there are.
-pub fn sizes(width: u64, height: u64, floor: &[u8], table: &[u32]) -> Result<usize, Refusal> {
+/// 1: the sides, and the floor's length. Answers how many cells there are.
+pub fn floor_sizes(width: u64, height: u64, floor: &[u8]) -> Result<usize, Refusal> {
     let side = 1..=MOST_SIDE;
     if !side.contains(&width) || !side.contains(&height) {
         return Err(Refusal::plain(1));
     }
     let cells = (width * height) as usize;
-    if floor.len() != cells || table.len() != cells {
+    if floor.len() != cells {
+        return Err(Refusal::plain(1));
+    }
+    Ok(cells)
+}
+
+/// The same with the table's length.
+pub fn sizes(width: u64, height: u64, floor: &[u8], table: &[u32]) -> Result<usize, Refusal> {
+    let cells = floor_sizes(width, height, floor)?;
+    if table.len() != cells {
         return Err(Refusal::plain(1));
     }
     Ok(cells)
@@ -70,7 +79,7 @@ fn q_alone(q: u64) -> Result<(), Refusal> {
 pub fn free_cell(floor: &[u8], cell: u64) -> Result<usize, Refusal> {
     let index = usize::try_from(cell).map_err(|_| Refusal::plain(4))?;
     match floor.get(index) {
-        Some(0) => Ok(index),
+        Some(&byte) if is_free_byte(byte) => Ok(index),
         _ => Err(Refusal::plain(4)),
     }
 }

@@ -1,6 +1,7 @@
 //! The comparison: this program's answers beside another program's, input by input, byte by byte.
 
 use crate::calls;
+use crate::floor::SLOW;
 use crate::make::{self, Program};
 use std::io::{Read, Write};
 use std::process::{Command, Stdio};
@@ -52,7 +53,7 @@ pub fn compare(plan: &Plan) -> bool {
     let missing = tally.missing();
     let complete = !plan.need_all || missing.is_empty();
     if !complete {
-        println!("these numbers did not occur: {missing:?}");
+        println!("these did not occur: {}", missing.join(", "));
     }
     println!("{compared} compared, 0 different");
     complete
@@ -135,16 +136,23 @@ const UNUSED: usize = 15;
 #[derive(Default)]
 pub struct Tally {
     numbers: [u64; 23],
-    calls: [u64; 11],
+    calls: [u64; CALLS],
     malformed: u64,
     aisle: u64,
+    /// How many of all had slow cells, and how many of these were accepted.
+    pub slow: u64,
+    slow_calls: [u64; CALLS],
+    slow_aisle: u64,
     /// Arrived, forward, backed out, stayed, refused.
     decisions: [u64; 5],
     cuts: u64,
     refused_on_backing_out: u64,
 }
 
-const CALL_NAMES: [&str; 11] = [
+/// The calls are numbered from 1.
+const CALLS: usize = 12;
+
+const CALL_NAMES: [&str; CALLS] = [
     "",
     "open",
     "decide",
@@ -156,12 +164,25 @@ const CALL_NAMES: [&str; 11] = [
     "find records",
     "check trailer",
     "opening table",
+    "write floor text",
 ];
+
+/// How many numbers stand ahead of a call's floor; none where a call takes no floor.
+fn numbers_ahead_of_floor(call: usize) -> Option<usize> {
+    match call {
+        1 | 3 => Some(9),
+        2 => Some(12),
+        4 => Some(10),
+        6 | 7 | 10 => Some(5),
+        11 => Some(3),
+        _ => None,
+    }
+}
 
 impl Tally {
     pub fn add(&mut self, program: Program, input: &[u8], output: &[u8]) {
         match program {
-            Program::Aisle => self.add_aisle(output),
+            Program::Aisle => self.add_aisle(input, output),
             Program::Calls => self.add_call(input, output),
         }
     }
@@ -172,12 +193,16 @@ impl Tally {
         }
     }
 
-    fn add_aisle(&mut self, output: &[u8]) {
+    fn add_aisle(&mut self, input: &[u8], output: &[u8]) {
         self.aisle += 1;
         let text = String::from_utf8_lossy(output);
         let mut words = text.split_ascii_whitespace();
         let number = if words.next() == Some("refused") { words.next() } else { Some("0") };
-        self.add_number(number.and_then(|number| number.parse().ok()).unwrap_or(u64::MAX));
+        let number = number.and_then(|number| number.parse().ok()).unwrap_or(u64::MAX);
+        self.add_number(number);
+        let slow = input.contains(&b'S');
+        self.slow += u64::from(slow);
+        self.slow_aisle += u64::from(slow && number == 0);
     }
 
     fn add_call(&mut self, input: &[u8], output: &[u8]) {
@@ -188,15 +213,27 @@ impl Tally {
         let (Some(asked), Some(answered)) = (calls::numbers(input), leading_numbers(output)) else { return };
         let call = asked[0] as usize;
         self.calls[call] += 1;
-        match call {
-            2 => {
-                self.add_number(answered[1]);
-                self.add_decision(&asked, &answered);
-            }
+        let number = match call {
+            2 => answered[1],
             // The finder answers no number.
-            8 => {}
-            _ => self.add_number(answered[0]),
+            8 => return,
+            _ => answered[0],
+        };
+        self.add_number(number);
+        if call == 2 {
+            self.add_decision(&asked, &answered);
         }
+        let slow = match numbers_ahead_of_floor(call) {
+            Some(ahead) => {
+                asked[ahead + 1..].iter().take(asked[ahead] as usize).any(|&byte| byte == u64::from(SLOW))
+            }
+            None => {
+                call == 5
+                    && asked[2..].iter().take(asked[1] as usize).any(|&letter| letter == u64::from(b'S'))
+            }
+        };
+        self.slow += u64::from(slow);
+        self.slow_calls[call] += u64::from(slow && number == 0);
     }
 
     fn add_decision(&mut self, asked: &[u64], answered: &[u64]) {
@@ -216,8 +253,19 @@ impl Tally {
         }
     }
 
-    pub fn missing(&self) -> Vec<usize> {
-        (0..self.numbers.len()).filter(|&number| number != UNUSED && self.numbers[number] == 0).collect()
+    /// What did not occur of numbers and calls, and of calls with slow cells that are accepted.
+    pub fn missing(&self) -> Vec<String> {
+        let numbers = (0..self.numbers.len()).filter(|&number| number != UNUSED && self.numbers[number] == 0);
+        let calls = (1..CALLS).filter(|&call| self.calls[call] == 0);
+        let has_floor = |&call: &usize| call == 5 || numbers_ahead_of_floor(call).is_some();
+        let slow_calls = (1..CALLS).filter(has_floor).filter(|&call| self.slow_calls[call] == 0);
+        let mut missing: Vec<String> = numbers.map(|number| format!("number {number}")).collect();
+        missing.extend(calls.map(|call| format!("call {call}")));
+        missing.extend(slow_calls.map(|call| format!("call {call} with slow cells")));
+        if self.slow_aisle == 0 {
+            missing.push("aisle with slow cells".into());
+        }
+        missing
     }
 
     pub fn print(&self) {
@@ -225,12 +273,13 @@ impl Tally {
         for (number, count) in self.numbers.iter().enumerate().filter(|&(number, _)| number != UNUSED) {
             println!("{number:6}  {count}");
         }
-        println!("call                 made");
+        println!("call                   made  accepted with slow cells");
         for (call, count) in self.calls.iter().enumerate().skip(1) {
-            println!("{call:2} {:16}  {count}", CALL_NAMES[call]);
+            println!("{call:2} {:16}  {count:6}  {}", CALL_NAMES[call], self.slow_calls[call]);
         }
-        println!("   {:16}  {}", "malformed", self.malformed);
-        println!("   {:16}  {}", "aisle", self.aisle);
+        println!("   {:16}  {:6}", "malformed", self.malformed);
+        println!("   {:16}  {:6}  {}", "aisle", self.aisle, self.slow_aisle);
+        println!("slow cells in {} of all", self.slow);
         let [arrived, forward, backed_out, stayed, refused] = self.decisions;
         let (cuts, by_8) = (self.cuts, self.refused_on_backing_out);
         print!("decisions: {arrived} arrived, {forward} forward ({cuts} cut the path), {backed_out} backed out, ");

@@ -1,7 +1,7 @@
 //! One decision: its checks 1 to 5 and 8 to 10, and what it does to state, table, path and moves.
 
 use crate::checks::{self, Job, CEILING};
-use crate::floor::{opposite, Floor};
+use crate::floor::{is_free_byte, opposite, Floor};
 use crate::lookahead::{Window, MOST_MOVES};
 use crate::refusal::Refusal;
 
@@ -120,7 +120,7 @@ fn judge_state(
     seen[goal] = true;
     for &cell in &path[..length] {
         let cell = usize::from(cell);
-        if job.floor.get(cell) != Some(&0) || seen[cell] {
+        if !job.floor.get(cell).is_some_and(|&byte| is_free_byte(byte)) || seen[cell] {
             return Err(fault);
         }
         seen[cell] = true;

@@ -1,5 +1,7 @@
-//! The floor text: reads a floor in the octile grid benchmark format.
+//! The floor text: reads and writes a floor in the octile grid benchmark format.
 
+use crate::checks;
+use crate::floor::{BLOCKED, FREE, SLOW};
 use crate::refusal::Refusal;
 
 /// The line of the first row; the header's four lines come before it.
@@ -32,8 +34,9 @@ pub fn read(text: &[u8], buffer: &mut [u8]) -> Result<(usize, usize), Refusal> {
         }
         for &letter in &rest[..width] {
             floor.push(match letter {
-                b'.' | b'G' => 0,
-                b'@' | b'O' | b'T' => 1,
+                b'.' | b'G' => FREE,
+                b'@' | b'O' | b'T' => BLOCKED,
+                b'S' => SLOW,
                 _ => return Err(fault),
             });
         }
@@ -44,6 +47,23 @@ pub fn read(text: &[u8], buffer: &mut [u8]) -> Result<(usize, usize), Refusal> {
     }
     buffer[..cells].copy_from_slice(&floor);
     Ok((width, height))
+}
+
+/// The public writer: judges 1 and 17, writes from the buffer's first byte on, and answers how many bytes it wrote.
+pub fn write(width: u64, height: u64, floor: &[u8], buffer: &mut [u8]) -> Result<usize, Refusal> {
+    checks::floor_sizes(width, height, floor)?;
+    let mut text = format!("type octile\nheight {height}\nwidth {width}\nmap\n").into_bytes();
+    for row in floor.chunks(width as usize) {
+        text.extend(row.iter().map(|&byte| match byte {
+            FREE => b'.',
+            SLOW => b'S',
+            _ => b'@',
+        }));
+        text.push(b'\n');
+    }
+    let place = buffer.get_mut(..text.len()).ok_or(Refusal::plain(17))?;
+    place.copy_from_slice(&text);
+    Ok(text.len())
 }
 
 /// One header line that holds a size from 1 to 64 with no zero in front; answers it and what follows the line.
@@ -62,4 +82,62 @@ fn size<'a>(text: &'a [u8], name: &[u8]) -> Result<(usize, &'a [u8]), Refusal> {
         return Err(header_fault());
     }
     Ok((size, rest))
+}
+
+#[cfg(test)]
+mod tests {
+    use super::*;
+    use crate::make::dice::Dice;
+    use crate::make::{floors, slow};
+
+    fn written(width: usize, height: usize, floor: &[u8]) -> Vec<u8> {
+        let mut buffer = vec![0; 5_000];
+        let length = write(width as u64, height as u64, floor, &mut buffer).unwrap();
+        buffer.truncate(length);
+        buffer
+    }
+
+    /// What is written reads back the same, but that bytes above 2 read back as 1; and it needs all its room.
+    #[test]
+    fn what_is_written_reads_back() {
+        for seed in 0..500u64 {
+            let mut dice = Dice::new(seed);
+            let (width, height) = floors::larger_sizes(&mut dice);
+            let mut floor = floors::floor(floors::kind(&mut dice), width, height, &mut dice);
+            match seed % 3 {
+                0 => slow::lay(&mut floor, width, &mut dice),
+                1 => floor.iter_mut().for_each(|byte| *byte = dice.byte()),
+                _ => {}
+            }
+            let text = written(width, height, &floor);
+            let mut read_back = vec![9; floor.len() + 1];
+            assert_eq!(read(&text, &mut read_back), Ok((width, height)));
+            let expected: Vec<u8> = floor.iter().map(|&byte| if byte > 2 { 1 } else { byte }).collect();
+            assert_eq!((&read_back[..floor.len()], read_back[floor.len()]), (&expected[..], 9));
+
+            let mut exact = vec![9; text.len()];
+            assert_eq!(write(width as u64, height as u64, &floor, &mut exact), Ok(text.len()));
+            assert_eq!(exact, text);
+            let mut short = vec![9; text.len() - 1];
+            assert_eq!(write(width as u64, height as u64, &floor, &mut short), Err(Refusal::plain(17)));
+            assert!(short.iter().all(|&byte| byte == 9));
+        }
+    }
+
+    /// A text of `.`, `S` and `@` alone, read and written again, is that text.
+    #[test]
+    fn a_plain_text_is_written_again() {
+        for seed in 0..500u64 {
+            let mut dice = Dice::new(seed);
+            let (width, height) = floors::larger_sizes(&mut dice);
+            let mut text = format!("type octile\nheight {height}\nwidth {width}\nmap\n").into_bytes();
+            for _ in 0..height {
+                text.extend((0..width).map(|_| dice.pick(b"..S@")));
+                text.push(b'\n');
+            }
+            let mut floor = vec![9; width * height];
+            assert_eq!(read(&text, &mut floor), Ok((width, height)));
+            assert_eq!(written(width, height, &floor), text);
+        }
+    }
 }

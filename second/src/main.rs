@@ -18,7 +18,7 @@ const USAGE: &str = "usage:
   second time run KIND WIDTH HEIGHT SEED TRIALS DEPTH [P Q QUOTA] [--as-aisle | --as-calls]
   second time open KIND WIDTH HEIGHT SEED
   second time aisle FILE..
-KIND is open, racks, rooms, maze, snake, walls or random.";
+KIND is open, racks, rooms, maze, snake, walls, posts, random or lanes.";
 
 fn main() -> ExitCode {
     let arguments: Vec<String> = std::env::args().skip(1).collect();

@@ -1,7 +1,7 @@
 //! Opening a job: the opening figures, the true distances, and the checks 1 to 7.
 
 use crate::checks::{self, Job};
-use crate::floor::{Floor, MOVE_COST};
+use crate::floor::Floor;
 use crate::refusal::Refusal;
 
 /// The distance of a cell from which no walk leads to the goal.
@@ -37,15 +37,24 @@ pub fn opening_table(
 
 /// The true distance of every cell, by Dijkstra from the goal; `NO_WAY` where there is none.
 pub fn distances(floor: &Floor, goal: usize) -> Vec<u32> {
+    if floor.has_slow() {
+        distances_by::<true>(floor, goal)
+    } else {
+        distances_by::<false>(floor, goal)
+    }
+}
+
+fn distances_by<const HAS_SLOW: bool>(floor: &Floor, goal: usize) -> Vec<u32> {
     let mut distance = vec![NO_WAY; floor.cells()];
-    // A move costs at most 14, so all waiting cells lie within 14 of the cost in hand and 16 buckets used in turn do.
+    // Every move costs an even number and at most 28, so all waiting cells lie within 14 steps of two from the cost in
+    // hand, and 16 buckets used in turn do.
     let mut buckets: [Vec<u16>; 16] = Default::default();
     let mut waiting = 1usize;
     let mut cost = 0u32;
     distance[goal] = 0;
     buckets[0].push(goal as u16);
     while waiting > 0 {
-        let bucket = cost as usize % 16;
+        let bucket = cost as usize / 2 % 16;
         let mut cells = std::mem::take(&mut buckets[bucket]);
         waiting -= cells.len();
         for x in cells.drain(..) {
@@ -53,22 +62,23 @@ pub fn distances(floor: &Floor, goal: usize) -> Vec<u32> {
             if distance[x] != cost {
                 continue; // it was reached more cheaply since it was put here
             }
+            let prices = floor.prices::<HAS_SLOW>(x);
             let mut exits = floor.exits(x);
             while exits != 0 {
                 let way = exits.trailing_zeros() as usize;
                 exits &= exits - 1;
                 // Moves between free cells go both ways at one cost, so walking from the goal measures walks to it.
                 let y = floor.after(x, way);
-                let new = cost + MOVE_COST[way];
+                let new = cost + prices[way & 7];
                 if new < distance[y] {
                     distance[y] = new;
-                    buckets[new as usize % 16].push(y as u16);
+                    buckets[new as usize / 2 % 16].push(y as u16);
                     waiting += 1;
                 }
             }
         }
         buckets[bucket] = cells; // handed back for its room
-        cost += 1;
+        cost += 2;
     }
     distance
 }
@@ -132,4 +142,61 @@ pub fn open_with(
 /// The public call that opens a job. It takes no lists but floor and table.
 pub fn open(job: &Job, start: u64, table: &[u32]) -> Result<Opened, Refusal> {
     open_with(job, start, table, |_| true, None)
+}
+
+#[cfg(test)]
+mod tests {
+    use super::*;
+    use crate::floor::is_free_byte;
+    use crate::lookahead::tests::plain_move;
+    use crate::make::dice::Dice;
+    use crate::make::{floors, slow};
+
+    /// True distances by the papers' words, lowered move by move until none falls, on many small floors, half of them with slow cells.
+    #[test]
+    fn distances_are_the_ones_of_the_papers() {
+        let (mut tried, mut doubled) = (0, 0);
+        for seed in 0..600u64 {
+            let mut dice = Dice::new(seed);
+            let (width, height) = (dice.from_to(1, 10) as usize, dice.from_to(1, 10) as usize);
+            let mut bytes = floors::floor(floors::kind(&mut dice), width, height, &mut dice);
+            if seed % 2 == 0 {
+                slow::lay(&mut bytes, width, &mut dice);
+            }
+            let cells = bytes.len();
+            let goal = dice.index(cells);
+            if !is_free_byte(bytes[goal]) {
+                continue;
+            }
+            let pairs: Vec<(usize, usize, u32)> = (0..cells * cells)
+                .filter_map(|pair| {
+                    let (x, y) = (pair / cells, pair % cells);
+                    Some((x, y, plain_move(width, &bytes, x, y)?.1))
+                })
+                .collect();
+            let mut plain = vec![NO_WAY; cells];
+            plain[goal] = 0;
+            let mut falls = true;
+            while falls {
+                falls = false;
+                for &(x, y, cost) in &pairs {
+                    let over = plain[y].saturating_add(cost);
+                    falls |= over < plain[x];
+                    plain[x] = plain[x].min(over);
+                }
+            }
+            let floor = Floor::new(width, height, &bytes);
+            assert_eq!(distances(&floor, goal), plain);
+            assert!(pairs.iter().all(|&(x, y, cost)| {
+                (0..8).any(|way| {
+                    floor.exits(x) & (1 << way) != 0
+                        && floor.after(x, way) == y
+                        && floor.price(x, way) == cost
+                })
+            }));
+            tried += 1;
+            doubled += usize::from(pairs.iter().any(|&(_, _, cost)| cost >= 20));
+        }
+        assert!(tried > 300 && doubled > 150, "{tried} {doubled}");
+    }
 }

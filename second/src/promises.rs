@@ -2,10 +2,11 @@
 
 use crate::checks::Job;
 use crate::decision::{decide, Answer, State};
+use crate::floor::{is_free_byte, Floor, FREE, SLOW};
 use crate::lookahead::MOST_MOVES;
 use crate::make::dice::Dice;
 use crate::make::jobs::{self, Kit};
-use crate::opening;
+use crate::opening::{self, distances, NO_WAY};
 use crate::table_file;
 use crate::trial::{Cart, Counts};
 
@@ -39,6 +40,7 @@ pub fn check_job(kit: &Kit) -> Result<(), String> {
     let job = kit.job();
     let mut table = kit.table.clone();
     let mut path = vec![0u16; kit.cells()];
+    check_distances(kit)?;
     check_file(kit, &table)?;
     for _ in 0..kit.trials.min(20) {
         let Some(counts) = check_trial(kit, &job, &mut table, &mut path)? else { break };
@@ -81,7 +83,9 @@ fn check_trial(kit: &Kit, job: &Job, table: &mut [u32], path: &mut [u16]) -> Res
         };
         counts.decisions += 1;
         counts.learned += u64::from(rise);
-        counts.travel += moves[..count].iter().map(|way| if way % 2 == 0 { 10 } else { 14 }).sum::<u64>();
+        let (walked, cost) = walk(kit, current, &moves[..count]).ok_or("a move isn't allowed")?;
+        holds(walked as u64 == state.current, "the moves don't lead to where the cart then stands")?;
+        counts.travel += cost;
         all_moves.extend_from_slice(&moves[..count]);
         holds(u128::from(counts.decisions) < k * (r + 1), "too many decisions")?;
         holds(table[current] >= before[current], "a figure fell")?;
@@ -95,8 +99,7 @@ fn check_trial(kit: &Kit, job: &Job, table: &mut [u32], path: &mut [u16]) -> Res
     holds(table == whole_table, "a trial's table isn't that of its decisions")?;
     holds(path == whole_path, "a trial's path isn't that of its decisions")?;
     holds(all_moves == whole_moves, "a trial's moves aren't those of its decisions")?;
-    let walked = walk(kit, &all_moves).ok_or("a move isn't allowed")?;
-    holds(walked == kit.goal, "the moves don't lead to the goal")?;
+    holds(state.current == kit.goal as u64, "the moves don't lead to the goal")?;
 
     let distance = u64::from(kit.distance[kit.start]);
     holds(kit.p * counts.kept <= kit.q * (distance + kit.quota), "the kept way costs too much")?;
@@ -108,18 +111,37 @@ fn check_trial(kit: &Kit, job: &Job, table: &mut [u32], path: &mut [u16]) -> Res
     Ok(Some(counts))
 }
 
-/// Where the moves lead from the start; none when one isn't allowed.
-fn walk(kit: &Kit, moves: &[u8]) -> Option<usize> {
-    let (mut x, mut y) = ((kit.start % kit.width) as i64, (kit.start / kit.width) as i64);
-    for way in moves {
-        x += [0, 1, 1, 1, 0, -1, -1, -1][usize::from(*way)];
-        y += [-1, -1, 0, 1, 1, 1, 0, -1][usize::from(*way)];
+/// Where the moves lead from a cell and what they cost, found plainly by columns and rows; none when one isn't allowed.
+fn walk(kit: &Kit, from: usize, moves: &[u8]) -> Option<(usize, u64)> {
+    let byte = |x: i64, y: i64| {
         let on_floor = x >= 0 && y >= 0 && x < kit.width as i64 && y < kit.height as i64;
-        if !on_floor || kit.floor[y as usize * kit.width + x as usize] != 0 {
-            return None;
+        on_floor.then(|| kit.floor[y as usize * kit.width + x as usize])
+    };
+    let (mut x, mut y) = ((from % kit.width) as i64, (from / kit.width) as i64);
+    let mut cost = 0;
+    for &way in moves {
+        let to_x = x + [0, 1, 1, 1, 0, -1, -1, -1][usize::from(way)];
+        let to_y = y + [-1, -1, 0, 1, 1, 1, 0, -1][usize::from(way)];
+        // Of a diagonal move the whole square is to be free, of a straight one these are its two ends.
+        for cell in [(x, y), (to_x, y), (x, to_y), (to_x, to_y)] {
+            byte(cell.0, cell.1).filter(|&byte| is_free_byte(byte))?;
         }
+        let slow = byte(x, y) == Some(SLOW) || byte(to_x, to_y) == Some(SLOW);
+        cost += if way % 2 == 0 { 10 } else { 14 } * if slow { 2 } else { 1 };
+        (x, y) = (to_x, to_y);
     }
-    Some(y as usize * kit.width + x as usize)
+    Some((y as usize * kit.width + x as usize, cost))
+}
+
+/// Slow cells close no way; they make a distance no less, and at most twice, what it is with them as ordinary free cells.
+fn check_distances(kit: &Kit) -> Result<(), String> {
+    let ordinary: Vec<u8> = kit.floor.iter().map(|&byte| if byte == SLOW { FREE } else { byte }).collect();
+    let ordinary = distances(&Floor::new(kit.width, kit.height, &ordinary), kit.goal);
+    let fits = |(&slow, &plain): (&u32, &u32)| match plain {
+        NO_WAY => slow == NO_WAY,
+        _ => (plain..=2 * plain).contains(&slow),
+    };
+    holds(kit.distance.iter().zip(&ordinary).all(fits), "slow cells change a distance too much")
 }
 
 /// A table that can be written reads back the same and writes the same bytes again, also behind older material.

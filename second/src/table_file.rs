@@ -2,6 +2,7 @@
 
 use crate::checks;
 use crate::checks::CEILING;
+use crate::floor::is_free_byte;
 use crate::opening::opening_figure;
 use crate::refusal::Refusal;
 
@@ -58,10 +59,16 @@ fn record(bytes: &[u8]) -> (usize, u32) {
 }
 
 /// The first fault of a record, in the order of document 02. `byte` is the floor's at its cell, if the cell is on the floor.
-fn record_fault(byte: Option<&u8>, before: Option<usize>, cell: usize, figure: u32, opening: u32) -> Option<u8> {
+fn record_fault(
+    byte: Option<&u8>,
+    before: Option<usize>,
+    cell: usize,
+    figure: u32,
+    opening: u32,
+) -> Option<u8> {
     match byte {
         None => Some(18),
-        Some(&byte) if byte != 0 => Some(19),
+        Some(&byte) if !is_free_byte(byte) => Some(19),
         Some(_) if before.is_some_and(|before| cell <= before) => Some(20),
         Some(_) if figure <= opening => Some(21),
         Some(_) if figure > CEILING => Some(22),
@@ -120,7 +127,7 @@ pub fn write(
     let opening = |cell: usize| opening_figure(width as usize, cell, goal, q as u32);
     let mut count = 0usize;
     for (cell, &figure) in table.iter().enumerate() {
-        let blocked = floor[cell] != 0;
+        let blocked = !is_free_byte(floor[cell]);
         if figure < opening(cell) || (blocked && figure != opening(cell)) {
             return Err(Refusal::at_cell(16, cell));
         }

@@ -1,7 +1,7 @@
 //! Timing for the benches: decisions per second of this program's `run` and `aisle`, and the time of an opening.
 
 use crate::aisle;
-use crate::floor::Floor;
+use crate::floor::{is_free_byte, Floor};
 use crate::make::dice::Dice;
 use crate::make::floors::{self, Kind};
 use crate::make::jobs::Kit;
@@ -18,7 +18,7 @@ impl Kit {
     pub fn timed(kind: Kind, width: usize, height: usize, seed: u64) -> Option<Kit> {
         let mut dice = Dice::new(seed);
         let floor = floors::floor(kind, width, height, &mut dice);
-        let free: Vec<usize> = (0..floor.len()).filter(|&cell| floor[cell] == 0).collect();
+        let free: Vec<usize> = (0..floor.len()).filter(|&cell| is_free_byte(floor[cell])).collect();
         let map = Floor::new(width, height, &floor);
         for _ in 0..100 {
             if free.is_empty() {

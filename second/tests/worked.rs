@@ -1,4 +1,5 @@
-//! Every case that document 01 works out, worked again with document 02's corners, tried on the library and on both programs.
+//! Every case that document 01 works out, worked again with document 02's corners and ceiling, and cases with slow cells,
+//! tried on the library and on both programs.
 
 use second::checks::Job;
 use second::decision::{decide, Answer, State};
@@ -6,7 +7,7 @@ use second::floor::Floor;
 use second::opening::{distances, open, opening_figure, opening_table};
 use second::refusal::{Halt, Refusal};
 use second::trial::{run, trial, Counts, Ran};
-use second::{aisle, calls, table_file};
+use second::{aisle, calls, floor_text, table_file};
 
 /// The floor `...`, `@@.`, `...`.
 const FLOOR: [u8; 9] = [0, 0, 0, 1, 1, 0, 0, 0, 0];
@@ -181,10 +182,161 @@ fn number_9_in_a_closed_pocket() {
 fn number_10_above_the_ceiling() {
     let job = Job { width: 4, height: 1, goal: 3, floor: &[0, 0, 1, 0], ..job(1, 1, 1, 0) };
     let mut state = State { current: 0, u: 0, length: 0 };
-    let (mut table, mut path, mut moves) = (vec![917_280, 917_280, 10, 0], vec![5; 4], vec![9; 288]);
+    let (mut table, mut path, mut moves) = (vec![1_834_560, 1_834_560, 10, 0], vec![5; 4], vec![9; 288]);
     let answer = decide(&job, &mut state, &mut table, &mut path, &mut moves, 0);
     assert_eq!(answer, Answer::Refused(Refusal::plain(10)));
-    assert_eq!(table, [917_280, 917_280, 10, 0]);
+    assert_eq!(table, [1_834_560, 1_834_560, 10, 0]);
+    // Ten less is met, one more is passed.
+    table = vec![1_834_550, 1_834_550, 10, 0];
+    let answer = decide(&job, &mut state, &mut table, &mut path, &mut moves, 0);
+    assert_eq!((answer, table[0]), (Answer::Stayed { rise: 10 }, 1_834_560));
+    table = vec![1_834_550, 1_834_551, 10, 0];
+    let answer = decide(&job, &mut state, &mut table, &mut path, &mut moves, 0);
+    assert_eq!(answer, Answer::Refused(Refusal::plain(10)));
+    table[1] = 1_834_561;
+    let answer = decide(&job, &mut state, &mut table, &mut path, &mut moves, 0);
+    assert_eq!(answer, Answer::Refused(Refusal::at_cell(5, 1)));
+}
+
+/// The bytes of a floor of rows.
+fn bytes(rows: &[&str]) -> Vec<u8> {
+    let byte = |letter: u8| match letter {
+        b'.' => 0,
+        b'S' => 2,
+        _ => 1,
+    };
+    rows.concat().bytes().map(byte).collect()
+}
+
+/// The least cost from start to goal on a floor of rows, as the opening finds it: met by a figure, and passed by one more.
+fn cost(rows: &[&str], start: u64, goal: u64) -> u32 {
+    let floor = bytes(rows);
+    let (width, height) = (rows[0].len() as u64, rows.len() as u64);
+    let distance = distances(&Floor::new(rows[0].len(), rows.len(), &floor), goal as usize)[start as usize];
+    let job = Job { width, height, goal, depth: 1, p: 1, q: 1, quota: 0, floor: &floor };
+    let mut table = vec![0; floor.len()];
+    table[start as usize] = distance;
+    assert!(open(&job, start, &table).is_ok());
+    table[start as usize] = distance + 1;
+    assert_eq!(open(&job, start, &table).err(), Some(Refusal::at_cell(7, start as usize)));
+    distance
+}
+
+/// The first decision on a floor of rows with its opening table: answer and moves.
+fn first_decision(rows: &[&str], start: u64, goal: u64, depth: u64) -> (Answer, Vec<u8>) {
+    let floor = bytes(rows);
+    let (width, height) = (rows[0].len() as u64, rows.len() as u64);
+    let job = Job { width, height, goal, depth, p: 1, q: 1, quota: 1_000, floor: &floor };
+    let mut state = State { current: start, u: 0, length: 0 };
+    let (mut table, mut path, mut moves) = (vec![0; floor.len()], vec![0; floor.len()], vec![9; 288]);
+    opening_table(width, height, goal, 1, &floor, &mut table).unwrap();
+    let answer = decide(&job, &mut state, &mut table, &mut path, &mut moves, 0);
+    let count = moves.iter().position(|&way| way == 9).unwrap();
+    (answer, moves[..count].to_vec())
+}
+
+#[test]
+fn a_move_that_begins_or_ends_in_a_slow_cell_costs_double() {
+    assert_eq!(
+        [cost(&[".."], 0, 1), cost(&["S."], 0, 1), cost(&[".S"], 0, 1), cost(&["SS"], 0, 1)],
+        [10, 20, 20, 20]
+    );
+    assert_eq!(cost(&["S.", "..", ".."], 0, 3), 28);
+    assert_eq!(cost(&["..", ".S", ".."], 0, 3), 28);
+    assert_eq!(cost(&["S.", ".S", ".."], 0, 3), 28);
+    // Slow cells beside a diagonal don't count; a blocked one closes it.
+    assert_eq!(cost(&[".S", "S."], 0, 3), 14);
+    assert_eq!(cost(&[".@", "S."], 0, 3), 40);
+}
+
+#[test]
+fn round_a_slow_cell_through_it_and_along_it() {
+    assert_eq!(cost(&["...", ".S."], 3, 5), 28);
+    assert_eq!(
+        first_decision(&["...", ".S."], 3, 5, 2),
+        (Answer::Forward { target: 5, rise: 8, moves: 2 }, vec![1, 3])
+    );
+    assert_eq!(cost(&["@@@", ".S."], 3, 5), 40);
+    assert_eq!(
+        first_decision(&["@@@", ".S."], 3, 5, 2),
+        (Answer::Forward { target: 5, rise: 20, moves: 2 }, vec![2, 2])
+    );
+    assert_eq!(cost(&["SSSS"], 0, 3), 60);
+    // Leaving a lane and coming back costs 28 each time: for three moves it doesn't pay (60 and 66), for four it does.
+    assert_eq!(cost(&["....", "SSSS"], 4, 7), 60);
+    assert_eq!(cost(&[".....", "SSSSS"], 5, 9), 76);
+    assert_eq!(cost(&["S...S"], 0, 4), 60);
+}
+
+#[test]
+fn a_longer_walk_round_slow_cells() {
+    // Three moves through cost 60, five round cost 58; five and 100, nine and 98; eight diagonal ones 224, fifteen 154.
+    assert_eq!(cost(&["....", ".SS.", ".SS."], 8, 11), 58);
+    let rows = [".SSSS.", ".SSSS.", ".SSSS.", "......"];
+    assert_eq!(cost(&rows, 0, 5), 98);
+    let (answer, moves) = first_decision(&rows, 0, 5, 5);
+    assert_eq!(answer, Answer::Forward { target: 5, rise: 48, moves: 9 });
+    assert_eq!(moves, [4, 4, 3, 2, 2, 2, 1, 0, 0]);
+    let mut rows = vec!["SSSSSSSS."; 9];
+    rows[0] = ".........";
+    assert_eq!(cost(&rows, 0, 80), 154);
+}
+
+#[test]
+fn walks_of_one_cost_with_more_moves_and_fewer() {
+    // Document 01's rule asks for the lowest cell each time, not for the fewest moves.
+    let (answer, moves) = first_decision(&["...", ".SS", "..S"], 8, 1, 2);
+    assert_eq!(answer, Answer::Forward { target: 1, rise: 24, moves: 3 });
+    assert_eq!(moves, [6, 7, 1]);
+}
+
+#[test]
+fn bytes_above_2_are_blocked() {
+    for (byte, refusal) in [(0, None), (1, Some(6)), (2, None), (3, Some(6)), (255, Some(6))] {
+        let floor = [0, byte, 0];
+        let job = Job { width: 3, height: 1, goal: 2, floor: &floor, ..job(1, 1, 1, 0) };
+        assert_eq!(open(&job, 0, &[0, 0, 0]).err(), refusal.map(Refusal::plain));
+        assert_eq!(open(&job, 1, &[0, 0, 0]).err(), refusal.map(|_| Refusal::plain(4)));
+    }
+}
+
+#[test]
+fn records_of_slow_cells_and_the_ceiling() {
+    let floor = [0, 2, 3, 2];
+    let table = [0, 1_834_560, 20, 31];
+    let mut file = [0; 28];
+    assert_eq!(table_file::write(4, 1, 0, 1, &floor, &table, &mut file), Ok(28));
+    let mut again = [7; 4];
+    assert_eq!(table_file::read(4, 1, 0, 1, &floor, &file, &mut again), Ok(()));
+    assert_eq!(again, table);
+    let mut high = file;
+    high[5] += 1;
+    let refusal = table_file::read(4, 1, 0, 1, &floor, &high, &mut again);
+    assert_eq!(refusal, Err(Refusal::at_record(22, 0)));
+    let refusal = table_file::read(4, 1, 0, 1, &[0, 2, 2, 3], &file, &mut again);
+    assert_eq!(refusal, Err(Refusal::at_record(19, 1)));
+}
+
+#[test]
+fn a_floor_text_is_written() {
+    let text = b"type octile\nheight 2\nwidth 4\nmap\n.@S@\n@S..\n";
+    let floor = [0, 1, 2, 3, 255, 2, 0, 0];
+    let mut buffer = [7; 50];
+    assert_eq!(floor_text::write(4, 2, &floor, &mut buffer), Ok(text.len()));
+    assert_eq!(buffer[..text.len()], *text);
+    assert!(buffer[text.len()..].iter().all(|&byte| byte == 7));
+    let mut read = [9; 9];
+    assert_eq!(floor_text::read(text, &mut read), Ok((4, 2)));
+    assert_eq!(read, [0, 1, 2, 1, 1, 2, 0, 0, 9]);
+
+    let mut short = [7; 42];
+    assert_eq!(text.len(), 43);
+    assert_eq!(floor_text::write(4, 2, &floor, &mut short), Err(Refusal::plain(17)));
+    assert_eq!(short, [7; 42]);
+    for (width, height) in [(0, 2), (4, 0), (65, 2), (4, 65), (4, 3), (2, 2), (1 << 32, 2)] {
+        assert_eq!(floor_text::write(width, height, &floor, &mut short), Err(Refusal::plain(1)));
+    }
+    assert_eq!(floor_text::write(4, 2, &floor[1..], &mut []), Err(Refusal::plain(1)));
 }
 
 #[test]
@@ -244,7 +396,11 @@ fn the_program_aisle() {
     assert_eq!(aisle::answer(b"6 0"), b"refused 3\n");
     assert_eq!(aisle::answer(b"6 0\n"), b"refused 11\n");
     assert_eq!(aisle::answer(format!("6 3\n{TEXT}x").as_bytes()), b"refused 12 8\n");
-    assert_eq!(aisle::answer(format!("6 3\n{}", TEXT.replace("@@.", "@S.")).as_bytes()), b"refused 12 6\n");
+    assert_eq!(aisle::answer(format!("6 3\n{}", TEXT.replace("@@.", "@W.")).as_bytes()), b"refused 12 6\n");
+    assert_eq!(aisle::answer(format!("6 3\n{}", TEXT.replace("@@.", "@S.")).as_bytes()), b"refused 4\n");
+    // Through the slow cell 4 by 10, 20, 20 and 10, since the walls beside it close the diagonals.
+    let through = aisle::answer(format!("6 0 8 1 1 1000000 2\n{}", TEXT.replace("@@.", "@S@")).as_bytes());
+    assert_eq!(String::from_utf8(through).unwrap(), "2006 1 40 60 60\n2006 1 0 60 60\nsettled 2\n");
 }
 
 fn call(input: &str) -> String {
@@ -266,11 +422,19 @@ fn the_program_calls() {
     let decided = call(&format!("2 3 3 6 0 0 0 2 1 1 1000 0 {floor} {table} 9 8 8 8 8 8 8 8 8 8 288{nines}"));
     let after = "9 0 10 20 10 14 24 48 24 28 9 6 8 8 8 8 8 8 8 8 288 2 2";
     assert_eq!(decided, format!("1 0 0 0 8 28 2 8 28 1 {after}{}\n", " 9".repeat(286)));
+    let text = "116 121 112 101 32 111 99 116 105 108 101 10 104 101 105 103 104 116 32 49 10 119 105 100 116 104 32 51 10 109 97 112 10 46 83 64 10";
+    assert_eq!(call(&format!("11 3 1 3 0 2 3 38{}", " 7".repeat(38))), format!("0 0 0 37 38 {text} 7\n"));
+    assert_eq!(
+        call(&format!("11 3 1 3 0 2 3 36{}", " 7".repeat(36))),
+        format!("17 0 0 0 36{}\n", " 7".repeat(36))
+    );
+    assert_eq!(call("11 3 1 2 0 2 2 7 7"), "1 0 0 0 2 7 7\n");
+    assert_eq!(call(&format!("5 37 {text} 4 9 9 9 9")), "0 0 0 3 1 4 0 2 1 9\n");
     assert_eq!(call("8 16 3 3 0 0 1 1 0 0 0 0 0 16 80 68 76 84"), "0\n");
     assert_eq!(call("9 16 3 3 0 0 1 1 0 0 0 0 0 16 80 68 76 84"), "0 0 0\n");
     assert_eq!(call("9 15 3 0 0 1 1 0 0 0 0 0 16 80 68 76 84"), "13 0 0\n");
     for malformed in
-        ["", "\n", "0", "11", "8", "8 1", "8 1 256", "8 0 0", "8\t0", "8 -0", "8 4294967296", "9 32769"]
+        ["", "\n", "0", "11", "12", "8", "8 1", "8 1 256", "8 0 0", "8\t0", "8 -0", "8 4294967296", "9 32769"]
     {
         assert_eq!(call(malformed), "malformed\n");
     }

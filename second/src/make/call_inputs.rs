@@ -5,6 +5,7 @@ use super::drafts::{Draft, List, Scalar};
 use super::files;
 use super::floors;
 use super::jobs::{self, Kit, TableKind};
+use super::slow;
 use super::states;
 use super::texts;
 use super::winding;
@@ -12,7 +13,7 @@ use crate::calls::{BYTE_ROOM, CELL_ROOM, MOST_INPUT, MOVE_ROOM, REPORT_ROOM};
 use crate::lookahead::MOST_MOVES;
 
 pub fn input(dice: &mut Dice) -> Vec<u8> {
-    let call = 1 + dice.weighted(&[9, 40, 11, 12, 8, 7, 9, 2, 3, 2]) as u64;
+    let call = 1 + dice.weighted(&[9, 40, 11, 12, 8, 7, 9, 2, 3, 2, 5]) as u64;
     let long = match call {
         2 => dice.chance(50),
         3 | 4 => dice.chance(70),
@@ -28,7 +29,8 @@ pub fn input(dice: &mut Dice) -> Vec<u8> {
         6 => write_table_file(&mut kit, dice),
         7 => read_table_file(&kit, dice),
         8 | 9 => records_or_trailer(&kit, call, dice),
-        _ => opening_table(&kit, dice),
+        10 => opening_table(&kit, dice),
+        _ => write_floor_text(&mut kit, dice),
     };
     // Several faults at once show the order in which they are judged.
     let weights = if long { [80, 12, 5, 3] } else { [55, 27, 11, 7] };
@@ -113,7 +115,7 @@ fn malformed(draft: &Draft, mut words: Vec<String>, dice: &mut Dice) -> Vec<u8> 
             let (room, width) = match name {
                 List::Moves => (MOVE_ROOM, 1),
                 List::Reports => (REPORT_ROOM, 4),
-                List::Text | List::File | List::FileBuffer => (BYTE_ROOM, 1),
+                List::Text | List::File | List::FileBuffer | List::TextBuffer => (BYTE_ROOM, 1),
                 // CALLS.md doesn't say how much room this buffer has, only that it's bytes: too long by any reading.
                 List::FloorBuffer => (BYTE_ROOM + 1, 1),
                 List::Floor | List::Table | List::Path => (CELL_ROOM, 1),
@@ -125,7 +127,7 @@ fn malformed(draft: &Draft, mut words: Vec<String>, dice: &mut Dice) -> Vec<u8> 
             words[lengths[which]] = (new / width).to_string();
         }
         9 => words[length_at] = "4294967295".into(),
-        10 => words[0] = dice.pick(&["0", "11", "4294967295", "256", "257", "x"]).into(),
+        10 => words[0] = dice.pick(&["0", "12", "4294967295", "256", "267", "x"]).into(),
         11 => {
             return dice
                 .pick::<&[u8]>(&[b"", b" ", b"\n", b"\n\n", b"7", b"malformed\n", b"8 0", b"9 0\n"])
@@ -297,9 +299,31 @@ fn opening_table(kit: &Kit, dice: &mut Dice) -> Draft {
     Draft { call: 10, scalars: table_call_scalars(kit), lists: vec![floor_list(kit), (List::Table, table)] }
 }
 
+fn write_floor_text(kit: &mut Kit, dice: &mut Dice) -> Draft {
+    // Sometimes any bytes at all: this call asks for no free cell.
+    if dice.chance(40) {
+        let any = dice.byte();
+        let bytes = [0, 1, 2, 3, 4, 254, 255, any];
+        kit.floor.iter_mut().for_each(|byte| *byte = dice.pick(&bytes));
+    }
+    let enough = texts::length(kit.width, kit.height);
+    let mut length = match dice.below(8) {
+        0 => enough - 1,
+        1..=4 => enough + dice.index(65),
+        _ => enough,
+    };
+    if dice.chance(8) {
+        // Wrong sizes and no room at once: which is told?
+        kit.floor.push(0);
+        length = dice.pick(&[0, 10, enough - 1]);
+    }
+    let scalars = vec![(Scalar::Width, kit.width as u64), (Scalar::Height, kit.height as u64)];
+    Draft { call: 11, scalars, lists: vec![floor_list(kit), (List::TextBuffer, junk(length, 256, dice))] }
+}
+
 fn decision(kit: &mut Kit, dice: &mut Dice) -> Draft {
     let mut path: Vec<u16> = path_list(kit, dice).iter().map(|&entry| entry as u16).collect();
-    let state = match dice.weighted(&[58, 15, 5, 7, 15]) {
+    let state = match dice.weighted(&[58, 15, 5, 7, 19]) {
         0 => states::middle_of_a_trial(kit, &mut path, dice),
         1 => states::made_up_state(kit, &mut path, dice),
         2 => {
@@ -309,7 +333,8 @@ fn decision(kit: &mut Kit, dice: &mut Dice) -> Draft {
         3 => {
             // Pockets closed in on all sides, and a lookahead deeper than they are.
             let (width, height) = floors::sizes(dice);
-            let floor = (0..width * height).map(|_| u8::from(dice.chance(60))).collect();
+            let mut floor: Vec<u8> = (0..width * height).map(|_| u8::from(dice.chance(60))).collect();
+            slow::now_and_then(&mut floor, width, dice);
             *kit = jobs::kit_on(floor, width, height, dice);
             kit.depth = dice.from_to(1, 8);
             path = path_list(kit, dice).iter().map(|&entry| entry as u16).collect();

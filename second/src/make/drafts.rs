@@ -39,6 +39,8 @@ pub enum List {
     FloorBuffer,
     /// The buffer that a table file is written into.
     FileBuffer,
+    /// The buffer that a floor text is written into.
+    TextBuffer,
 }
 
 pub struct Draft {
@@ -159,11 +161,15 @@ impl Draft {
             List::Floor => match dice.below(6) {
                 0 => one_off(&mut entries, CELL_ROOM, dice),
                 1 => set_cell(&mut entries, self.get(Scalar::Goal), 1),
-                2 => set_cell(&mut entries, self.get(Scalar::Start), 255),
-                3 => set_cell(&mut entries, self.get(Scalar::Current), 2),
-                _ => {
+                2 => set_cell(&mut entries, self.get(Scalar::Start), dice.pick(&[2, 3, 255])),
+                3 => set_cell(&mut entries, self.get(Scalar::Current), dice.pick(&[2, 3, 255])),
+                4 => {
                     let cell = dice.below(entries.len() as u64);
                     set_cell(&mut entries, cell, u64::from(kit.floor.get(cell as usize) == Some(&0)));
+                }
+                _ => {
+                    let cell = dice.below(entries.len() as u64);
+                    set_cell(&mut entries, cell, dice.pick(&[0, 1, 2, 2, 3, 254, 255]));
                 }
             },
             List::Table if dice.chance(20) => one_off(&mut entries, CELL_ROOM, dice),
@@ -179,6 +185,7 @@ impl Draft {
                     opening.saturating_sub(1),
                     opening + 1,
                     ceiling,
+                    ceiling / 2 + 1,
                     ceiling + 1,
                     LARGEST,
                 ];
@@ -227,6 +234,10 @@ impl Draft {
                 let enough = 16 + 6 * records;
                 let length = dice.pick(&[enough, enough - 1, enough - 1, 0, 15, enough - 16]);
                 entries.resize(length.min(BYTE_ROOM), 9);
+            }
+            List::TextBuffer => {
+                let enough = texts::length(kit.width, kit.height);
+                entries.resize(dice.pick(&[enough, enough - 1, enough - 1, 0, kit.cells(), enough + 1]), 9);
             }
         }
         entries

@@ -3,6 +3,7 @@
 use super::dice::Dice;
 use super::jobs::Kit;
 use crate::checks::CEILING;
+use crate::floor::is_free_byte;
 
 /// A file by its parts, so that each can be made faulty by itself.
 pub struct Draft {
@@ -139,7 +140,7 @@ impl Draft {
             1 => self.add_blocked(kit, dice),
             2 => {
                 let random = dice.roll() as u32;
-                self.records[at].1 = dice.pick(&[CEILING, random]);
+                self.records[at].1 = dice.pick(&[CEILING, CEILING / 2 + 1, random]);
             }
             3..=6 => self.give_fault(kit, at, dice.from_to(18, 22), dice),
             _ => {
@@ -182,7 +183,8 @@ impl Draft {
             20 => match before {
                 Some(before) => {
                     // A blocked cell stays blocked where one lies low enough, so that it has both faults.
-                    let is_blocked = |low: u16| kit.floor.get(usize::from(low)).is_some_and(|&byte| byte != 0);
+                    let is_blocked =
+                        |low: u16| kit.floor.get(usize::from(low)).is_some_and(|&byte| !is_free_byte(byte));
                     let kept = is_blocked(*cell);
                     let low: Vec<u16> = (0..=before).filter(|&low| is_blocked(low) == kept).collect();
                     *cell = if low.is_empty() { before } else { dice.pick(&low) };

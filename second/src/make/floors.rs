@@ -1,6 +1,8 @@
-//! Floors of every kind: open, racks and aisles, rooms with doors, mazes, snakes, short walls, posts, and random ones.
+//! Floors of every kind: open, racks and aisles, rooms with doors, mazes, snakes, short walls, posts, random ones, and
+//! racks with charging lanes. Of these only the last has slow cells; `slow` lays them on any.
 
 use super::dice::Dice;
+use crate::floor::{BLOCKED, FREE, SLOW};
 
 #[derive(Clone, Copy, Debug, PartialEq, Eq)]
 pub enum Kind {
@@ -12,9 +14,10 @@ pub enum Kind {
     Walls,
     Posts,
     Random,
+    Lanes,
 }
 
-pub const KINDS: [(&str, Kind); 8] = [
+pub const KINDS: [(&str, Kind); 9] = [
     ("open", Kind::Open),
     ("racks", Kind::Racks),
     ("rooms", Kind::Rooms),
@@ -23,36 +26,45 @@ pub const KINDS: [(&str, Kind); 8] = [
     ("walls", Kind::Walls),
     ("posts", Kind::Posts),
     ("random", Kind::Random),
+    ("lanes", Kind::Lanes),
 ];
 
-/// A grid while it is made: true is blocked.
+/// A grid while it is made: its bytes are free, blocked or slow.
 struct Grid {
     width: usize,
     height: usize,
-    blocked: Vec<bool>,
+    bytes: Vec<u8>,
 }
 
 impl Grid {
     fn filled(width: usize, height: usize, blocked: bool) -> Grid {
-        Grid { width, height, blocked: vec![blocked; width * height] }
+        Grid { width, height, bytes: vec![free_or_blocked(blocked); width * height] }
     }
 
     fn set(&mut self, x: usize, y: usize, blocked: bool) {
-        self.blocked[y * self.width + x] = blocked;
+        self.bytes[y * self.width + x] = free_or_blocked(blocked);
     }
 
     fn is_blocked(&self, x: usize, y: usize) -> bool {
-        self.blocked[y * self.width + x]
+        self.bytes[y * self.width + x] == BLOCKED
     }
 
     fn turned(self) -> Grid {
         let mut grid = Grid::filled(self.height, self.width, false);
         for y in 0..self.height {
             for x in 0..self.width {
-                grid.set(y, x, self.is_blocked(x, y));
+                grid.bytes[x * self.height + y] = self.bytes[y * self.width + x];
             }
         }
         grid
+    }
+}
+
+fn free_or_blocked(blocked: bool) -> u8 {
+    if blocked {
+        BLOCKED
+    } else {
+        FREE
     }
 }
 
@@ -81,10 +93,10 @@ fn sizes_by(weights: [u64; 5], dice: &mut Dice) -> (usize, usize) {
 }
 
 pub fn kind(dice: &mut Dice) -> Kind {
-    KINDS[dice.weighted(&[10, 14, 12, 12, 10, 9, 9, 24])].1
+    KINDS[dice.weighted(&[10, 14, 12, 12, 10, 9, 9, 24, 5])].1
 }
 
-/// The bytes of a floor. A blocked byte is mostly 1, sometimes anything but 0.
+/// The bytes of a floor. A blocked byte is mostly 1, sometimes anything but 0 and 2, often 3 or 255.
 pub fn floor(kind: Kind, width: usize, height: usize, dice: &mut Dice) -> Vec<u8> {
     let mut grid = if kind != Kind::Open && dice.chance(40) {
         grid(kind, height, width, dice).turned()
@@ -92,18 +104,19 @@ pub fn floor(kind: Kind, width: usize, height: usize, dice: &mut Dice) -> Vec<u8
         grid(kind, width, height, dice)
     };
     if dice.chance(8) {
-        let cell = dice.index(grid.blocked.len());
-        grid.blocked[cell] = !grid.blocked[cell];
+        let cell = dice.index(grid.bytes.len());
+        grid.bytes[cell] = free_or_blocked(grid.bytes[cell] != BLOCKED);
     }
-    let odd_bytes = dice.chance(20);
-    grid.blocked
-        .iter()
-        .map(|&blocked| match (blocked, odd_bytes) {
-            (false, _) => 0,
-            (true, false) => 1,
-            (true, true) => dice.from_to(1, 255) as u8,
-        })
-        .collect()
+    if dice.chance(20) {
+        for byte in grid.bytes.iter_mut().filter(|byte| **byte == BLOCKED) {
+            *byte = match dice.from_to(1, 255) as u8 {
+                2..=63 => 3,
+                192..=255 => 255,
+                any => any,
+            };
+        }
+    }
+    grid.bytes
 }
 
 fn grid(kind: Kind, width: usize, height: usize, dice: &mut Dice) -> Grid {
@@ -116,12 +129,27 @@ fn grid(kind: Kind, width: usize, height: usize, dice: &mut Dice) -> Grid {
         Kind::Walls => walls(width, height, dice),
         Kind::Posts => posts(width, height, dice),
         Kind::Random => random(width, height, dice),
+        Kind::Lanes => lanes(width, height, dice),
     }
 }
 
-/// An aisle row, then rows of racks, which only the cross aisles interrupt.
 fn racks(width: usize, height: usize, dice: &mut Dice) -> Grid {
     let pitch = dice.from_to(2, 4) as usize;
+    racks_by(pitch, width, height, dice)
+}
+
+/// Racks with every other aisle a charging lane.
+fn lanes(width: usize, height: usize, dice: &mut Dice) -> Grid {
+    let pitch = dice.from_to(2, 4) as usize;
+    let mut grid = racks_by(pitch, width, height, dice);
+    for y in (0..height).step_by(2 * pitch) {
+        grid.bytes[y * width..][..width].fill(SLOW);
+    }
+    grid
+}
+
+/// An aisle row, then rows of racks, which only the cross aisles interrupt; the next aisle is `pitch` rows on.
+fn racks_by(pitch: usize, width: usize, height: usize, dice: &mut Dice) -> Grid {
     let cross = dice.from_to(2, 10) as usize;
     let first_cross = dice.index(cross);
     let mut grid = Grid::filled(width, height, false);
@@ -231,8 +259,8 @@ fn posts(width: usize, height: usize, dice: &mut Dice) -> Grid {
 fn random(width: usize, height: usize, dice: &mut Dice) -> Grid {
     let percent = dice.from_to(0, 45);
     let mut grid = Grid::filled(width, height, false);
-    for blocked in &mut grid.blocked {
-        *blocked = dice.chance(percent);
+    for byte in &mut grid.bytes {
+        *byte = free_or_blocked(dice.chance(percent));
     }
     grid
 }

@@ -2,8 +2,9 @@
 
 use super::dice::Dice;
 use super::floors;
+use super::slow;
 use crate::checks::{Job, CEILING, MOST_QUOTA};
-use crate::floor::Floor;
+use crate::floor::{is_free_byte, Floor, SLOW};
 use crate::opening::{self, distances, NO_WAY};
 use crate::trial::Cart;
 
@@ -55,11 +56,21 @@ impl Kit {
     }
 
     pub fn free_cells(&self) -> Vec<usize> {
-        (0..self.cells()).filter(|&cell| self.floor[cell] == 0).collect()
+        (0..self.cells()).filter(|&cell| is_free_byte(self.floor[cell])).collect()
     }
 
     pub fn blocked_cells(&self) -> Vec<usize> {
-        (0..self.cells()).filter(|&cell| self.floor[cell] != 0).collect()
+        (0..self.cells()).filter(|&cell| !is_free_byte(self.floor[cell])).collect()
+    }
+
+    /// One of some cells; more often than by chance a slow one, where there is one.
+    fn often_slow(&self, cells: &[usize], dice: &mut Dice) -> usize {
+        let slow: Vec<usize> = cells.iter().copied().filter(|&cell| self.floor[cell] == SLOW).collect();
+        if !slow.is_empty() && dice.chance(30) {
+            dice.pick(&slow)
+        } else {
+            dice.pick(cells)
+        }
     }
 
     pub fn opening_figure(&self, cell: usize) -> u32 {
@@ -140,7 +151,7 @@ impl Kit {
         for _ in 0..dice.from_to(1, 2) {
             let cell = dice.index(self.cells());
             let random = dice.roll() as u32;
-            table[cell] = dice.pick(&[CEILING, CEILING + 1, CEILING + 1, u32::MAX, random]);
+            table[cell] = dice.pick(&[CEILING / 2 + 1, CEILING, CEILING + 1, CEILING + 1, u32::MAX, random]);
         }
         table
     }
@@ -148,7 +159,7 @@ impl Kit {
     fn table_near_ceiling(&self, dice: &mut Dice) -> Vec<u32> {
         if dice.chance(50) {
             // As far below the ceiling as one or two moves cost, so that a new figure may just meet it.
-            let below = self.p as u32 * dice.pick(&[10, 14, 20, 24, 28]);
+            let below = self.p as u32 * dice.pick(&[10, 14, 20, 24, 28, 40, 56]);
             let mut table = vec![CEILING - below + dice.pick(&[0, 0, 1]); self.cells()];
             table[self.start] -= dice.pick(&[0, 1, 100]);
             return table;
@@ -200,17 +211,21 @@ pub fn settings_quota(dice: &mut Dice) -> u64 {
 /// A job with start and goal free where the floor has free cells, and a table of any kind.
 pub fn kit(dice: &mut Dice) -> Kit {
     let (width, height) = floors::sizes(dice);
+    kit_on(any_floor(width, height, dice), width, height, dice)
+}
+
+/// A floor of any kind, with slow cells now and then.
+fn any_floor(width: usize, height: usize, dice: &mut Dice) -> Vec<u8> {
     let kind = floors::kind(dice);
-    let floor = floors::floor(kind, width, height, dice);
-    kit_on(floor, width, height, dice)
+    let mut floor = floors::floor(kind, width, height, dice);
+    slow::now_and_then(&mut floor, width, dice);
+    floor
 }
 
 /// A job whose trials take some decisions: a larger floor, a start far from the goal, mostly a short lookahead.
 pub fn long_kit(dice: &mut Dice) -> Kit {
     let (width, height) = floors::larger_sizes(dice);
-    let kind = floors::kind(dice);
-    let floor = floors::floor(kind, width, height, dice);
-    let mut kit = kit_on(floor, width, height, dice);
+    let mut kit = kit_on(any_floor(width, height, dice), width, height, dice);
     let far =
         (0..kit.cells()).filter(|&cell| kit.distance[cell] != NO_WAY).max_by_key(|&cell| kit.distance[cell]);
     if let Some(far) = far {
@@ -248,12 +263,12 @@ pub fn kit_on(floor: Vec<u8>, width: usize, height: usize, dice: &mut Dice) -> K
     if free.is_empty() {
         kit.distance = vec![NO_WAY; kit.cells()];
     } else {
-        kit.goal = dice.pick(&free);
+        kit.goal = kit.often_slow(&free, dice);
         kit.distance = distances(&Floor::new(width, height, &kit.floor), kit.goal);
         let (reached, cut_off): (Vec<usize>, Vec<usize>) =
             free.iter().partition(|&&cell| kit.distance[cell] != NO_WAY);
         let starts = if !cut_off.is_empty() && dice.chance(25) { cut_off } else { reached };
-        kit.start = dice.pick(&starts);
+        kit.start = kit.often_slow(&starts, dice);
     }
     let kinds = [
         TableKind::Opening,

@@ -8,6 +8,7 @@ pub mod drafts;
 pub mod files;
 pub mod floors;
 pub mod jobs;
+pub mod slow;
 pub mod states;
 pub mod texts;
 pub mod winding;

@@ -1,6 +1,7 @@
 //! Floor texts, good and spoiled: every fault of the header, of a row, and of what comes after.
 
 use super::dice::Dice;
+use crate::floor::{FREE, SLOW};
 
 /// A good floor text of a floor.
 pub fn text(floor: &[u8], width: usize, height: usize, dice: &mut Dice) -> Vec<u8> {
@@ -8,16 +9,22 @@ pub fn text(floor: &[u8], width: usize, height: usize, dice: &mut Dice) -> Vec<u
     let plain = dice.chance(60);
     for row in floor.chunks(width) {
         for &byte in row {
-            text.push(match (byte == 0, plain) {
-                (true, true) => b'.',
-                (false, true) => b'@',
-                (true, false) => dice.pick(b".G"),
-                (false, false) => dice.pick(b"@OT"),
+            text.push(match (byte, plain) {
+                (FREE, true) => b'.',
+                (FREE, false) => dice.pick(b".G"),
+                (SLOW, _) => b'S',
+                (_, true) => b'@',
+                (_, false) => dice.pick(b"@OT"),
             });
         }
         text.push(b'\n');
     }
     text
+}
+
+/// How long the text of a floor is.
+pub fn length(width: usize, height: usize) -> usize {
+    format!("type octile\nheight {height}\nwidth {width}\nmap\n").len() + height * (width + 1)
 }
 
 /// Spoils a floor text in one way; now and then it stays good.
@@ -140,7 +147,7 @@ fn spoil_row(lines: &mut Vec<Vec<u8>>, dice: &mut Dice) {
                     let letter = dice.index(row.len());
                     let any = dice.byte();
                     row[letter] = dice.pick(&[
-                        b'S', b'W', b'S', b'W', b'g', b'o', b't', b'#', b' ', b'0', 0, 255, b'\r', any,
+                        b'S', b'W', b's', b'W', b'g', b'o', b't', b'#', b' ', b'0', 0, 255, b'\r', any,
                     ]);
                 }
             }

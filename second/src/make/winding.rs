@@ -1,11 +1,12 @@
-//! Decisions with telling routes: windows where the cheapest walk needs more moves than the ring, or where ways tie.
+//! Decisions with telling routes: windows where the cheapest walk needs more moves than the ring, or where walks tie.
 
 use super::bends;
 use super::dice::Dice;
 use super::floors::{self, Kind};
 use super::jobs::{self, Kit, TableKind};
+use super::slow;
 use crate::decision::State;
-use crate::floor::{Floor, MOVE_COST};
+use crate::floor::Floor;
 use crate::lookahead::Window;
 use crate::opening::distances;
 
@@ -17,30 +18,33 @@ enum Wish {
     WestAndEast,
     /// The cell can be come to from several cells at one cost.
     Tie,
+    /// Cheapest walks to the cell differ in their number of moves, which takes slow cells.
+    MixedMoves,
 }
 
 /// A kit and a state whose next decision takes such a route, forward or back, if one is found in time.
 pub fn kit_and_state(dice: &mut Dice) -> (Kit, State, Option<u16>) {
-    if dice.chance(30) {
+    if dice.chance(45) {
         return bent(dice);
     }
-    let wish = dice.pick(&[Wish::MoreMoves, Wish::MoreMoves, Wish::WestAndEast, Wish::Tie]);
-    let mut kit = winding_kit(dice);
+    let wish = dice.pick(&[Wish::MoreMoves, Wish::MoreMoves, Wish::WestAndEast, Wish::Tie, Wish::MixedMoves]);
+    let mut kit = winding_kit(wish, dice);
     let mut window = Window::new();
     for tries in 0..400 {
         if tries % 8 == 7 {
-            kit = winding_kit(dice);
+            kit = winding_kit(wish, dice);
         }
         let from = dice.pick(&kit.free_cells());
         let floor = Floor::new(kit.width, kit.height, &kit.floor);
         if from == kit.goal || !window.look(&floor, from, kit.goal, kit.depth as usize) {
             continue;
         }
+        let mixed = if wish == Wish::MixedMoves { mixed_moves(&floor, &window) } else { Vec::new() };
         let targets: Vec<usize> = window
             .cells()
             .iter()
             .map(|&cell| usize::from(cell))
-            .filter(|&cell| window.on_last_ring(cell) && comes_true(wish, &floor, &window, cell))
+            .filter(|&cell| window.on_last_ring(cell) && comes_true(wish, &floor, &window, &mixed, cell))
             .collect();
         if !targets.is_empty() {
             let target = dice.pick(&targets);
@@ -51,7 +55,7 @@ pub fn kit_and_state(dice: &mut Dice) -> (Kit, State, Option<u16>) {
     (kit, State { current, u: 0, length: 0 }, None)
 }
 
-/// A decision on one of two ways round a block, mostly at the depth that tells them apart.
+/// A decision on one of two ways, mostly at the depth that tells them apart.
 fn bent(dice: &mut Dice) -> (Kit, State, Option<u16>) {
     let bend = bends::bend(dice);
     let mut kit = jobs::kit_on(bend.floor, bend.width, bend.height, dice);
@@ -66,16 +70,21 @@ fn bent(dice: &mut Dice) -> (Kit, State, Option<u16>) {
     point_at(kit, bend.start, bend.end, dice)
 }
 
-/// A littered floor or one with short walls, and a deep lookahead.
-fn winding_kit(dice: &mut Dice) -> Kit {
+/// A littered floor or one with short walls, with or without slow cells, and a deep lookahead.
+fn winding_kit(wish: Wish, dice: &mut Dice) -> Kit {
     loop {
         let (width, height) = (dice.from_to(7, 17) as usize, dice.from_to(7, 17) as usize);
-        let floor = if dice.chance(40) {
+        let mut floor: Vec<u8> = if dice.chance(40) {
             floors::floor(Kind::Walls, width, height, dice)
         } else {
             let percent = dice.from_to(30, 50);
             (0..width * height).map(|_| u8::from(dice.chance(percent))).collect()
         };
+        if wish == Wish::MixedMoves {
+            slow::lay(&mut floor, width, dice);
+        } else {
+            slow::now_and_then(&mut floor, width, dice);
+        }
         let mut kit = jobs::kit_on(floor, width, height, dice);
         kit.depth = dice.from_to(3, 8);
         if !kit.free_cells().is_empty() {
@@ -84,18 +93,39 @@ fn winding_kit(dice: &mut Dice) -> Kit {
     }
 }
 
-fn comes_true(wish: Wish, floor: &Floor, window: &Window, cell: usize) -> bool {
-    let before = |way: usize| {
-        let y = floor.after(cell, way);
-        floor.exits(cell) & (1 << way) != 0
-            && window.ring(y).is_some()
-            && window.cost(y) + MOVE_COST[way] == window.cost(cell)
-    };
+/// Whether a cheapest walk to a cell may come from where this way leads.
+fn comes_from(floor: &Floor, window: &Window, cell: usize, way: usize) -> bool {
+    let y = floor.after(cell, way);
+    floor.exits(cell) & (1 << way) != 0
+        && window.ring(y).is_some()
+        && window.cost(y) + floor.price(cell, way) == window.cost(cell)
+}
+
+fn comes_true(wish: Wish, floor: &Floor, window: &Window, mixed: &[bool], cell: usize) -> bool {
+    let before = |way: usize| comes_from(floor, window, cell, way);
     match wish {
         Wish::MoreMoves => window.cost(cell) < cost_in_fewest_moves(floor, window, cell),
         Wish::WestAndEast => before(6) && before(2),
         Wish::Tie => (0..8).filter(|&way| before(way)).count() > 1,
+        Wish::MixedMoves => mixed[cell],
     }
+}
+
+/// For each cell, whether cheapest walks to it differ in their number of moves.
+fn mixed_moves(floor: &Floor, window: &Window) -> Vec<bool> {
+    let mut cells: Vec<usize> = window.cells().iter().map(|&cell| usize::from(cell)).collect();
+    cells.sort_unstable_by_key(|&cell| window.cost(cell));
+    // The fewest and the most moves of a cheapest walk.
+    let mut span = vec![(0, 0); floor.cells()];
+    for &cell in &cells[1..] {
+        let spans = (0..8)
+            .filter(|&way| comes_from(floor, window, cell, way))
+            .map(|way| span[floor.after(cell, way)]);
+        let (fewest, most) =
+            spans.fold((usize::MAX, 0), |(a, b), (fewest, most)| (a.min(fewest), b.max(most)));
+        span[cell] = (fewest + 1, most + 1);
+    }
+    span.iter().map(|&(fewest, most)| fewest < most).collect()
 }
 
 /// The least cost of a walk that takes no more moves than the cell's ring.
@@ -109,7 +139,7 @@ fn cost_in_fewest_moves(floor: &Floor, window: &Window, target: usize) -> u32 {
         for way in (0..8).filter(|way| floor.exits(x) & (1 << way) != 0) {
             let y = floor.after(x, way);
             if window.ring(y) > window.ring(x) {
-                cost[y] = cost[y].min(cost[x] + MOVE_COST[way]);
+                cost[y] = cost[y].min(cost[x] + floor.price(x, way));
             }
         }
     }
