@@ -223,7 +223,7 @@ fn move_on(list: &[u32], places: &mut [usize], k: usize, cell: usize, last: usiz
 }
 
 // From the goal to every cell that can be reached: the least offer is followed, and its place moves on, until every place is at the queue's end.
-// A place for each cost that this floor's moves can have is lent, at the goal; together they take so many steps at most.
+// On a floor without slow cells: its two costs have a place each, lent at the goal; together they take so many steps at most.
 fn spread(
     width: usize,
     height: usize,
@@ -233,13 +233,13 @@ fn spread(
     places: &mut [usize],
     list: &mut [u32],
 )
-    requires { ⌜ Held (flat width height (now floor)) (goalsOf goal) (now list) goal (now places) steps ⌝ }
+    requires { ⌜ Held (flat width height (now floor)) (goalsOf goal) (now list) goal (now places) steps × (length (now places) ≡ 2) ⌝ }
     ensures { λ r. ⌜ Certified (groundOf (flat width height (now (floor .entry))) (goalsOf goal)) none (distAt (now (list .exit))) ⌝ }
 {
     let mut last = goal;
     let mut left = steps;
     while 0 < left {
-        let k = least(&list[..], &places[..]);
+        let k = lesser(&list[..], &places[..], 0, 1);
         let cell = places[k];
         if cell == END {
             return;
@@ -252,7 +252,7 @@ fn spread(
     }
 }
 
-// And so on a floor with slow cells. (One search for both, with as many places as are lent, takes twice the time on a plain floor.)
+// And so on a floor with slow cells, with four places. (One search for both, with as many as are lent, takes twice the time on a plain floor.)
 fn spread_slow(
     width: usize,
     height: usize,

@@ -10,7 +10,7 @@ use Rattle.opening.proofs.Held.{held-start}
 use Rattle.opening.specs.Chain.{blank, Held}
 use borrow.Author.Needs.{needs}
 use lib.ListN.{length, set, length-set, replicate}
-use mathlib.Core.Path.{_≡_, sym, ap, _∙_}
+use mathlib.Core.Path.{_≡_, refl, sym, ap, _∙_}
 use native.Mathlib.Omega.{arith}
 use Rattle.opening.proofs.search.explore.Statement.{statement}
 use Rattle.opening.proofs.search.explore.Tie as tie
@@ -36,7 +36,7 @@ same c = let a = at-start (c .before) .args in length-set (a .list .now) (a .goa
 spread-requires : tie.Need-spread-requires
 spread-requires c κs =
     let n = c .before .before .before in
-    begun n 2 (sym (n .kinds-on .ensures ∙ kinds-fewer _ (omega (arith, n .kinds-on .ensures, c .before .before .if1 .taken))))
+    (begun n 2 (sym (n .kinds-on .ensures ∙ kinds-fewer _ (omega (arith, n .kinds-on .ensures, c .before .before .if1 .taken)))), refl)
 
 same-length : tie.Need-same-length
 same-length c =
