@@ -20,7 +20,7 @@ use Rattle.learning.proofs.Look.{lowest-low, lowest-met, eqb-of}
 use Rattle.learning.proofs.Route.{Before, some-before, leg-moves}
 
 -- a chain is a walk of as many moves as it has cells
-chain-walk : {N : Network} {S : ℕ → Type 0} {a z c : ℕ} {xs : List ℕ} → Chain N S a xs z c → Walk N S a z c (length xs)
+pub chain-walk : {N : Network} {S : ℕ → Type 0} {a z c : ℕ} {xs : List ℕ} → Chain N S a xs z c → Walk N S a z c (length xs)
 chain-walk (ended s) = stop s
 chain-walk (step s e k) = move s e (chain-walk k)
 
