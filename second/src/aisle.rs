@@ -5,7 +5,7 @@ use crate::floor::MOST_CELLS;
 use crate::floor_text;
 use crate::opening::{self, opening_table};
 use crate::refusal::{Halt, Place, Refusal};
-use crate::trial::Cart;
+use crate::trial::{Cart, Counts, Leg};
 use std::io::Write;
 
 /// The program's line; what is left out has its stated value.
@@ -43,39 +43,64 @@ fn refused(refusal: Refusal) -> String {
     }
 }
 
+/// An accepted input's run, trial after trial.
+struct Run {
+    cart: Cart,
+    table: Vec<u32>,
+    path: Vec<u16>,
+    trials: u64,
+    made: u64,
+    settled: bool,
+}
+
+impl Run {
+    fn open(input: &[u8]) -> Result<Run, Refusal> {
+        // An input without any LF is a malformed line.
+        let end = input.iter().position(|&byte| byte == b'\n').ok_or(Refusal::plain(3))?;
+        let line = read_line(&input[..end]).ok_or(Refusal::plain(3))?;
+        checks::settings(line.depth, line.p, line.q, line.quota)?;
+        checks::trials(line.trials)?;
+
+        let mut buffer = vec![0u8; MOST_CELLS];
+        let (width, height) = floor_text::read(&input[end + 1..], &mut buffer)?;
+        let job = Job {
+            width: width as u64,
+            height: height as u64,
+            goal: line.goal,
+            depth: line.depth,
+            p: line.p,
+            q: line.q,
+            quota: line.quota,
+            floor: &buffer[..width * height],
+        };
+        // A start off the floor and a goal off the floor are the same number, so the order of the two doesn't show.
+        let mut table = vec![0u32; width * height];
+        opening_table(job.width, job.height, job.goal, job.q, job.floor, &mut table)?;
+        let cart = Cart::new(opening::open(&job, line.start, &table)?);
+        let path = vec![0u16; width * height];
+        Ok(Run { cart, table, path, trials: line.trials, made: 0, settled: false })
+    }
+
+    fn is_over(&self) -> bool {
+        self.settled || self.made == self.trials
+    }
+
+    fn trial(&mut self, show: &mut dyn FnMut(Leg), most: u64) -> Result<Counts, Halt> {
+        let Run { cart, table, path, .. } = self;
+        let counts = cart.trial(table, path, Some(show), most).ok_or(Halt::TooLong)?;
+        self.made += 1;
+        self.settled = counts.learned == 0;
+        Ok(counts)
+    }
+}
+
 fn lines(input: &[u8], most: u64) -> Result<Vec<u8>, Halt> {
-    // An input without any LF is a malformed line.
-    let end = input.iter().position(|&byte| byte == b'\n').ok_or(Refusal::plain(3))?;
-    let line = read_line(&input[..end]).ok_or(Refusal::plain(3))?;
-    checks::settings(line.depth, line.p, line.q, line.quota)?;
-    checks::trials(line.trials)?;
-
-    let mut buffer = vec![0u8; MOST_CELLS];
-    let (width, height) = floor_text::read(&input[end + 1..], &mut buffer)?;
-    let job = Job {
-        width: width as u64,
-        height: height as u64,
-        goal: line.goal,
-        depth: line.depth,
-        p: line.p,
-        q: line.q,
-        quota: line.quota,
-        floor: &buffer[..width * height],
-    };
-    // A start off the floor and a goal off the floor are the same number, so the order of the two doesn't show.
-    let mut table = vec![0u32; width * height];
-    opening_table(job.width, job.height, job.goal, job.q, job.floor, &mut table)?;
-    let mut cart = Cart::new(opening::open(&job, line.start, &table)?);
-    let mut path = vec![0u16; width * height];
-
-    let mut text = Vec::new();
-    let (mut made, mut settled, mut left) = (0, false, most);
-    while made < line.trials && !settled {
+    let mut run = Run::open(input)?;
+    let (mut text, mut left) = (Vec::new(), most);
+    while !run.is_over() {
         let mut moves = Vec::new();
-        let counts = cart.trial(&mut table, &mut path, Some(&mut moves), left).ok_or(Halt::TooLong)?;
+        let counts = run.trial(&mut |mut leg| leg.add_moves(&mut moves), left)?;
         left -= counts.decisions;
-        made += 1;
-        settled = counts.learned == 0;
         if moves.is_empty() {
             text.push(b'-');
         }
@@ -83,8 +108,15 @@ fn lines(input: &[u8], most: u64) -> Result<Vec<u8>, Halt> {
         // Writing to a list can't fail.
         let _ = writeln!(text, " {} {} {} {}", counts.decisions, counts.learned, counts.kept, counts.travel);
     }
-    let _ = writeln!(text, "{} {made}", if settled { "settled" } else { "unsettled" });
+    let _ = writeln!(text, "{} {}", if run.settled { "settled" } else { "unsettled" }, run.made);
     Ok(text)
+}
+
+/// Shows each leg of an accepted input's run.
+pub fn show_legs(input: &[u8], show: &mut dyn FnMut(Leg)) {
+    if let Ok(mut run) = Run::open(input) {
+        while !run.is_over() && run.trial(show, u64::MAX).is_ok() {}
+    }
 }
 
 /// Reads 2, 3, 5, 6 or 7 numbers of 1 to 7 digits, one space apart.

@@ -1,8 +1,10 @@
 //! The comparison: this program's answers beside another program's, input by input, byte by byte.
 
-use crate::calls;
-use crate::floor::SLOW;
+use crate::floor::{Floor, SLOW};
+use crate::lookahead::Window;
+use crate::make::weaving::{weaves, Woven};
 use crate::make::{self, Program};
+use crate::{aisle, calls};
 use std::io::{Read, Write};
 use std::process::{Command, Stdio};
 use std::sync::mpsc;
@@ -143,6 +145,9 @@ pub struct Tally {
     pub slow: u64,
     slow_calls: [u64; CALLS],
     slow_aisle: u64,
+    /// How many had a leg where the lowest cells alone would weave, gone forward and gone back.
+    pub woven_decisions: [u64; 2],
+    pub woven_aisle: [u64; 2],
     /// Arrived, forward, backed out, stayed, refused.
     decisions: [u64; 5],
     cuts: u64,
@@ -179,6 +184,12 @@ fn numbers_ahead_of_floor(call: usize) -> Option<usize> {
     }
 }
 
+/// The floor's bytes among a call's numbers; none where it takes no floor.
+fn floor_bytes(asked: &[u64]) -> Option<&[u64]> {
+    let ahead = numbers_ahead_of_floor(asked[0] as usize)?;
+    Some(&asked[ahead + 1..][..asked[ahead] as usize])
+}
+
 impl Tally {
     pub fn add(&mut self, program: Program, input: &[u8], output: &[u8]) {
         match program {
@@ -203,6 +214,12 @@ impl Tally {
         let slow = input.contains(&b'S');
         self.slow += u64::from(slow);
         self.slow_aisle += u64::from(slow && number == 0);
+        if slow && number == 0 {
+            let mut woven = Woven::default();
+            aisle::show_legs(input, &mut |leg| woven.note(leg));
+            self.woven_aisle[0] += u64::from(woven.forward);
+            self.woven_aisle[1] += u64::from(woven.back);
+        }
     }
 
     fn add_call(&mut self, input: &[u8], output: &[u8]) {
@@ -223,14 +240,9 @@ impl Tally {
         if call == 2 {
             self.add_decision(&asked, &answered);
         }
-        let slow = match numbers_ahead_of_floor(call) {
-            Some(ahead) => {
-                asked[ahead + 1..].iter().take(asked[ahead] as usize).any(|&byte| byte == u64::from(SLOW))
-            }
-            None => {
-                call == 5
-                    && asked[2..].iter().take(asked[1] as usize).any(|&letter| letter == u64::from(b'S'))
-            }
+        let slow = match floor_bytes(&asked) {
+            Some(bytes) => bytes.contains(&u64::from(SLOW)),
+            None => call == 5 && asked[2..][..asked[1] as usize].contains(&u64::from(b'S')),
         };
         self.slow += u64::from(slow);
         self.slow_calls[call] += u64::from(slow && number == 0);
@@ -243,6 +255,12 @@ impl Tally {
         if kind == 1 && length_after <= length_before {
             self.cuts += 1;
         }
+        let (current, target) = (asked[3] as usize, answered[4] as usize);
+        match kind {
+            1 => self.woven_decisions[0] += u64::from(leg_weaves(asked, current, target)),
+            2 => self.woven_decisions[1] += u64::from(leg_weaves(asked, target, current)),
+            _ => {}
+        }
         let (u, q, quota) = (asked[4], asked[9], asked[10]);
         if answered[1] == 8 && u <= q * quota {
             // With the largest quota nothing backs out: if the same call is then accepted, only that part was at fault.
@@ -253,7 +271,8 @@ impl Tally {
         }
     }
 
-    /// What did not occur of numbers and calls, and of calls with slow cells that are accepted.
+    /// What did not occur of numbers and calls, of calls with slow cells that are accepted, and of legs that the lowest
+    /// cells alone would make longer.
     pub fn missing(&self) -> Vec<String> {
         let numbers = (0..self.numbers.len()).filter(|&number| number != UNUSED && self.numbers[number] == 0);
         let calls = (1..CALLS).filter(|&call| self.calls[call] == 0);
@@ -264,6 +283,10 @@ impl Tally {
         missing.extend(slow_calls.map(|call| format!("call {call} with slow cells")));
         if self.slow_aisle == 0 {
             missing.push("aisle with slow cells".into());
+        }
+        for (whose, woven) in [("decide", self.woven_decisions), ("aisle", self.woven_aisle)] {
+            let ways = ["forward", "backed out"].iter().zip(woven).filter(|&(_, count)| count == 0);
+            missing.extend(ways.map(|(way, _)| format!("{whose} {way} where the lowest cells alone weave")));
         }
         missing
     }
@@ -284,7 +307,19 @@ impl Tally {
         let (cuts, by_8) = (self.cuts, self.refused_on_backing_out);
         print!("decisions: {arrived} arrived, {forward} forward ({cuts} cut the path), {backed_out} backed out, ");
         println!("{stayed} stayed, {refused} refused ({by_8} by the backing-out part of 8)");
+        let ([forward, back], [aisle_forward, aisle_back]) = (self.woven_decisions, self.woven_aisle);
+        print!("where the lowest cells alone weave: decide {forward} forward, {back} backed out; ");
+        println!("aisle {aisle_forward} forward, {aisle_back} backed out");
     }
+}
+
+/// Whether the lowest cells alone would weave on a leg of an accepted decision.
+fn leg_weaves(asked: &[u64], from: usize, end: usize) -> bool {
+    let [width, height, goal, depth] = [1, 2, 6, 7].map(|at| asked[at] as usize);
+    let bytes: Vec<u8> = floor_bytes(asked).unwrap_or_default().iter().map(|&byte| byte as u8).collect();
+    let floor = Floor::new(width, height, &bytes);
+    let mut window = Window::new();
+    window.look(&floor, from, goal, depth) && weaves(&floor, &mut window, end)
 }
 
 /// The numbers that an output begins with. Outputs may be longer than inputs, so `calls::numbers` doesn't do.

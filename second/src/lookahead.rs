@@ -5,6 +5,9 @@ use crate::floor::{opposite, Floor, CELL_MASK, MOST_CELLS, MOVES_BY_CELL};
 /// The ring of a cell outside the window.
 const OUTSIDE: u8 = u8::MAX;
 
+/// The fewest moves to a cell for which they aren't counted.
+const UNCOUNTED: u8 = u8::MAX;
+
 /// The deepest lookahead that the settings allow.
 pub const MOST_DEPTH: usize = 8;
 
@@ -28,6 +31,9 @@ pub struct Window {
     last_ring: usize,
     /// Cells whose w became less after their moves had been followed.
     again: Vec<u16>,
+    /// The fewest moves of a cheapest walk, of the cells that are listed in `counted`.
+    fewest: Box<[u8; MOST_CELLS]>,
+    counted: Vec<u16>,
 }
 
 impl Default for Window {
@@ -45,6 +51,8 @@ impl Window {
             begin: [0; MOST_DEPTH + 2],
             last_ring: 0,
             again: Vec::new(),
+            fewest: Box::new([UNCOUNTED; MOST_CELLS]),
+            counted: Vec::new(),
         }
     }
 
@@ -189,24 +197,74 @@ impl Window {
         self.ring[cell & CELL_MASK] as usize == self.last_ring
     }
 
+    /// Whether a cheapest walk to a cell of the window may come from where this way leads.
+    #[inline(always)]
+    pub fn comes_from(&self, floor: &Floor, cell: usize, way: usize) -> bool {
+        let y = floor.after(cell, way);
+        floor.exits(cell) & (1 << way) != 0
+            && self.ring[y & CELL_MASK] != OUTSIDE
+            && self.cost(y) + floor.price(cell, way) == self.cost(cell)
+    }
+
+    /// The fewest moves of a cheapest walk to a cell of the window.
+    pub fn fewest_moves(&mut self, floor: &Floor, cell: usize) -> u8 {
+        for cell in self.counted.drain(..) {
+            self.fewest[usize::from(cell) & CELL_MASK] = UNCOUNTED;
+        }
+        self.count_moves(floor, cell)
+    }
+
+    /// The same, counted once for every cell that a cheapest walk to this one may come through.
+    fn count_moves(&mut self, floor: &Floor, cell: usize) -> u8 {
+        if self.fewest[cell & CELL_MASK] == UNCOUNTED {
+            let mut before = UNCOUNTED;
+            for way in 0..8 {
+                if self.comes_from(floor, cell, way) {
+                    before = before.min(self.count_moves(floor, floor.after(cell, way)));
+                }
+            }
+            // Only where the cart stands does no walk come from anywhere: that is 0 moves.
+            self.fewest[cell & CELL_MASK] = before.wrapping_add(1);
+            self.counted.push(cell as u16);
+        }
+        self.fewest[cell & CELL_MASK]
+    }
+
     /// The route to a cell of the window, put in walking order at the front of `moves`; answers how many moves.
-    pub fn route(&self, floor: &Floor, target: usize, moves: &mut [u8; MOST_MOVES]) -> usize {
+    pub fn route(&mut self, floor: &Floor, target: usize, moves: &mut [u8; MOST_MOVES]) -> usize {
+        // The lowest cells alone give the route where they give the fewest moves: where these are as few as the ring,
+        // and on floors without slow cells, since with costs 10 and 14 alone walks of one cost below 140 have equally
+        // many moves, and no leg costs more than 112.
+        let mut count = self.trace(floor, target, moves, |_, _| true);
+        if floor.has_slow() && count > usize::from(self.ring[target & CELL_MASK]) {
+            self.fewest_moves(floor, target);
+            let fewest = |cell: usize| self.fewest[cell & CELL_MASK];
+            count = self.trace(floor, target, moves, |before, cell| fewest(before) + 1 == fewest(cell));
+        }
+        moves[..count].reverse();
+        count
+    }
+
+    /// Goes back from a cell, each time to the lowest-numbered of those that a cheapest walk may come from and that
+    /// `may` be before the cell reached; puts down the moves, the last one first, and answers how many.
+    fn trace(
+        &self,
+        floor: &Floor,
+        target: usize,
+        moves: &mut [u8; MOST_MOVES],
+        may: impl Fn(usize, usize) -> bool,
+    ) -> usize {
         let mut count = 0;
         let mut x = target;
         while self.cost(x) != 0 && count < MOST_MOVES {
-            let exits = floor.exits(x);
-            let before = MOVES_BY_CELL.iter().find(|&&way| {
-                let y = floor.after(x, way);
-                exits & (1 << way) != 0
-                    && self.ring[y & CELL_MASK] != OUTSIDE
-                    && self.cost(y) + floor.price(x, way) == self.cost(x)
-            });
+            let before = MOVES_BY_CELL
+                .iter()
+                .find(|&&way| self.comes_from(floor, x, way) && may(floor.after(x, way), x));
             let Some(&way) = before else { break };
             moves[count] = opposite(way) as u8;
             count += 1;
             x = floor.after(x, way);
         }
-        moves[..count].reverse();
         count
     }
 }
@@ -214,8 +272,9 @@ impl Window {
 #[cfg(test)]
 pub(crate) mod tests {
     use super::*;
+    use crate::floor::{is_free_byte, FREE, SLOW};
     use crate::make::dice::Dice;
-    use crate::make::{bends, floors, slow};
+    use crate::make::{bends, floors, slow, weaving};
 
     /// The moves of a floor and their costs, found plainly by columns and rows.
     pub(crate) fn plain_move(width: usize, bytes: &[u8], x: usize, y: usize) -> Option<(u8, u32)> {
@@ -232,42 +291,31 @@ pub(crate) mod tests {
         clear.then_some((way as u8, if doubled { 2 * cost } else { cost }))
     }
 
-    /// The lookahead by the words of documents 01 and 02, sweeping over all pairs of cells, on many small floors.
-    #[test]
-    fn lookahead_is_the_one_of_the_papers() {
-        let (mut looks, mut slows, mut longer, mut empty) = (0, 0, 0, 0);
-        for seed in 0..1_500u64 {
-            let mut dice = Dice::new(seed);
-            let (mut width, mut height) = (dice.from_to(1, 9) as usize, dice.from_to(1, 9) as usize);
-            let mut bytes = floors::floor(floors::kind(&mut dice), width, height, &mut dice);
-            let mut depth = dice.from_to(1, 8) as usize;
-            if seed % 2 == 0 {
-                // Wide and littered.
-                (width, height, depth) = (12, 12, 8);
-                bytes = (0..width * height).map(|_| u8::from(dice.chance(45))).collect();
-            }
-            if seed / 2 % 2 == 0 {
-                slow::lay(&mut bytes, width, &mut dice);
-            }
-            let (mut from, mut goal) = (dice.index(bytes.len()), dice.index(bytes.len()));
-            if seed % 5 == 0 {
-                // Two ways, of which the cheapest needs more moves than the fewest.
-                let bend = bends::bend(&mut dice);
-                (width, height, depth) = (bend.width, bend.height, bend.depth as usize);
-                (bytes, from, goal) = (bend.floor, bend.start, bend.end);
-            }
-            let cells = bytes.len();
-            if from == goal || ![0, 2].contains(&bytes[from]) || ![0, 2].contains(&bytes[goal]) {
-                continue;
-            }
-            let pairs: Vec<(usize, usize, u8, u32)> = (0..cells * cells)
-                .filter_map(|pair| {
-                    let (x, y) = (pair / cells, pair % cells);
-                    let (way, cost) = plain_move(width, &bytes, x, y)?;
-                    Some((x, y, way, cost))
-                })
-                .collect();
+    /// A lookahead by the words of documents 01 and 02, worked out over all pairs of cells.
+    struct Plain {
+        from: usize,
+        /// From, to, the move's number and what it costs.
+        pairs: Vec<(usize, usize, u8, u32)>,
+        ring: Vec<usize>,
+        last: usize,
+        /// For each number of moves and each cell, the least cost of a walk in the window of just so many moves to it.
+        by_moves: Vec<Vec<u32>>,
+        w: Vec<u32>,
+        n: Vec<usize>,
+    }
 
+    /// A walk in the window that costs w costs at most 8 x 28, and each of its moves at least 10.
+    const MOST_MOVES_OF_W: usize = 22;
+
+    impl Plain {
+        fn new(width: usize, bytes: &[u8], from: usize, goal: usize, depth: usize) -> Plain {
+            let cells = bytes.len();
+            let mut pairs = Vec::new();
+            for (x, y) in (0..cells).flat_map(|x| (0..cells).map(move |y| (x, y))) {
+                if let Some((way, cost)) = plain_move(width, bytes, x, y) {
+                    pairs.push((x, y, way, cost));
+                }
+            }
             let mut ring = vec![usize::MAX; cells];
             ring[from] = 0;
             for k in 0..cells {
@@ -277,60 +325,232 @@ pub(crate) mod tests {
                     }
                 }
             }
-            let floor = Floor::new(width, height, &bytes);
-            let mut window = Window::new();
-            let looked = window.look(&floor, from, goal, depth);
-            let some_empty = (1..=depth).any(|k| !ring.contains(&k) && ring[goal] >= k);
+            let last = depth.min(ring[goal]);
+            let mut plain =
+                Plain { from, pairs, ring, last, by_moves: Vec::new(), w: Vec::new(), n: Vec::new() };
+            plain.find_walks();
+            plain
+        }
+
+        /// Finds w, and n: the fewest moves of a walk in the window that costs w.
+        fn find_walks(&mut self) {
+            let cells = self.ring.len();
+            let mut costs = vec![u32::MAX; cells];
+            costs[self.from] = 0;
+            for _ in 0..=MOST_MOVES_OF_W {
+                let mut next = vec![u32::MAX; cells];
+                for &(x, y, _, cost) in self.pairs.iter().filter(|&&(_, y, _, _)| self.ring[y] <= self.last) {
+                    next[y] = next[y].min(costs[x].saturating_add(cost));
+                }
+                self.by_moves.push(std::mem::replace(&mut costs, next));
+            }
+            let of = |cell: usize| self.by_moves.iter().map(move |costs| costs[cell]);
+            self.w = (0..cells).map(|cell| of(cell).min().unwrap()).collect();
+            self.n = (0..cells).map(|cell| of(cell).position(|cost| cost == self.w[cell]).unwrap()).collect();
+        }
+
+        fn on_ring(&self, k: usize) -> Vec<usize> {
+            (0..self.ring.len()).filter(|&cell| self.ring[cell] == k).collect()
+        }
+
+        fn best(&self, table: &[u32], p: u32) -> Best {
+            let value = |cell: usize| p * self.w[cell] + table[cell];
+            let bests = (1..=self.last).map(|k| self.on_ring(k).into_iter().map(value).min().unwrap());
+            let target = self.on_ring(self.last).into_iter().min_by_key(|&cell| (value(cell), cell));
+            Best { figure: bests.max().unwrap(), target: target.unwrap() }
+        }
+
+        /// The window cells from which one move, added to their w, gives w of a cell, and those moves; lowest cell first.
+        fn before(&self, x: usize) -> Vec<(usize, u8)> {
+            let fits = |&&(y, to, _, cost): &&(usize, usize, u8, u32)| {
+                to == x && self.ring[y] <= self.last && self.w[y] + cost == self.w[x]
+            };
+            self.pairs.iter().filter(fits).map(|&(y, _, way, _)| (y, way)).collect()
+        }
+
+        /// Of these the ones that leave a fewest-move route.
+        fn fewest_before(&self, x: usize) -> Vec<(usize, u8)> {
+            self.before(x).into_iter().filter(|&(y, _)| self.n[y] + 1 == self.n[x]).collect()
+        }
+
+        /// Backward from a cell, each time to the first of those before it.
+        fn route(&self, target: usize, before: impl Fn(usize) -> Vec<(usize, u8)>) -> Vec<u8> {
+            let mut route = Vec::new();
+            let mut x = target;
+            while x != self.from {
+                let (y, way) = before(x)[0];
+                route.insert(0, way);
+                x = y;
+            }
+            route
+        }
+
+        /// Document 02's rule.
+        fn route_of_fewest(&self, target: usize) -> Vec<u8> {
+            self.route(target, |x| self.fewest_before(x))
+        }
+
+        /// Document 01's rule alone.
+        fn route_of_lowest(&self, target: usize) -> Vec<u8> {
+            self.route(target, |x| self.before(x))
+        }
+
+        /// Where a route leads in the window and what it costs.
+        fn walk(&self, route: &[u8]) -> (usize, u32) {
+            route.iter().fold((self.from, 0), |(x, sum), way| {
+                let by = |&&(y, to, number, _): &&(usize, usize, u8, u32)| {
+                    y == x && number == *way && self.ring[to] <= self.last
+                };
+                let &(_, to, _, cost) = self.pairs.iter().find(by).unwrap();
+                (to, sum + cost)
+            })
+        }
+    }
+
+    /// A floor with a place to look from, a goal and a depth.
+    struct Case {
+        width: usize,
+        bytes: Vec<u8>,
+        from: usize,
+        goal: usize,
+        depth: usize,
+    }
+
+    impl Case {
+        /// Floors of every kind, wide and littered ones, and ones with two ways, of which the cheaper has more moves.
+        fn any(seed: u64) -> Case {
+            let mut dice = Dice::new(seed);
+            let (mut width, mut height) = (dice.from_to(1, 9) as usize, dice.from_to(1, 9) as usize);
+            let mut bytes = floors::floor(floors::kind(&mut dice), width, height, &mut dice);
+            let mut depth = dice.from_to(1, 8) as usize;
+            if seed % 2 == 0 {
+                (width, height, depth) = (12, 12, 8);
+                bytes = (0..width * height).map(|_| u8::from(dice.chance(45))).collect();
+            }
+            if seed / 2 % 2 == 0 {
+                slow::lay(&mut bytes, width, &mut dice);
+            }
+            let (from, goal) = (dice.index(bytes.len()), dice.index(bytes.len()));
+            if seed % 5 == 0 {
+                let bend = bends::bend(&mut dice);
+                let (from, goal, depth) = (bend.start, bend.end, bend.depth as usize);
+                return Case { width: bend.width, bytes: bend.floor, from, goal, depth };
+            }
+            Case { width, bytes, from, goal, depth }
+        }
+
+        /// Floors where cheapest walks of more and of fewer moves are common.
+        fn littered(seed: u64) -> Case {
+            let mut dice = Dice::new(seed);
+            let kit = weaving::littered_kit(false, &mut dice);
+            let from = dice.index(kit.cells());
+            Case { width: kit.width, bytes: kit.floor, from, goal: kit.goal, depth: kit.depth as usize }
+        }
+
+        fn is_good(&self) -> bool {
+            self.from != self.goal
+                && [self.from, self.goal].iter().all(|&cell| is_free_byte(self.bytes[cell]))
+        }
+
+        fn floor(&self) -> Floor {
+            Floor::new(self.width, self.bytes.len() / self.width, &self.bytes)
+        }
+
+        fn plain(&self) -> Plain {
+            Plain::new(self.width, &self.bytes, self.from, self.goal, self.depth)
+        }
+    }
+
+    fn route_to(window: &mut Window, floor: &Floor, target: usize) -> Vec<u8> {
+        let mut moves = [0u8; MOST_MOVES];
+        let count = window.route(floor, target, &mut moves);
+        moves[..count].to_vec()
+    }
+
+    #[test]
+    fn lookahead_is_the_one_of_the_papers() {
+        let (mut looks, mut slows, mut longer, mut empty) = (0, 0, 0, 0);
+        let mut window = Window::new();
+        for seed in 0..1_500 {
+            let case = Case::any(seed);
+            if !case.is_good() {
+                continue;
+            }
+            let (floor, plain) = (case.floor(), case.plain());
+            let looked = window.look(&floor, case.from, case.goal, case.depth);
+            let ring_of_goal = plain.ring[case.goal];
+            let some_empty = (1..=case.depth).any(|k| plain.on_ring(k).is_empty() && ring_of_goal >= k);
             assert_eq!(looked, !some_empty);
             if !looked {
                 empty += 1;
                 continue;
             }
             looks += 1;
-            slows += usize::from(bytes.contains(&2));
-            let last = depth.min(ring[goal]);
-            let sweep = |outward_only: bool| {
-                let mut w = vec![u32::MAX; cells];
-                w[from] = 0;
-                for _ in 0..cells {
-                    for &(x, y, _, cost) in &pairs {
-                        let inside = ring[x] <= last && ring[y] <= last && w[x] != u32::MAX;
-                        if inside && (!outward_only || ring[y] > ring[x]) {
-                            w[y] = w[y].min(w[x] + cost);
-                        }
-                    }
-                }
-                w
-            };
-            let (w, fewest) = (sweep(false), sweep(true));
-            longer += usize::from((0..cells).any(|cell| w[cell] < fewest[cell]));
+            slows += usize::from(floor.has_slow());
+            let cells = 0..floor.cells();
+            let in_window = |cell: &usize| plain.ring[*cell] <= plain.last;
+            let takes_more = |cell: usize| plain.w[cell] < plain.by_moves[plain.ring[cell]][cell];
+            longer += usize::from(cells.clone().filter(in_window).any(takes_more));
 
-            let table: Vec<u32> = (0..cells).map(|_| dice.below(60) as u32).collect();
+            let mut dice = Dice::new(seed);
+            let table: Vec<u32> = cells.clone().map(|_| dice.below(60) as u32).collect();
             let p = dice.from_to(1, 16) as u32;
-            let value = |cell: usize| p * w[cell] + table[cell];
-            let on = |k: usize| (0..cells).filter(|&cell| ring[cell] == k).collect::<Vec<_>>();
-            let figure = (1..=last).map(|k| on(k).into_iter().map(value).min().unwrap()).max().unwrap();
-            let target = on(last).into_iter().min_by_key(|&cell| (value(cell), cell)).unwrap();
-            assert_eq!(window.best(&table, p), Best { figure, target });
-
-            let mut route = Vec::new();
-            let mut x = target;
-            while x != from {
-                let (y, _, way, _) = *pairs
-                    .iter()
-                    .filter(|&&(y, to, _, cost)| to == x && ring[y] <= last && w[y] + cost == w[x])
-                    .min()
-                    .unwrap();
-                route.insert(0, way);
-                x = y;
-            }
-            let mut moves = [0u8; MOST_MOVES];
-            let count = window.route(&floor, target, &mut moves);
-            assert_eq!(moves[..count], route);
-            assert_eq!(window.cost(target), w[target]);
-            assert!((0..cells).all(|cell| window.on_last_ring(cell) == (ring[cell] == last)));
+            let best = plain.best(&table, p);
+            assert_eq!(window.best(&table, p), best);
+            assert_eq!(window.cost(best.target), plain.w[best.target]);
+            assert_eq!(route_to(&mut window, &floor, best.target), plain.route_of_fewest(best.target));
+            assert!(cells.clone().all(|cell| window.on_last_ring(cell) == (plain.ring[cell] == plain.last)));
         }
         // Doc 01's "errors that look right": some w needs more moves than the ring.
         assert!(looks > 300 && slows > 150 && longer > 50 && empty > 20, "{looks} {slows} {longer} {empty}");
+    }
+
+    #[test]
+    fn a_route_costs_w_and_no_walk_of_that_cost_has_fewer_moves() {
+        let (mut routes, mut woven, mut ties) = (0, 0, 0);
+        let mut window = Window::new();
+        for case in (0..3_000).map(Case::littered).filter(Case::is_good) {
+            let (floor, plain) = (case.floor(), case.plain());
+            if !window.look(&floor, case.from, case.goal, case.depth) {
+                continue;
+            }
+            for target in plain.on_ring(plain.last) {
+                let route = route_to(&mut window, &floor, target);
+                assert_eq!(plain.walk(&route), (target, plain.w[target]));
+                assert!((0..route.len()).all(|fewer| plain.by_moves[fewer][target] > plain.w[target]));
+                assert_eq!(usize::from(window.fewest_moves(&floor, target)), route.len());
+                assert_eq!(route, plain.route_of_fewest(target));
+
+                let lowest = plain.route_of_lowest(target);
+                assert_eq!(weaving::weaves(&floor, &mut window, target), lowest.len() > route.len());
+                // Where the lowest cells alone give as few moves, they give the route.
+                assert!(lowest == route || lowest.len() > route.len());
+                routes += 1;
+                woven += usize::from(lowest != route);
+                ties += usize::from(lowest != route && plain.fewest_before(target).len() > 1);
+            }
+        }
+        assert!(routes > 10_000 && woven > 100 && ties > 50, "{routes} {woven} {ties}");
+    }
+
+    #[test]
+    fn without_slow_cells_the_lowest_cells_give_the_fewest_moves() {
+        let (mut routes, mut longer) = (0, 0);
+        let mut window = Window::new();
+        for mut case in (0..1_000).map(Case::any).filter(Case::is_good) {
+            case.bytes.iter_mut().filter(|byte| **byte == SLOW).for_each(|byte| *byte = FREE);
+            let (floor, plain) = (case.floor(), case.plain());
+            if !window.look(&floor, case.from, case.goal, case.depth) {
+                continue;
+            }
+            for target in plain.on_ring(plain.last) {
+                let route = plain.route_of_fewest(target);
+                assert_eq!(route, plain.route_of_lowest(target));
+                assert_eq!(route, route_to(&mut window, &floor, target));
+                routes += 1;
+                longer += usize::from(route.len() > plain.last);
+            }
+        }
+        assert!(routes > 2_000 && longer > 20, "{routes} {longer}");
     }
 }

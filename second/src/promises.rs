@@ -64,8 +64,12 @@ fn check_trial(kit: &Kit, job: &Job, table: &mut [u32], path: &mut [u16]) -> Res
     let opened =
         opening::open(job, kit.start as u64, table).map_err(|refusal| format!("refused: {refusal:?}"))?;
     let (mut whole_table, mut whole_path, mut whole_moves) = (table.to_vec(), path.to_vec(), Vec::new());
-    let whole =
-        Cart::new(opened).trial(&mut whole_table, &mut whole_path, Some(&mut whole_moves), MOST_DECISIONS);
+    let whole = Cart::new(opened).trial(
+        &mut whole_table,
+        &mut whole_path,
+        Some(&mut |mut leg| leg.add_moves(&mut whole_moves)),
+        MOST_DECISIONS,
+    );
     let Some(whole) = whole else { return Ok(None) };
 
     let mut counts = Counts::default();

@@ -2,6 +2,7 @@
 
 use crate::checks::Job;
 use crate::decision::reverse;
+use crate::floor::Floor;
 use crate::lookahead::{Window, MOST_MOVES};
 use crate::opening::{open_with, Opened};
 use crate::refusal::Halt;
@@ -25,6 +26,29 @@ pub struct Ran {
     pub settled: bool,
 }
 
+/// A leg that a cart takes, as it is shown to whoever wants its moves.
+pub struct Leg<'a> {
+    pub floor: &'a Floor,
+    /// The window of the cell whose leg it is.
+    pub window: &'a mut Window,
+    /// The leg's other end.
+    pub end: usize,
+    /// Whether the cart backs out over it.
+    pub back: bool,
+}
+
+impl Leg<'_> {
+    /// Adds the moves that the cart makes.
+    pub fn add_moves(&mut self, moves: &mut Vec<u8>) {
+        let mut route = [0u8; MOST_MOVES];
+        let count = self.window.route(self.floor, self.end, &mut route);
+        if self.back {
+            reverse(&mut route[..count]);
+        }
+        moves.extend_from_slice(&route[..count]);
+    }
+}
+
 /// A place that no path has.
 const OFF_PATH: u16 = u16::MAX;
 
@@ -46,12 +70,13 @@ impl Cart {
     }
 
     /// One trial from the job's start. Its table and path have been judged by the opening, after which no decision
-    /// can be refused, so nothing is checked again. Answers none when `most` decisions didn't suffice.
+    /// can be refused, so nothing is checked again. Each leg is shown to whoever asks. Answers none when `most` decisions
+    /// didn't suffice.
     pub fn trial(
         &mut self,
         table: &mut [u32],
         path: &mut [u16],
-        mut moves: Option<&mut Vec<u8>>,
+        mut show: Option<&mut dyn FnMut(Leg)>,
         most: u64,
     ) -> Option<Counts> {
         let Cart { job, window, place, legs } = self;
@@ -75,10 +100,8 @@ impl Cart {
                 u += u64::from(rise);
                 let leg = window.cost(best.target);
                 counts.travel += u64::from(leg);
-                if let Some(moves) = &mut moves {
-                    let mut route = [0u8; MOST_MOVES];
-                    let count = window.route(floor, best.target, &mut route);
-                    moves.extend_from_slice(&route[..count]);
+                if let Some(show) = &mut show {
+                    show(Leg { floor, window, end: best.target, back: false });
                 }
                 path[length] = current as u16;
                 legs[length] = leg;
@@ -97,12 +120,9 @@ impl Cart {
                 let taken_off = usize::from(path[length]);
                 place[taken_off] = OFF_PATH;
                 counts.travel += u64::from(legs[length]);
-                if let Some(moves) = &mut moves {
-                    let mut route = [0u8; MOST_MOVES];
+                if let Some(show) = &mut show {
                     window.look(floor, taken_off, goal, depth);
-                    let count = window.route(floor, current, &mut route);
-                    reverse(&mut route[..count]);
-                    moves.extend_from_slice(&route[..count]);
+                    show(Leg { floor, window, end: current, back: true });
                 }
                 current = taken_off;
             }

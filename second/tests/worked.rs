@@ -1,5 +1,5 @@
-//! Every case that document 01 works out, worked again with document 02's corners and ceiling, and cases with slow cells,
-//! tried on the library and on both programs.
+//! Every case that document 01 works out, worked again with document 02's corners and ceiling, and cases with slow cells and
+//! with routes of one cost, tried on the library and on both programs.
 
 use second::checks::Job;
 use second::decision::{decide, Answer, State};
@@ -283,11 +283,56 @@ fn a_longer_walk_round_slow_cells() {
 }
 
 #[test]
-fn walks_of_one_cost_with_more_moves_and_fewer() {
-    // Document 01's rule asks for the lowest cell each time, not for the fewest moves.
+fn of_routes_of_one_cost_the_one_with_fewest_moves() {
+    // To 1 at 48 by 4, or by 7 and 3, of which 3 is the lower.
+    let (answer, moves) = first_decision(&["..@", ".S.", "..S"], 8, 1, 2);
+    assert_eq!(answer, Answer::Forward { target: 1, rise: 24, moves: 2 });
+    assert_eq!(moves, [7, 0]);
+}
+
+#[test]
+fn of_routes_with_fewest_moves_the_one_by_the_lowest_cell() {
+    // To 1 at 48 by 4 or by 5 in two moves; by 7 and 3 in three.
     let (answer, moves) = first_decision(&["...", ".SS", "..S"], 8, 1, 2);
-    assert_eq!(answer, Answer::Forward { target: 1, rise: 24, moves: 3 });
-    assert_eq!(moves, [6, 7, 1]);
+    assert_eq!(answer, Answer::Forward { target: 1, rise: 24, moves: 2 });
+    assert_eq!(moves, [7, 0]);
+    // To 7 at 58 by 6 in three moves, by 2 in four; and to 6 by 5 or by 9 in two, by 1 in three.
+    let (answer, moves) = first_decision(&["....", ".S..", "SSS."], 8, 7, 3);
+    assert_eq!(answer, Answer::Forward { target: 7, rise: 24, moves: 3 });
+    assert_eq!(moves, [1, 2, 2]);
+    // Without slow cells all cheapest routes have as many moves.
+    let (answer, moves) = first_decision(&["....", "...."], 4, 3, 3);
+    assert_eq!(answer, Answer::Forward { target: 3, rise: 0, moves: 3 });
+    assert_eq!(moves, [1, 2, 2]);
+}
+
+#[test]
+fn a_trial_forward_and_back_by_fewest_moves() {
+    let floor = bytes(&["S.S", ".SS", "S.S"]);
+    let job = Job { floor: &floor, ..job(2, 1, 1, 0) };
+    let first = [0, 0, 40, 20, 0, 0, 40, 0, 0];
+    let mut walk = Walk { state: State { current: 8, u: 0, length: 0 }, ..Walk::new(1) };
+    walk.table = first.to_vec();
+    let answers = [
+        (Answer::Stayed { rise: 48 }, vec![]),
+        // To 1 at 48 by 4 or by 5 in two moves, by 7 and 3 in three; and back by the reverse.
+        (Answer::Forward { target: 1, rise: 0, moves: 2 }, vec![7, 0]),
+        (Answer::BackedOut { target: 8, rise: 20, moves: 2 }, vec![4, 3]),
+        (Answer::Stayed { rise: 6 }, vec![]),
+        (Answer::Forward { target: 0, rise: 0, moves: 3 }, vec![6, 7, 0]),
+        (Answer::Arrived, vec![]),
+    ];
+    for (answer, moves) in answers {
+        walk.moves.fill(9);
+        assert_eq!(walk.decide(&job), answer);
+        assert_eq!(walk.moves[..moves.len()], moves);
+        assert!(walk.moves[moves.len()..].iter().all(|&way| way == 9));
+    }
+    assert_eq!(walk.table, [0, 20, 40, 20, 0, 0, 40, 0, 54]);
+    assert_eq!((walk.state, walk.path[0]), (State { current: 0, u: 0, length: 1 }, 8));
+
+    let counts = trial(&job, 8, &mut first.to_vec(), &mut [0; 9], u64::MAX);
+    assert_eq!(counts, Ok(Counts { decisions: 5, learned: 74, kept: 54, travel: 150 }));
 }
 
 #[test]

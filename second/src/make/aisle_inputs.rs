@@ -3,9 +3,14 @@
 use super::dice::Dice;
 use super::jobs;
 use super::texts;
+use super::weaving;
 
 pub fn input(dice: &mut Dice) -> Vec<u8> {
-    let mut kit = if dice.chance(40) { jobs::long_kit(dice) } else { jobs::kit(dice) };
+    let mut kit = match dice.weighted(&[37, 54, 9]) {
+        0 => jobs::long_kit(dice),
+        1 => jobs::kit(dice),
+        _ => weaving::kit(dice),
+    };
     if dice.chance(4) {
         kit.goal = kit.start;
     }

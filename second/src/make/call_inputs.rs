@@ -323,7 +323,7 @@ fn write_floor_text(kit: &mut Kit, dice: &mut Dice) -> Draft {
 
 fn decision(kit: &mut Kit, dice: &mut Dice) -> Draft {
     let mut path: Vec<u16> = path_list(kit, dice).iter().map(|&entry| entry as u16).collect();
-    let state = match dice.weighted(&[58, 15, 5, 7, 19]) {
+    let state = match dice.weighted(&[56, 15, 5, 7, 19, 6]) {
         0 => states::middle_of_a_trial(kit, &mut path, dice),
         1 => states::made_up_state(kit, &mut path, dice),
         2 => {
@@ -340,8 +340,11 @@ fn decision(kit: &mut Kit, dice: &mut Dice) -> Draft {
             path = path_list(kit, dice).iter().map(|&entry| entry as u16).collect();
             states::made_up_state(kit, &mut path, dice)
         }
-        _ => {
-            let (winding_kit, state, last) = winding::kit_and_state(dice);
+        winding => {
+            let (winding_kit, state, last) = match winding {
+                4 => winding::kit_and_state(dice),
+                _ => winding::weaving_kit_and_state(dice),
+            };
             *kit = winding_kit;
             path = path_list(kit, dice).iter().map(|&entry| entry as u16).collect();
             path[0] = last.unwrap_or(path[0]);

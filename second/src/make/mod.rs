@@ -11,6 +11,7 @@ pub mod jobs;
 pub mod slow;
 pub mod states;
 pub mod texts;
+pub mod weaving;
 pub mod winding;
 
 use crate::{aisle, calls};

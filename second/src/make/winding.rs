@@ -5,6 +5,7 @@ use super::dice::Dice;
 use super::floors::{self, Kind};
 use super::jobs::{self, Kit, TableKind};
 use super::slow;
+use super::weaving;
 use crate::decision::State;
 use crate::floor::Floor;
 use crate::lookahead::Window;
@@ -20,6 +21,8 @@ enum Wish {
     Tie,
     /// Cheapest walks to the cell differ in their number of moves, which takes slow cells.
     MixedMoves,
+    /// And of these the lowest cells alone don't give the fewest.
+    Weaving,
 }
 
 /// A kit and a state whose next decision takes such a route, forward or back, if one is found in time.
@@ -28,11 +31,20 @@ pub fn kit_and_state(dice: &mut Dice) -> (Kit, State, Option<u16>) {
         return bent(dice);
     }
     let wish = dice.pick(&[Wish::MoreMoves, Wish::MoreMoves, Wish::WestAndEast, Wish::Tie, Wish::MixedMoves]);
-    let mut kit = winding_kit(wish, dice);
+    search(wish, dice)
+}
+
+/// The same for a route where a cart that went by the lowest cells alone would weave.
+pub fn weaving_kit_and_state(dice: &mut Dice) -> (Kit, State, Option<u16>) {
+    search(Wish::Weaving, dice)
+}
+
+fn search(wish: Wish, dice: &mut Dice) -> (Kit, State, Option<u16>) {
+    let mut kit = kit_for(wish, dice);
     let mut window = Window::new();
     for tries in 0..400 {
         if tries % 8 == 7 {
-            kit = winding_kit(wish, dice);
+            kit = kit_for(wish, dice);
         }
         let from = dice.pick(&kit.free_cells());
         let floor = Floor::new(kit.width, kit.height, &kit.floor);
@@ -40,12 +52,9 @@ pub fn kit_and_state(dice: &mut Dice) -> (Kit, State, Option<u16>) {
             continue;
         }
         let mixed = if wish == Wish::MixedMoves { mixed_moves(&floor, &window) } else { Vec::new() };
-        let targets: Vec<usize> = window
-            .cells()
-            .iter()
-            .map(|&cell| usize::from(cell))
-            .filter(|&cell| window.on_last_ring(cell) && comes_true(wish, &floor, &window, &mixed, cell))
-            .collect();
+        let mut targets: Vec<usize> = window.cells().iter().map(|&cell| usize::from(cell)).collect();
+        targets
+            .retain(|&cell| window.on_last_ring(cell) && comes_true(wish, &floor, &mut window, &mixed, cell));
         if !targets.is_empty() {
             let target = dice.pick(&targets);
             return point_at(kit, from, target, dice);
@@ -70,44 +79,46 @@ fn bent(dice: &mut Dice) -> (Kit, State, Option<u16>) {
     point_at(kit, bend.start, bend.end, dice)
 }
 
-/// A littered floor or one with short walls, with or without slow cells, and a deep lookahead.
-fn winding_kit(wish: Wish, dice: &mut Dice) -> Kit {
+/// A kit for the wish whose floor has free cells.
+fn kit_for(wish: Wish, dice: &mut Dice) -> Kit {
     loop {
-        let (width, height) = (dice.from_to(7, 17) as usize, dice.from_to(7, 17) as usize);
-        let mut floor: Vec<u8> = if dice.chance(40) {
-            floors::floor(Kind::Walls, width, height, dice)
-        } else {
-            let percent = dice.from_to(30, 50);
-            (0..width * height).map(|_| u8::from(dice.chance(percent))).collect()
+        let kit = match wish {
+            Wish::Weaving => weaving::littered_kit(false, dice),
+            _ => winding_kit(wish, dice),
         };
-        if wish == Wish::MixedMoves {
-            slow::lay(&mut floor, width, dice);
-        } else {
-            slow::now_and_then(&mut floor, width, dice);
-        }
-        let mut kit = jobs::kit_on(floor, width, height, dice);
-        kit.depth = dice.from_to(3, 8);
         if !kit.free_cells().is_empty() {
             return kit;
         }
     }
 }
 
-/// Whether a cheapest walk to a cell may come from where this way leads.
-fn comes_from(floor: &Floor, window: &Window, cell: usize, way: usize) -> bool {
-    let y = floor.after(cell, way);
-    floor.exits(cell) & (1 << way) != 0
-        && window.ring(y).is_some()
-        && window.cost(y) + floor.price(cell, way) == window.cost(cell)
+/// A littered floor or one with short walls, with or without slow cells, and a deep lookahead.
+fn winding_kit(wish: Wish, dice: &mut Dice) -> Kit {
+    let (width, height) = (dice.from_to(7, 17) as usize, dice.from_to(7, 17) as usize);
+    let mut floor: Vec<u8> = if dice.chance(40) {
+        floors::floor(Kind::Walls, width, height, dice)
+    } else {
+        let percent = dice.from_to(30, 50);
+        (0..width * height).map(|_| u8::from(dice.chance(percent))).collect()
+    };
+    if wish == Wish::MixedMoves {
+        slow::lay(&mut floor, width, dice);
+    } else {
+        slow::now_and_then(&mut floor, width, dice);
+    }
+    let mut kit = jobs::kit_on(floor, width, height, dice);
+    kit.depth = dice.from_to(3, 8);
+    kit
 }
 
-fn comes_true(wish: Wish, floor: &Floor, window: &Window, mixed: &[bool], cell: usize) -> bool {
-    let before = |way: usize| comes_from(floor, window, cell, way);
+fn comes_true(wish: Wish, floor: &Floor, window: &mut Window, mixed: &[bool], cell: usize) -> bool {
+    let before = |way: usize| window.comes_from(floor, cell, way);
     match wish {
         Wish::MoreMoves => window.cost(cell) < cost_in_fewest_moves(floor, window, cell),
         Wish::WestAndEast => before(6) && before(2),
         Wish::Tie => (0..8).filter(|&way| before(way)).count() > 1,
         Wish::MixedMoves => mixed[cell],
+        Wish::Weaving => weaving::weaves(floor, window, cell),
     }
 }
 
@@ -118,9 +129,8 @@ fn mixed_moves(floor: &Floor, window: &Window) -> Vec<bool> {
     // The fewest and the most moves of a cheapest walk.
     let mut span = vec![(0, 0); floor.cells()];
     for &cell in &cells[1..] {
-        let spans = (0..8)
-            .filter(|&way| comes_from(floor, window, cell, way))
-            .map(|way| span[floor.after(cell, way)]);
+        let spans =
+            (0..8).filter(|&way| window.comes_from(floor, cell, way)).map(|way| span[floor.after(cell, way)]);
         let (fewest, most) =
             spans.fold((usize::MAX, 0), |(a, b), (fewest, most)| (a.min(fewest), b.max(most)));
         span[cell] = (fewest + 1, most + 1);
