@@ -20,7 +20,7 @@ use Rattle.model.specs.Basics.{member}
 use Rattle.model.specs.Floor.{size, free, goalsOf}
 use Rattle.model.specs.Checks.{ceiling, floorOf}
 use Rattle.model.specs.Lookahead.{seen, ring, w, emptyRing, target}
-use Rattle.model.specs.Decision.{Deed, Outcome, atGoal, judge, refused, unchanged, rise, stored, forward, backOut, stay, goBack, learn, act, outcomeOf, decide, laid}
+use Rattle.model.specs.Decision.{Deed, Outcome, atGoal, judge, refused, unchanged, rise, stored, forward, forwardBy, backOut, backOutBy, stay, goBack, learn, act, outcomeOf, decide, laid}
 use Rattle.model.proofs.Accepted.{never}
 use Rattle.model.proofs.Moves.{sized-cells, free-below, free-few}
 use Rattle.model.proofs.Held.{or-false, at-goal}
@@ -181,7 +181,7 @@ module _ (lent : List ℕ) (from : ℕ) where
     acts-back : (l count leg : ℕ) (moves : List ℕ) → Lays lent from (wayBack j bytes l (s .current)) moves count → leg ≡ w j bytes (seen j bytes l) (s .current)
         → Acts (backOut j bytes s (seen j bytes l) table path new l) lent from
         (record { answer = A.BackedOut l a count; state = record { current = l; learned = s .learned; length = s .length - 1 }; rise = a; cost = leg; base = base }) table′ path moves
-    unfolding backOut
+    unfolding backOutBy
     acts-back l count leg moves y e = record {
       answer = ap₂ (A.BackedOut l) risen (y .count);
       state = refl;
@@ -196,7 +196,7 @@ module _ (lent : List ℕ) (from : ℕ) where
         → Extended path (s .length) (s .current) t path′ place′ len → leg ≡ w j bytes (seen j bytes (s .current)) t
         → Acts (forward j bytes s (seen j bytes (s .current)) table path new t) lent from
         (record { answer = A.Forward t a count; state = record { current = t; learned = s .learned + a; length = len }; rise = a; cost = leg; base = base }) table′ path′ moves
-    unfolding forward
+    unfolding forwardBy
     acts-forward t count leg len moves path′ place′ y x e = record {
       answer = ap₂ (A.Forward t) risen (y .count);
       state = ap₂ (λ u n. record { current = t; learned = s .learned + u; length = n }) risen (x .length);

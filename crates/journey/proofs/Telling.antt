@@ -21,8 +21,8 @@ use Rattle.model.specs.Basics.{member}
 use Rattle.model.specs.Floor.{goalsOf}
 use Rattle.model.specs.Checks.{ceiling}
 use Rattle.model.specs.Lookahead.{seen, ring, emptyRing, newFigure, target, mostMoves}
-use Rattle.model.specs.Decision.{Deed, atGoal, rise, forward, stay, backOut, goBack, learn, act}
-use Rattle.model.specs.Ride.{Ride, next, report}
+use Rattle.model.specs.Decision.{Deed, atGoal, rise, forwardBy, stay, backOutBy, goBack, goBackBy, learn, learnBy, act, actBy}
+use Rattle.model.specs.Ride.{Ride, next, nextBy, report}
 use Rattle.model.specs.Line.{field, movesField, trialLine}
 use Rattle.model.proofs.Openings as openings
 use Rattle.model.proofs.Steps.{Does}
@@ -139,19 +139,19 @@ either false x y h k = k
 
 module _ (j : Job) (bytes : List ℕ) (s : State) (table path : List ℕ) where
   back-counted : (new : ℕ) → Counted (goBack j bytes s table path new)
-  unfolding goBack stay backOut
+  unfolding goBackBy stay backOutBy
   back-counted new =
       either (eqb (s .length) 0) _ _ refl
       (either (eqb (ring j bytes (seen j bytes (getD path (s .length - 1) 0)) (s .current)) (seen j bytes (getD path (s .length - 1) 0) .last)) _ _ refl refl)
 
   learn-counted : (v : View) (new t : ℕ) → Counted (learn j bytes s v table path new t)
-  unfolding learn forward
+  unfolding learnBy forwardBy
   learn-counted v new t =
       either (ltb (getD table (s .current) 0) new && ltb ceiling new) _ _ refl
       (either (leb (s .learned + rise table (s .current) new) (j .q * j .quota)) _ _ refl (back-counted new))
 
   act-counted : Counted (act j bytes s table path)
-  unfolding act
+  unfolding actBy
   act-counted =
       let v = seen j bytes (s .current) in
       either (atGoal j bytes (s .current)) _ _ refl (either (emptyRing j bytes v (v .last)) _ _ refl (learn-counted v (newFigure j bytes v table) (target j bytes v table)))
@@ -190,13 +190,13 @@ module _ (j : Job) (bytes : List ℕ) (start : ℕ) (table₀ path₀ : List ℕ
 
     -- told after the moves before it, they are those of the ride so far
     pub more-moves : moveDigits (g .at .moves) ++ moveDigits (take (r .moves) moves′) ≡ moveDigits (next j bytes (g .at) .moves)
-    unfolding next
+    unfolding nextBy
     more-moves =
         ap (λ l. moveDigits (g .at .moves) ++ moveDigits l) (way-is ∙ ap (λ x. x .way) (sym same))
         ∙ sym (digits-more (g .at .moves) (act j bytes (g .at .state) (g .at .table) (g .at .path) .way))
 
     pub moved-more : (some (g .at .moves) || ltb 0 (r .moves)) ≡ some (next j bytes (g .at) .moves)
-    unfolding next
+    unfolding nextBy
     moved-more =
         ap (λ (n : ℕ). some (g .at .moves) || ltb 0 n) (counted ∙ ap (λ x. length (x .way)) (sym same))
         ∙ sym (some-more (g .at .moves) (act j bytes (g .at .state) (g .at .table) (g .at .path) .way))

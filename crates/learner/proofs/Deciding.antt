@@ -20,8 +20,8 @@ use Rattle.answers.specs.declared.Verdict.the-variants as Vd
 use Rattle.answers.proofs.One.{answer-one}
 use Rattle.model.specs.Floor.{size}
 use Rattle.model.specs.Checks.{floorOf}
-use Rattle.model.specs.Decision.{atGoal, Deed, rise, forward, backOut, stay, act, laid, outcomeOf, decide}
-use Rattle.model.specs.Ride.{Ride, begun, next, rideFrom, learningJob, bound, ride}
+use Rattle.model.specs.Decision.{atGoal, Deed, rise, forwardBy, backOutBy, stay, act, laid, outcomeOf, decide}
+use Rattle.model.specs.Ride.{Ride, begun, next, rideFrom, rideFromBy, learningJob, bound, ride, rideBy}
 use Rattle.model.proofs.Moves.{is-true, free-below}
 use Rattle.model.proofs.Accepted.{fails}
 use Rattle.model.proofs.Openings.{Held, Ready}
@@ -47,7 +47,7 @@ laid-hands moves from way h =
 module _ (j : Job) (bytes : List ℕ) (H : Held j bytes) {start : ℕ} (s : State) (table path : List ℕ) (k : Keeps (learningJob j bytes) start (asState s table path))
     (room : size (floorOf j bytes) ≤ length path) (aside : atGoal j bytes (s .current) ≡ false) (moves : List ℕ) (from : ℕ) (h : from ≤ length moves) where
   deed-hands : handed (act j bytes s table path .answer) from (laid moves from (act j bytes s table path .way)) ≡ act j bytes s table path .way
-  unfolding forward backOut stay
+  unfolding forwardBy backOutBy stay
   deed-hands = by (decLe (s .learned + rise table (s .current) (newHere j bytes s table)) (j .q * j .quota)) (decLe 1 (s .length))
     where
       Hands : Deed → Type 0
@@ -60,7 +60,7 @@ module _ (j : Job) (bytes : List ℕ) (H : Held j bytes) {start : ℕ} (s : Stat
 
 -- rides one after another are one ride
 ride-add : (j : Job) (bytes : List ℕ) (n k : ℕ) (r : Ride) → rideFrom j bytes (n + k) r ≡ rideFrom j bytes k (rideFrom j bytes n r)
-unfolding rideFrom
+unfolding rideFromBy
 ride-add j bytes zero k r = let same : 0 + k ≡ k = omega arith in ap (λ m. rideFrom j bytes m r) same
 ride-add j bytes (suc n) k r = by (atGoal j bytes (r .state .current)) refl (ride-add j bytes n k)
   where
@@ -91,7 +91,7 @@ module _ (j : Job) (bytes : List ℕ) (start : ℕ) (table path : List ℕ) (rea
   at-bench h = ap (atGoal j bytes) h ∙ is-true _ (goal-is (floorOf j bytes) (j .goal) (free-below (floorOf j bytes) (j .goal) (ready .opened .held .bench)))
 
   pub whole : here .decisions ≡ n → atGoal j bytes (here .state .current) ≡ true → here ≡ ride j bytes start table path
-  unfolding ride
+  unfolding rideBy
   whole count g =
       let k = bound j bytes table - n in
       let enough : n + k ≡ bound j bytes table = omega (arith, few) in
@@ -128,7 +128,7 @@ module _ (j : Job) (bytes : List ℕ) (start : ℕ) (table path : List ℕ) (rea
       aside = fails (atGoal j bytes (here .state .current)) (λ g. not (arrives g))
 
       pub goes-on : after j bytes start table path (suc n) ≡ next j bytes here
-      unfolding rideFrom
+      unfolding rideFromBy
       goes-on = ap (after j bytes start table path) (sym (add-one n)) ∙ ride-add j bytes n 1 (begun start table path) ∙ ride-on j bytes 0 here aside
 
       pub hands : handed (r .answer) from m ≡ deed .way

@@ -26,7 +26,7 @@ use Rattle.answers.proofs.One.{answer-one, tried-one, ran-one}
 use Rattle.model.specs.Checks.{floorOf, sizes, pathRoom, settings}
 use Rattle.model.specs.Decision.{atGoal, act, decide}
 use Rattle.model.specs.Opening.{openJob, openTrial, openRun}
-use Rattle.model.specs.Ride.{Ride, begun, next, rideFrom, report, ride, trial, Course, courseFrom, run}
+use Rattle.model.specs.Ride.{Ride, begun, nextBy, rideFrom, rideFromBy, report, ride, trial, Course, courseFrom, courseFromBy, run}
 use Rattle.model.proofs.Accepted.{then-done, then-next, reports-judges, trials-judges}
 use Rattle.model.proofs.Openings.{Ready, opened, ready, accepted-trial, ready-run}
 use Rattle.model.proofs.Meaning.{net, goal-means}
@@ -135,7 +135,7 @@ pub record RunKept (j : Job) (bytes : List ℕ) (start n : ℕ) (before after : 
 
 course-keeps : (j : Job) (bytes : List ℕ) (start k : ℕ) (table path : List ℕ) → Ready j bytes start table path
     → EachKept j bytes start table (map (report j bytes) (courseFrom j bytes start k table path .rides)) (courseFrom j bytes start k table path .table)
-unfolding courseFrom
+unfolding courseFromBy
 course-keeps j bytes start zero table path A = no-more
 course-keeps j bytes start (suc k) table path A = by (eqb (r .learned) 0) refl (course-keeps j bytes start k (r .table) (r .path) (ready-after j bytes start table path A))
   where
@@ -299,7 +299,7 @@ module _ (j : Job) (bytes : List ℕ) (start : ℕ) (table path : List ℕ) (a :
     path-is : p ≡ stands n .path
 
   along : {n : ℕ} {moved : List ℕ} {s : State} {t p : List ℕ} → Decisions j bytes start table path n moved s t p → Along n moved s t p
-  unfolding rideFrom next
+  unfolding rideFromBy nextBy
   along none = record { count = refl; moves-are = refl; state-is = refl; table-is = refl; path-is = refl }
   along (another {n = n} k moves from room h not) =
       let o = along k in

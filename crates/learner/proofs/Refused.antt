@@ -26,9 +26,9 @@ use Rattle.answers.proofs.One.{answer-one, verdict-one}
 use Rattle.model.specs.Floor.{Floor}
 use Rattle.model.specs.Checks.{ceiling}
 use Rattle.model.specs.Lookahead.{seen, ring, emptyRing}
-use Rattle.model.specs.Decision.{atGoal, Deed, rise, forward, backOut, stay, goBack, act, laid, judge, outcomeOf, decide}
+use Rattle.model.specs.Decision.{atGoal, Deed, rise, forwardBy, backOutBy, stay, goBack, act, laid, judge, outcomeOf, decide}
 use Rattle.model.specs.Opening.{openTrial, openRun, filled}
-use Rattle.model.specs.Ride.{ride, trialOf, trial, courseFrom, runOf, run}
+use Rattle.model.specs.Ride.{ride, trialOf, trial, trialBy, courseFrom, runOf, run, runBy}
 use Rattle.model.specs.FloorText.{floorVerdict, floorFrom, readFloor}
 use Rattle.model.specs.FloorWritten.{textOf, textVerdict, writeFloor}
 use Rattle.model.specs.TableFile.{readVerdict, readOf, readTable, writeVerdict, fileOf, writeTable}
@@ -49,7 +49,7 @@ module _ (j : Job) (bytes : List ℕ) (s : State) (table path : List ℕ) where
   Idle d = (x : Refusal) → d .answer ≡ A.Refused x → (d .state ≡ s) × (d .table ≡ table) × (d .path ≡ path) × (d .way ≡ [])
 
   act-idle : Idle (act j bytes s table path)
-  unfolding forward backOut stay
+  unfolding forwardBy backOutBy stay
   act-idle =
       by (atGoal j bytes (s .current)) refl (emptyRing j bytes v (v .last)) refl
       (ltb (getD table (s .current) 0) new && ltb ceiling new) refl (leb (s .learned + rise table (s .current) new) (j .q * j .quota)) refl
@@ -107,7 +107,7 @@ module _ (j : Job) (bytes : List ℕ) (s : State) (table path : List ℕ) where
 -- `trial`: the table and the path
 pub refused-trial : (j : Job) (bytes : List ℕ) (start : ℕ) (table path : List ℕ) {x : Refusal} {t p : List ℕ} → IsTrial (trial j bytes start table path) (Td.Refused x) t p
     → (t ≡ table) × (p ≡ path)
-unfolding trial
+unfolding trialBy
 refused-trial j bytes start table path {x} {t} {p} = by (openTrial j bytes start table path)
   where
     by : (v : Verdict) → IsTrial (trialOf v j bytes (ride j bytes start table path) table path) (Td.Refused x) t p → (t ≡ table) × (p ≡ path)
@@ -117,7 +117,7 @@ refused-trial j bytes start table path {x} {t} {p} = by (openTrial j bytes start
 -- `run`: the table, the path and the records
 pub refused-run : (j : Job) (bytes : List ℕ) (start trials : ℕ) (table path : List ℕ) (lent : List Report) {x : Refusal} {t p : List ℕ} {reports : List Report}
     → IsRun (run j bytes start trials table path lent) (Rn.Refused x) t p reports → (t ≡ table) × (p ≡ path) × (reports ≡ lent)
-unfolding run
+unfolding runBy
 refused-run j bytes start trials table path lent {x} {t} {p} {reports} = by (openRun j bytes start table path trials (length lent))
   where
     by : (v : Verdict) → IsRun (runOf v j bytes (courseFrom j bytes start trials table path) table path lent) (Rn.Refused x) t p reports → (t ≡ table) × (p ≡ path) × (reports ≡ lent)

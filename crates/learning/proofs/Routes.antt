@@ -1,10 +1,9 @@
 -- The route is a walk in the window from the cell to the target, at the target's cost.
-use Prim.Native.Nat.{ℕ, zero, suc, _+_, _*_, _≤_, _<_}
+use Prim.Native.Nat.{ℕ, zero, suc, _+_, _≤_, _<_}
 use mathlib.Core.Path.{_≡_, refl, sym, ap, _∙_, subst}
 use mathlib.Core.Bool.{Bool, true, false, _&&_}
 use mathlib.Core.Logic.{_≢_}
 use mathlib.Core.List.{List, [], _∷_, _++_}
-use native.Mathlib.Nat.{le-trans, mul-le-mul-left}
 use native.Mathlib.Omega.{arith}
 use lib.Dec.{T, eqb, leb, eqb→eq, eqb-refl, leb→le, le→leb}
 use lib.ListN.{length}
@@ -17,7 +16,7 @@ use Rattle.learning.proofs.Sound.{ring-self}
 use Rattle.learning.proofs.Spread.{both-true, first-true, second-true}
 use Rattle.learning.proofs.Ground.{window}
 use Rattle.learning.proofs.Look.{lowest-low, lowest-met, eqb-of}
-use Rattle.learning.proofs.Route.{Before, some-before, leg-moves}
+use Rattle.learning.proofs.Route.{Before, some-before}
 
 -- a chain is a walk of as many moves as it has cells
 pub chain-walk : {N : Network} {S : ℕ → Type 0} {a z c : ℕ} {xs : List ℕ} → Chain N S a xs z c → Walk N S a z c (length xs)
@@ -117,15 +116,6 @@ module _ (G : Ground) (d s : ℕ) (deep : 1 ≤ d) (floor : s < G .cells) (g : �
   enough (suc n) (suc m) false x e h k l =
       let y = prior-before x l (λ q. subst T e (eqb-of x s q)) in
       ap (λ xs. xs ++ x ∷ []) (enough n m (eqb (prior x) s) (prior x) refl (omega (arith, y .exact, y .edge .0)) (omega (arith, y .exact, y .edge .0)) (y .near))
-
-  -- its number of moves
-  pub route-short : (x : ℕ) → ringOf G d s x ≤ lastOf G d s → length (routeOf G d s x) * G .least ≤ G .dearest * d
-  route-short x l =
-      omega (
-        arith,
-        leg-moves W (G .dearest) (λ a b c e. omega (arith, e .1, G .high a b)) x (length (routeOf G d s x)) l (chain-walk (route-chain x l)),
-        mul-le-mul-left (G .dearest) (le-trans l (W .depth)),
-      )
 
   -- the route to s is empty; to any other cell of the window it is the route to the cell before it, and then the cell
   pub route-none : routeOf G d s s ≡ []

@@ -19,9 +19,9 @@ use Rattle.model.proofs.Rings.{empty-full}
 use Rattle.lookahead.specs.Contract.{Asked, Near, Figures, Aimed}
 use Rattle.lookahead.specs.Contract as contract
 use Rattle.lookahead.specs.Marks.{In}
-use Rattle.lookahead.specs.Costs.{at, Listing}
-use Rattle.lookahead.specs.Bests.{mostRings, ringAt, unset, Scores, Bests, Topped}
-use Rattle.lookahead.proofs.Meaning.{start-on, not-goal, job-window, near-cell, near-few, near-leg, near-of, near-high, seen-window}
+use Rattle.lookahead.specs.Costs.{Listing}
+use Rattle.lookahead.specs.Bests.{mostRings, ringAt, coarseAt, unset, Scores, Bests, Topped}
+use Rattle.lookahead.proofs.Meaning.{start-on, not-goal, job-window, near-cell, near-few, near-cost, near-of, near-high, seen-window, seen-coarse}
 use Rattle.lookahead.proofs.Weighing.{weighed, weighed-high}
 
 -- no cell is entered
@@ -42,8 +42,8 @@ module _ (j : Job) (bytes : List ℕ) (s : ℕ) (Q : Asked j bytes s) (table : L
     unfolding lastOf
     last-eq = W .last-is
 
-    Y : Window (netOf G) (Goal G) (j .depth) s last (ringAt base mark) (at cost)
-    Y = subst (λ m. Window (netOf G) (Goal G) (j .depth) s m (ringAt base mark) (at cost)) (sym last-eq) (seen-window j bytes s Q base mark cost (W .view))
+    Y : Window (netOf G) (Goal G) (j .depth) s last (ringAt base mark) (coarseAt cost)
+    Y = subst (λ m. Window (netOf G) (Goal G) (j .depth) s m (ringAt base mark) (coarseAt cost)) (sym last-eq) (seen-coarse j bytes s Q base mark cost (W .view))
 
     near : (x : ℕ) → In base mark x → Near j bytes s x
     near = near-of j bytes s Q base mark cost (W .view)
@@ -55,7 +55,7 @@ module _ (j : Job) (bytes : List ℕ) (s : ℕ) (Q : Asked j bytes s) (table : L
       costs = W .view .size;
       inside = λ x i. (near-few j bytes s Q x (near x i), omega (arith, near-cell j bytes s Q x (near x i), T .size));
       top = near-high j bytes s Q base mark cost (W .view);
-      small = λ x i. (omega (arith, W .view .costs x (near x i), near-leg j bytes s Q x (near x i)), T .small x);
+      small = λ x i. (omega (arith, W .view .costs x (near x i), near-cost j bytes s Q x (near x i)), T .small x);
     }
 
     pub listing : Listing base mark list n
@@ -81,7 +81,7 @@ module _ (j : Job) (bytes : List ℕ) (s : ℕ) (Q : Asked j bytes s) (table : L
       deep : last ≤ deepest
       deep = omega (arith, W .depth, Q .deep)
 
-      A : Ahead (j .p) last (ringAt base mark) (at cost) (figure table) (top / 4096) target
+      A : Ahead (j .p) last (ringAt base mark) (coarseAt cost) (figure table) (top / 4096) target
       A = weighed base mark cost table (j .p) list n last best scores listing B deep full (W .some) top M
 
       on-last : ringOf G (j .depth) s target ≡ lastOf G (j .depth) s
@@ -89,7 +89,7 @@ module _ (j : Job) (bytes : List ℕ) (s : ℕ) (Q : Asked j bytes s) (table : L
           let e = A .on-last in
           ring-unique (seen-window j bytes s Q base mark cost (W .view)) (job-window j bytes s Q) target (omega (arith, e, last-eq)) ∙ e ∙ last-eq
 
-      pub aimed : (leg : ℕ) → leg ≡ getD cost (getD best last 0 % 4096) 0
+      pub aimed : (leg : ℕ) → leg ≡ coarseAt cost (getD best last 0 % 4096)
           → Aimed j bytes s table (record { figure = top / 4096; target = getD best last 0 % 4096; leg = leg })
       unfolding ringOf lastOf legOf
       aimed leg e =

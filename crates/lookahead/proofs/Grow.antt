@@ -12,9 +12,11 @@ use borrow.Author.Count.{below-more}
 use lib.ListN.{length, getD, set, length-set}
 use lib.Seq.{getD-set-same, getD-set-other}
 use Rattle.learning.specs.Walk.{Walk, move, Leads}
+use Rattle.learning.specs.Stretch.{stretched, stretched-move}
 use Rattle.learning.proofs.Walks.{widen, restate}
 use Rattle.model.specs.Floor.{Floor, Sized, free, dearestPrice, price}
 use Rattle.model.specs.Grounds.{price-same}
+use Rattle.model.specs.Lookahead.{fineness, fine}
 use Rattle.floor.specs.declared.Step.the-variants.{To, Wall}
 use Rattle.floor.specs.Moves.{stepOf}
 use Rattle.floor.proofs.Steps.{Stepped, stepped, wall≢to, same-to}
@@ -22,9 +24,14 @@ use Rattle.lookahead.specs.Marks.{net, State, state, entered, markOf, co
 use Rattle.lookahead.proofs.Blanks.{blanks-pos, blanks-set}
 use Rattle.lookahead.proofs.Stores.{by-store}
 
--- the move back, as an edge
-pub edge-back : (f : Floor) (z : Sized f) (c m d v : ℕ) → stepOf f c m ≡ To d v → (1 ≤ v) × (price f d c ≡ v)
-edge-back f z c m d v step = let s = stepped f z c m d v step in (omega (arith, s .least), price-same f d c ∙ s .price)
+-- the move back, its price, and as a fine one
+pub price-back : (f : Floor) (z : Sized f) (c m d v : ℕ) → stepOf f c m ≡ To d v → (1 ≤ v) × (price f d c ≡ v)
+price-back f z c m d v step = let s = stepped f z c m d v step in (omega (arith, s .least), price-same f d c ∙ s .price)
+
+pub edge-back : (f : Floor) (z : Sized f) (c m d v : ℕ) → stepOf f c m ≡ To d v → net f .Edge d c (fine v)
+edge-back f z c m d v step =
+    let (some, e) = price-back f z c m d v step in
+    (omega arith, ap (stretched fineness 1) e ∙ stretched-move fineness 1 v some)
 
 -- the state with the mark k + 1 and the cost u at d
 abbrev pub grown : (k d u : ℕ) → State → State
@@ -58,7 +65,7 @@ module _
     (from : markOf S c ≡ k) (own : costAt S c ≡ w) (pos : base ≤ k) (step : stepOf f c m ≡ To d v)
   where
     abbrev u : ℕ
-    u = w + v
+    u = w + fine v
 
     E : Stepped f c m d v
     E = stepped f z c m d v step
@@ -116,9 +123,9 @@ module _
       grown-kept : Kept base S (grown k d u S)
       grown-kept = record { marks = marks-kept; costs = λ x p. omega (arith, costs-kept x p); cells = cells-kept; grows = omega arith }
 
-      grown-cheap : (x : ℕ) → In base mark′ x → costAt (grown k d u S) x ≤ dearestPrice * (getD mark′ x 0 - base)
+      grown-cheap : (x : ℕ) → In base mark′ x → costAt (grown k d u S) x ≤ fine dearestPrice * (getD mark′ x 0 - base)
       grown-cheap x =
-          by-store (λ y. base ≤ y → costAt (grown k d u S) x ≤ dearestPrice * (y - base)) (S .mark) d (k + 1) x inside
+          by-store (λ y. base ≤ y → costAt (grown k d u S) x ≤ fine dearestPrice * (y - base)) (S .mark) d (k + 1) x inside
           (λ e p. rw (e, cost-new) (omega (arith, E .most, R .cheap c from-in, own, from, pos)))
           (λ n p. rw (costs-kept x p) (R .cheap x p))
 
@@ -127,10 +134,10 @@ module _
 
       -- the new cell's moves were not followed; those of the others lead where they led
       grown-notes : (i : ℕ) → i < S .n + 1 → (j x y : ℕ) → j < 8 → stepOf f (cellOf (grown k d u S) i) j ≡ To x y
-          → (noteAt (grown k d u S .list) i ≡ 65535) ⊎ (In base mark′ x × (costAt (grown k d u S) x ≤ noteAt (grown k d u S .list) i + y))
+          → (noteAt (grown k d u S .list) i ≡ 65535) ⊎ (In base mark′ x × (costAt (grown k d u S) x ≤ noteAt (grown k d u S .list) i + fine y))
       grown-notes i l j x y lj e = by (decLt i (S .n))
         where
-          by : Dec (i < S .n) → (noteAt (grown k d u S .list) i ≡ 65535) ⊎ (In base mark′ x × (costAt (grown k d u S) x ≤ noteAt (grown k d u S .list) i + y))
+          by : Dec (i < S .n) → (noteAt (grown k d u S .list) i ≡ 65535) ⊎ (In base mark′ x × (costAt (grown k d u S) x ≤ noteAt (grown k d u S .list) i + fine y))
           by (yes p) =
               rw (entered-note (S .list) (S .n) d (R .sizes .cells) space i p)
               (⊎-elim inl (λ q. inr (stays-in x (q .0), omega (arith, q .1, costs-kept x (q .0))))
@@ -149,7 +156,7 @@ module _
         grown-walks x =
             by-store (λ y. base ≤ y → (a : ℕ) × Walk (net f) (In base mark′) x s a (y - base)) (S .mark) d (k + 1) x inside
             (λ e p. let g = G .walks c from-in in
-            rw e (v + g .0, restate refl (omega (arith, from, pos)) (move (rw mark-new (omega (arith, pos))) (edge-back f z c m d v step) (widen stays-in (g .1)))))
+            rw e (fine v + g .0, restate refl (omega (arith, from, pos)) (move (rw mark-new (omega (arith, pos))) (edge-back f z c m d v step) (widen stays-in (g .1)))))
             (λ n p. let g = G .walks x p in (g .0, widen stays-in (g .1)))
 
         grown-costs : (x : ℕ) → In base mark′ x → Leads (net f) (In base mark′) x s (costAt (grown k d u S) x)
@@ -185,17 +192,17 @@ module _
           upto = omega (arith, G .upto);
         }
 
-      pub grown-grew : Grew f base k S (grown k d (w + v) S)
+      pub grown-grew : Grew f base k S (grown k d (w + fine v) S)
       grown-grew = record { room = grown-room; kept = grown-kept; spread = grown-spread }
 
-      pub grown-out : In base (set (S .mark) d (k + 1)) d × (getD (set (S .cost) d (w + v)) d 0 ≤ w + v)
+      pub grown-out : In base (set (S .mark) d (k + 1)) d × (getD (set (S .cost) d (w + fine v)) d 0 ≤ w + fine v)
       grown-out = (rw mark-new (omega (arith, pos)), omega (arith, cost-new))
 
-      pub grown-stays : getD (set (S .cost) d (w + v)) c 0 ≡ w
+      pub grown-stays : getD (set (S .cost) d (w + fine v)) c 0 ≡ w
       grown-stays = costs-kept c from-in ∙ own
 
     -- d has one, and its cost is lowered
-    module _ (to-in : In base (S .mark) d) (less : w + v < costAt S d) where
+    module _ (to-in : In base (S .mark) d) (less : w + fine v < costAt S d) where
       abbrev L : State
       L = state (S .mark) (set (S .cost) d u) (S .list) (S .n)
 
@@ -216,17 +223,17 @@ module _
           (λ e p. let g = G .costs c from-in in rw e (suc (g .0), restate (omega (arith, own)) refl (move to-in (edge-back f z c m d v step) (g .1))))
           (λ n p. G .costs x p)
 
-      pub lower-grew : Grew f base k S (state (S .mark) (set (S .cost) d (w + v)) (S .list) (S .n))
+      pub lower-grew : Grew f base k S (state (S .mark) (set (S .cost) d (w + fine v)) (S .list) (S .n))
       lower-grew = record {
         room = lower-room;
         kept = record { marks = λ x p. refl; costs = λ x p. falls x; cells = λ i p. refl; grows = omega arith };
         spread = λ s to G. record { top = G .top; walks = G .walks; costs = lower-costs s to G; listed = G .listed; early = G .early; late = G .late; upto = G .upto };
       }
 
-      pub lower-out : getD (set (S .cost) d (w + v)) d 0 ≤ w + v
+      pub lower-out : getD (set (S .cost) d (w + fine v)) d 0 ≤ w + fine v
       lower-out = omega (arith, getD-set-same (S .cost) d u 0 inside-cost)
 
-      pub lower-stays : getD (set (S .cost) d (w + v)) c 0 ≡ w
+      pub lower-stays : getD (set (S .cost) d (w + fine v)) c 0 ≡ w
       lower-stays = by-store (λ y. y ≡ w) (S .cost) d u c inside-cost (λ e. absurd (omega (arith, less, own, ap (costAt S) e))) (λ n. own)
 
 -- a marked cell stays marked
@@ -256,31 +263,31 @@ grew-trans f base k A B C p q =
 module _
     (f : Floor) (z : Sized f) (base k c m d v w : ℕ) (S S′ : State) (R : Room f base S)
     (from : markOf S c ≡ k) (own : costAt S c ≡ w) (pos : base ≤ k) (step : stepOf f c m ≡ To d v)
-    (E : Reached base d (k + 1) (w + v) S S′)
+    (E : Reached base d (k + 1) (w + fine v) S S′)
   where
     -- what the move gives in a state T, where it leads
-    extends : (T : State) → Grew f base k S T → In base (T .mark) d × (costAt T d ≤ w + v) → costAt T c ≡ w → Extended f base k c m w S T
+    extends : (T : State) → Grew f base k S T → In base (T .mark) d × (costAt T d ≤ w + fine v) → costAt T c ≡ w → Extended f base k c m w S T
     extends T G o e = record {
       grew = G;
       out = λ x y q. let t = same-to (sym step ∙ q) in (subst (In base (T .mark)) (t .0) (o .0), omega (arith, o .1, t .1, ap (costAt T) (t .0)));
       stays = e;
     }
 
-    by-cost : In base (S .mark) d → Dec (w + v < costAt S d) → Extended f base k c m w S S′
+    by-cost : In base (S .mark) d → Dec (w + fine v < costAt S d) → Extended f base k c m w S S′
     by-cost i (yes l) =
         rw (E .low i l)
-        (extends (state (S .mark) (set (S .cost) d (w + v)) (S .list) (S .n))
+        (extends (state (S .mark) (set (S .cost) d (w + fine v)) (S .list) (S .n))
         (lower-grew f z base k c m d v w S R from own pos step i l) (i, lower-out f z base k c m d v w S R from own pos step i l) (lower-stays f z base k c m d v w S R from own pos step i l))
     by-cost i (no n) =
-        let l : costAt S d ≤ w + v = omega (arith, n) in
+        let l : costAt S d ≤ w + fine v = omega (arith, n) in
         rw (E .old i l) (extends S (grew-refl f base k S R) (i, l) own)
 
     by-mark : Dec (base ≤ markOf S d) → Extended f base k c m w S S′
-    by-mark (yes i) = by-cost i (decLt (w + v) (costAt S d))
+    by-mark (yes i) = by-cost i (decLt (w + fine v) (costAt S d))
     by-mark (no n) =
         let b : markOf S d < base = omega (arith, n) in
         rw (E .new b)
-        (extends (grown k d (w + v) S)
+        (extends (grown k d (w + fine v) S)
         (grown-grew f z base k c m d v w S R from own pos step b) (grown-out f z base k c m d v w S R from own pos step b) (grown-stays f z base k c m d v w S R from own pos step b))
 
     pub extended-to : Extended f base k c m w S S′
@@ -297,7 +304,7 @@ left-none f base k c w S R own = record { grew = grew-refl f base k S R; out = �
 pub left-more : (f : Floor) (base k c m w : ℕ) (A B C : State) → Left f base k c m w A B → Extended f base k c m w B C → Left f base k c (m + 1) w A C
 left-more f base k c m w A B C p q = record {
   grew = grew-trans f base k A B C (p .grew) (q .grew);
-  out = below-more (λ i. (d v : ℕ) → stepOf f c i ≡ To d v → In base (C .mark) d × (costAt C d ≤ w + v)) m
+  out = below-more (λ i. (d v : ℕ) → stepOf f c i ≡ To d v → In base (C .mark) d × (costAt C d ≤ w + fine v)) m
       (λ i l d v e. let o = p .out i l d v e in (kept-in B C (q .grew .kept) d (o .0), omega (arith, o .1, q .grew .kept .costs d (o .0)))) (q .out);
   stays = q .stays;
 }
@@ -317,10 +324,10 @@ module _ (f : Floor) (base k c w i : ℕ) (A B : State) (L : Left f base k c 8 w
   cells j p = getD-set-other (B .list) (i + 4096) j w 0 (λ e. omega (arith, short))
 
   noted-notes : (j : ℕ) → j < B .n → (m d v : ℕ) → m < 8 → stepOf f (cellOf N j) m ≡ To d v
-      → (noteAt (N .list) j ≡ 65535) ⊎ (In base (B .mark) d × (costAt B d ≤ noteAt (N .list) j + v))
+      → (noteAt (N .list) j ≡ 65535) ⊎ (In base (B .mark) d × (costAt B d ≤ noteAt (N .list) j + fine v))
   noted-notes j p m d v lm e =
       let s = subst (λ y. stepOf f y m ≡ To d v) (cells j p) e in
-      by-store (λ y. (y ≡ 65535) ⊎ (In base (B .mark) d × (costAt B d ≤ y + v))) (B .list) (i + 4096) w (j + 4096) (omega (arith, R .sizes .cells, short))
+      by-store (λ y. (y ≡ 65535) ⊎ (In base (B .mark) d × (costAt B d ≤ y + fine v))) (B .list) (i + 4096) w (j + 4096) (omega (arith, R .sizes .cells, short))
       (λ q. let t : j ≡ i = omega (arith, q) in inr (L .out m lm d v (subst (λ y. stepOf f y m ≡ To d v) (ap (cellOf B) t ∙ here) s)))
       (λ q. R .notes j p m d v lm s)
 

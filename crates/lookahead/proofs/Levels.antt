@@ -10,9 +10,11 @@ use native.Mathlib.Decide.{decLe, decLt}
 use lib.ListN.{length, length-set}
 use lib.Seq.{getD-set-same}
 use Rattle.learning.specs.Walk.{Walk, stop, move, Any}
+use Rattle.learning.specs.Stretch.{stretched-some}
 use Rattle.learning.proofs.Walks.{restate}
 use Rattle.model.specs.Floor.{Floor, Sized, free, price}
 use Rattle.model.specs.Checks.{deepest}
+use Rattle.model.specs.Lookahead.{fineness}
 use Rattle.floor.specs.declared.Step.the-variants.{To}
 use Rattle.floor.specs.Moves.{stepOf}
 use Rattle.floor.proofs.Steps.{price-step}
@@ -180,7 +182,7 @@ module _ (f : Floor) (z : Sized f) (s base k from : ℕ) (S : State) (L : Level 
       → In base (S .mark) x × (markOf S x ≤ base + j + n)
   reach (stop t) j i l h = (i, omega arith)
   reach (move {a = a} {b = b} t e w) j i l h =
-      let (m, lm, step) = price-step f z a b (omega (arith, e .0, e .1)) in
+      let (m, lm, step) = price-step f z a b (stretched-some fineness 1 (price f a b) (omega (arith, e .0, e .1))) in
       let o = L .done a i (omega arith) m b (price f a b) lm step in
       let r = reach w (j + 1) (o .0) (omega (arith, o .1)) (omega arith) in
       (r .0, omega (arith, r .1))

@@ -8,6 +8,7 @@ use borrow.Author.Count.{below-more}
 use lib.ListN.{getD}
 use Rattle.model.specs.Floor.{Floor, Sized, price, heading, opposite}
 use Rattle.model.specs.Grounds.{price-same}
+use Rattle.model.specs.Lookahead.{fine}
 use Rattle.model.proofs.Moves.{opposite-lt, free-few}
 use Rattle.floor.specs.declared.Step.the-variants.{To, Wall}
 use Rattle.floor.specs.Moves.{stepOf}
@@ -16,7 +17,7 @@ use Rattle.lookahead.specs.declared.Link.{Link}
 use Rattle.lookahead.specs.Marks.{In}
 use Rattle.lookahead.specs.Costs.{Costs, at}
 use Rattle.lookahead.specs.Way.{Before, Linked, Prior}
-use Rattle.lookahead.proofs.Grow.{edge-back}
+use Rattle.lookahead.proofs.Grow.{price-back}
 
 module _ (f : Floor) (z : Sized f) (base : ℕ) (mark cost : List ℕ) (x : ℕ) where
   pub linked-none : (b : Link) → b .cell ≡ 4096 → Linked f base mark cost x 0 b
@@ -37,24 +38,24 @@ module _ (f : Floor) (z : Sized f) (base : ℕ) (mark cost : List ℕ) (x : ℕ)
     only P p y′ v′ t = subst P (same-to (sym s ∙ t) .0) p
 
     price-y : price f y x ≡ v
-    price-y = edge-back f z x j y v s .1
+    price-y = price-back f z x j y v s .1
 
     pub linked-out : getD mark y 0 < base → Linked f base mark cost x (j + 1) b
     linked-out e = linked-keep j b L (only (λ k. Before f base mark cost x k → b .cell ≤ k) (λ B. absurd (omega (arith, e, B .inside))))
 
-    pub linked-slack : (at cost y + v ≡ at cost x → ⊥) → Linked f base mark cost x (j + 1) b
-    linked-slack n = linked-keep j b L (only (λ k. Before f base mark cost x k → b .cell ≤ k) (λ B. absurd (n (ap (λ k. at cost y + k) (sym price-y) ∙ B .exact))))
+    pub linked-slack : (at cost y + fine v ≡ at cost x → ⊥) → Linked f base mark cost x (j + 1) b
+    linked-slack n = linked-keep j b L (only (λ k. Before f base mark cost x k → b .cell ≤ k) (λ B. absurd (n (ap (λ k. at cost y + fine k) (sym price-y) ∙ B .exact))))
 
     pub linked-high : b .cell ≤ y → Linked f base mark cost x (j + 1) b
     linked-high l = linked-keep j b L (only (λ k. Before f base mark cost x k → b .cell ≤ k) (λ B. l))
 
     -- the link is y
-    pub linked-new : j < 8 → In base mark y → at cost y + v ≡ at cost x → y < b .cell → Linked f base mark cost x (j + 1) (record { cell = y; m = opposite j })
+    pub linked-new : j < 8 → In base mark y → at cost y + fine v ≡ at cost x → y < b .cell → Linked f base mark cost x (j + 1) (record { cell = y; m = opposite j })
     linked-new l i t low =
         linked-keep j (record { cell = y; m = opposite j })
         (record {
           some = λ q. record {
-            before = record { inside = i; move = omega (arith, price-y, edge-back f z x j y v s .0); exact = ap (λ k. at cost y + k) price-y ∙ t };
+            before = record { inside = i; move = omega (arith, price-y, price-back f z x j y v s .0); exact = ap (λ k. at cost y + fine k) price-y ∙ t };
             heading = step-heading f z x j y v l s;
             one = opposite-lt j l;
           };

@@ -11,16 +11,17 @@ use borrow.Author.Count.{below-more}
 use lib.ListN.{length, getD, set, length-set}
 use lib.Seq.{getD-set-same, getD-set-other}
 use Rattle.learning.specs.Walk.{Walk, stop, move, Least, Leads}
+use Rattle.learning.specs.Stretch.{stretched-move, stretched-some}
 use Rattle.learning.proofs.Walks.{restate, first-in}
 use Rattle.model.specs.Floor.{Floor, Sized, leastPrice, price}
-use Rattle.model.specs.Lookahead.{dearestLeg}
+use Rattle.model.specs.Lookahead.{fineness, fine}
 use Rattle.model.specs.Grounds.{price-same}
 use Rattle.floor.specs.declared.Step.the-variants.{To, Wall}
 use Rattle.floor.specs.Moves.{stepOf}
 use Rattle.model.proofs.Moves.{free-few}
 use Rattle.floor.proofs.Steps.{stepped, price-step, wall≢to, same-to}
 use Rattle.lookahead.specs.Marks.{net, noteAt, In}
-use Rattle.lookahead.specs.Costs.{total, at, Costs, Walked, Under, Followed, Eased, Easing, Lowered, Lower, Listing, Noted, Topmost, Again, Passed, Relaxed}
+use Rattle.lookahead.specs.Costs.{total, at, dearestFine, Costs, Walked, Under, Followed, Eased, Easing, Lowered, Lower, Listing, Noted, Topmost, Again, Passed, Relaxed}
 use Rattle.lookahead.proofs.Stores.{by-store, set-self}
 use Rattle.lookahead.proofs.Grow.{edge-back}
 
@@ -82,13 +83,13 @@ module _ (f : Floor) (base : ℕ) (mark : List ℕ) where
     -- the cell moved into is lowered, or need not be
     module _ (z : Sized f) (d v : ℕ) (step : stepOf f c m ≡ To d v) (from : In base mark c) (to : In base mark d) where
       abbrev u : ℕ
-      u = w + v
+      u = w + fine v
 
       inside : d < length cost
       inside = omega (arith, free-few f d z (C .free d to), C .costs)
 
       -- what holds of the cell moved into
-      at-cell : (A : List ℕ) → at A d ≤ w + v → Under f base mark c m w A
+      at-cell : (A : List ℕ) → at A d ≤ w + fine v → Under f base mark c m w A
       at-cell A l x y s i = let q = same-to (sym step ∙ s) in omega (arith, l, q .1, ap (at A) (q .0))
 
       lowered-set : (b : Bool) → u < at cost d → Lowered f base mark (Eased f base mark c m w) cost b (set cost d u) true
@@ -97,7 +98,7 @@ module _ (f : Floor) (base : ℕ) (mark : List ℕ) where
           marks = C .marks;
           costs = simp length-set (C .costs);
           free = C .free;
-          small = λ x. by-store (λ y. In base mark x → y ≤ dearestLeg) cost d u x inside (λ e i. omega (arith, C .small d to)) (λ n i. C .small x i);
+          small = λ x. by-store (λ y. In base mark x → y ≤ dearestFine) cost d u x inside (λ e i. omega (arith, C .small d to)) (λ n i. C .small x i);
         };
         walked = λ s W x. by-store (λ y. In base mark x → Leads (net f) (In base mark) x s y) cost d u x inside
             (λ e i. let k = W c from in rw e (suc (k .0), restate (omega (arith, own)) refl (move to (edge-back f z c m d v step) (k .1)))) (λ n i. W x i);
@@ -111,7 +112,7 @@ module _ (f : Floor) (base : ℕ) (mark : List ℕ) where
         );
       }
 
-      pub eased : (b : Bool) (cost′ : List ℕ) (b′ : Bool) → Lower d (w + v) b cost cost′ b′ → Lowered f base mark (Eased f base mark c m w) cost b cost′ b′
+      pub eased : (b : Bool) (cost′ : List ℕ) (b′ : Bool) → Lower d (w + fine v) b cost cost′ b′ → Lowered f base mark (Eased f base mark c m w) cost b cost′ b′
       eased b cost′ b′ L = by (decLt u (at cost d))
         where
           by : Dec (u < at cost d) → Lowered f base mark (Eased f base mark c m w) cost b cost′ b′
@@ -148,9 +149,9 @@ module _ (f : Floor) (base : ℕ) (mark : List ℕ) where
     calm = λ z. rw e (omega (arith, own));
   }
 
-  -- where every cost is at most the least price above its own, following them lowers nothing
+  -- where every cost is at most the least fine price above its own, following them lowers nothing
   pub again-topped : Sized f → (i c w high : ℕ) (cost list : List ℕ) (b : Bool) → Costs f base mark cost → getD list i 0 ≡ c → at cost c ≡ w → Topmost base mark cost high
-      → high ≤ w + leastPrice → Again f base mark i cost list b cost (set list (i + 4096) w) b
+      → high ≤ w + fine leastPrice → Again f base mark i cost list b cost (set list (i + 4096) w) b
   again-topped z i c w high cost list b C e own top l = record {
     note = w;
     noted = refl;
@@ -214,8 +215,9 @@ module _ (f : Floor) (base : ℕ) (mark : List ℕ) where
     low : {x y c n : ℕ} → Walk (net f) (In base mark) x y c n → at cost x ≤ c + at cost y
     low (stop t) = omega arith
     low (move {a = a} {b = b} t e w) =
-        let (m, l, step) = price-step f z b a (omega (arith, e .0, e .1, price-same f a b)) in
-        omega (arith, low w, tight b (first-in w) m l a (price f b a) step t, e .1, price-same f a b)
+        let some = stretched-some fineness 1 (price f a b) (omega (arith, e .0, e .1)) in
+        let (m, l, step) = price-step f z b a (omega (arith, some, price-same f a b)) in
+        omega (arith, low w, tight b (first-in w) m l a (price f b a) step t, e .1, stretched-move fineness 1 (price f a b) some, price-same f a b)
 
     least : Walked f s base mark cost → (x : ℕ) → In base mark x → Least (Leads (net f) (In base mark) x s) (at cost x)
     least W x i = record { met = W x i; low = λ k v. omega (arith, low (v .1), start) }

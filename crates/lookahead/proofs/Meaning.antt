@@ -4,34 +4,36 @@ use mathlib.Core.Path.{_≡_, ap, _∙_, subst}
 use mathlib.Core.List.{List}
 use mathlib.Core.Bool.{true, false}
 use mathlib.Core.Logic.{_⊎_, inl, inr}
-use Prim.Native.Nat.{ℕ, _+_, _-_, _≤_, _<_}
+use Prim.Native.Nat.{ℕ, _+_, _-_, _/_, _≤_, _<_}
 use native.Mathlib.Omega.{arith}
 use native.Mathlib.Decide.{decLe}
 use lib.ListN.{length, getD}
 use Rattle.learning.specs.Walk.{Walk, stop, move, Any}
 use Rattle.learning.specs.Ahead.{Window}
 use Rattle.learning.specs.Ground.{Ground, Goal, netOf, ringOf, lastOf, legOf}
+use Rattle.learning.specs.Stretch.{stretched-some}
 use Rattle.learning.proofs.Walks.{turn, widen}
 use Rattle.learning.proofs.Unique.{last-unique, ring-unique, cost-unique}
 use Rattle.learning.proofs.Ground.{window}
 use Rattle.learning.proofs.Look.{walk-inside}
 use Rattle.learning.proofs.Same.{window-same}
 use Rattle.learning.proofs.Route.{leg-high}
+use Rattle.learning.proofs.Finer.{window-fine, leg-divided}
 use Rattle.answers.specs.declared.Job.{Job}
-use Rattle.model.specs.Floor.{Floor, size, free, dearestPrice}
-use Rattle.model.specs.Grounds.{price-free, price-high}
+use Rattle.model.specs.Floor.{Floor, size, free, price, dearestPrice}
+use Rattle.model.specs.Grounds.{price-free}
 use Rattle.model.specs.Checks.{deepest, floorOf, groundIn}
-use Rattle.model.specs.Lookahead.{seen, ring, w, emptyRing, dearestLeg}
+use Rattle.model.specs.Lookahead.{seen, ring, w, emptyRing, fineness, fine, fineIn}
 use Rattle.model.proofs.Cells.{cells-le}
 use Rattle.model.proofs.Moves.{is-true, free-below}
 use Rattle.model.proofs.Rings.{empty-none, empty-of}
 use Rattle.model.proofs.Meaning.{goal-means}
-use Rattle.lookahead.specs.Contract.{lastBase, Spent, Used, Asked, Near, Seen}
+use Rattle.lookahead.specs.Contract.{lastBase, Spent, Used, Asked, Near, fineCost, Seen}
 use Rattle.lookahead.specs.Contract as contract
 use Rattle.lookahead.specs.Marks.{state, In}
 use Rattle.lookahead.specs.Rings.{Framed, Blocked}
-use Rattle.lookahead.specs.Costs.{at, Relaxed}
-use Rattle.lookahead.specs.Bests.{ringAt}
+use Rattle.lookahead.specs.Costs.{at, dearestFine, Relaxed}
+use Rattle.lookahead.specs.Bests.{ringAt, coarseAt}
 use Rattle.lookahead.proofs.Weighing.{ring-in, in-ring}
 use Rattle.lookahead.proofs.Seeing.{array-window}
 
@@ -51,16 +53,16 @@ module _ (j : Job) (bytes : List ℕ) (s : ℕ) (Q : Asked j bytes s) where
   pub not-goal : ¬ Goal (groundIn j bytes) s
   not-goal g = Q .apart (goal-means f (j .goal) s g)
 
-  pub job-window : Window (netOf (groundIn j bytes)) (Goal (groundIn j bytes)) (j .depth) s (lastOf (groundIn j bytes) (j .depth) s)
-      (ringOf (groundIn j bytes) (j .depth) s) (legOf (groundIn j bytes) (j .depth) s)
-  job-window = window G d s start-on (Q .shallow) not-goal
+  pub job-window : Window (netOf (fineIn j bytes)) (Goal (groundIn j bytes)) (j .depth) s (lastOf (groundIn j bytes) (j .depth) s)
+      (ringOf (groundIn j bytes) (j .depth) s) (fineCost j bytes s)
+  job-window = window-fine G fineness d s (omega arith) (Q .shallow) start-on not-goal
 
   few-cells : size f ≤ 4096
   few-cells = cells-le (j .width) (j .height) (Q .sized .narrow) (Q .sized .low)
 
-  -- a cell of the window is on the floor, and its w is small
+  -- a cell of the window is on the floor, and its cost is small
   inside : (x : ℕ) → ringOf G d s x ≤ lastOf G d s → x < size f
-  inside x h = walk-inside G start-on (turn (job-window .attained x h .1))
+  inside x h = walk-inside (fineIn j bytes) start-on (turn (job-window .attained x h .1))
 
   pub near-cell : (x : ℕ) → Near j bytes s x → x < size (floorOf j bytes)
   unfolding ringOf lastOf
@@ -70,9 +72,9 @@ module _ (j : Job) (bytes : List ℕ) (s : ℕ) (Q : Asked j bytes s) where
   near-few x h = omega (arith, near-cell x h, few-cells)
 
   -- and free
-  walk-free : {x c n : ℕ} → Walk (netOf G) Any x s c n → free f x ≡ true
+  walk-free : {x c n : ℕ} → Walk (netOf (fineIn j bytes)) Any x s c n → free f x ≡ true
   walk-free (stop t) = Q .start
-  walk-free (move {a = a} {b = b} t e v) = is-true (free f a) (price-free f a b (omega (arith, e .0, e .1)))
+  walk-free (move {a = a} {b = b} t e v) = is-true (free f a) (price-free f a b (stretched-some fineness 1 (price f a b) (omega (arith, e .0, e .1))))
 
   free-inside : (x : ℕ) → ringOf G d s x ≤ lastOf G d s → free f x ≡ true
   free-inside x h = walk-free (turn (job-window .attained x h .1))
@@ -81,20 +83,25 @@ module _ (j : Job) (bytes : List ℕ) (s : ℕ) (Q : Asked j bytes s) where
   unfolding ringOf lastOf
   near-free x h = free-inside x h
 
-  low-leg : (x : ℕ) → ringOf G d s x ≤ lastOf G d s → legOf G d s x ≤ dearestLeg
-  low-leg x h = omega (arith, leg-high job-window dearestPrice (λ a b c e. omega (arith, e .1, price-high f a b)) x h, h, job-window .depth, Q .deep)
+  low-cost : (x : ℕ) → ringOf G d s x ≤ lastOf G d s → fineCost j bytes s x ≤ dearestFine
+  low-cost x h = omega (arith, leg-high job-window (fine dearestPrice) (λ a b c e. omega (arith, e .1, fineIn j bytes .high a b)) x h, h, job-window .depth, Q .deep)
 
-  pub near-leg : (x : ℕ) → Near j bytes s x → w j bytes (seen j bytes s) x ≤ dearestLeg
+  pub near-cost : (x : ℕ) → Near j bytes s x → fineCost j bytes s x ≤ dearestFine
+  unfolding ringOf lastOf
+  near-cost x h = low-cost x h
+
+  -- w, of a fine cost
+  pub near-coarse : (x : ℕ) → Near j bytes s x → fineCost j bytes s x / fineness ≡ w j bytes (seen j bytes s) x
   unfolding ringOf lastOf legOf
-  near-leg x h = low-leg x h
+  near-coarse x h = leg-divided G fineness d s (omega arith) (Q .shallow) start-on not-goal (omega (arith, Q .deep)) x h
 
   -- from a window in the lists to the model's
-  module _ (base last : ℕ) (mark cost : List ℕ) (W : Window (netOf (groundIn j bytes)) (Goal (groundIn j bytes)) (j .depth) s last (ringAt base mark) (at cost)) where
+  module _ (base last : ℕ) (mark cost : List ℕ) (W : Window (netOf (fineIn j bytes)) (Goal (groundIn j bytes)) (j .depth) s last (ringAt base mark) (at cost)) where
     last-same : last ≡ lastOf G d s
     last-same = last-unique W job-window
 
-    Y : Window (netOf G) (Goal G) d s (lastOf G d s) (ringAt base mark) (at cost)
-    Y = subst (λ m. Window (netOf G) (Goal G) d s m (ringAt base mark) (at cost)) last-same W
+    Y : Window (netOf (fineIn j bytes)) (Goal G) d s (lastOf G d s) (ringAt base mark) (at cost)
+    Y = subst (λ m. Window (netOf (fineIn j bytes)) (Goal G) d s m (ringAt base mark) (at cost)) last-same W
 
     near-mark : (x : ℕ) → ringOf G d s x ≤ lastOf G d s → getD mark x 0 ≡ base + ringOf G d s x
     near-mark x h = omega (arith, ring-unique job-window Y x h, h, job-window .depth, Q .deep)
@@ -147,7 +154,7 @@ module _ (j : Job) (bytes : List ℕ) (s : ℕ) (Q : Asked j bytes s) where
   module _ (base last n : ℕ) (mark cost list : List ℕ) (F : Framed (floorOf j bytes) s (j .goal) (j .depth) base last (state mark cost list n)) (room : base ≤ lastBase)
       (cost′ list′ : List ℕ) (R : Relaxed (floorOf j bytes) base mark n cost cost′ list′)
     where
-      W : Window (netOf G) (Goal G) d s last (ringAt base mark) (at cost′)
+      W : Window (netOf (fineIn j bytes)) (Goal G) d s last (ringAt base mark) (at cost′)
       W = array-window f s (j .goal) d base last (state mark cost list n) F (Q .deep) (Q .sized) (Q .bench) cost′ list′ R
 
       spent : Spent base mark
@@ -201,7 +208,7 @@ module _ (j : Job) (bytes : List ℕ) (s : ℕ) (Q : Asked j bytes s) where
 
   -- from the model's window in the lists back to `learning`'s
   module _ (base : ℕ) (mark cost : List ℕ) (E : Seen j bytes s base mark cost) where
-    agree : (x : ℕ) → ringOf G d s x ≤ lastOf G d s → (ringAt base mark x ≡ ringOf G d s x) × (at cost x ≡ legOf G d s x)
+    agree : (x : ℕ) → ringOf G d s x ≤ lastOf G d s → (ringAt base mark x ≡ ringOf G d s x) × (at cost x ≡ fineCost j bytes s x)
     unfolding ringOf lastOf legOf
     agree x h = (omega (arith, E .marks x h), E .costs x h)
 
@@ -209,8 +216,16 @@ module _ (j : Job) (bytes : List ℕ) (s : ℕ) (Q : Asked j bytes s) where
     unfolding ringOf lastOf
     far x h = omega (arith, E .none x h, job-window .depth, Q .deep)
 
-    pub seen-window : Window (netOf (groundIn j bytes)) (Goal (groundIn j bytes)) (j .depth) s (lastOf (groundIn j bytes) (j .depth) s) (ringAt base mark) (at cost)
+    pub seen-window : Window (netOf (fineIn j bytes)) (Goal (groundIn j bytes)) (j .depth) s (lastOf (groundIn j bytes) (j .depth) s) (ringAt base mark) (at cost)
     seen-window = window-same (ringAt base mark) (at cost) job-window agree far
+
+    -- and at coarse costs
+    coarsely : (x : ℕ) → ringOf G d s x ≤ lastOf G d s → (ringAt base mark x ≡ ringOf G d s x) × (coarseAt cost x ≡ legOf G d s x)
+    unfolding ringOf lastOf legOf
+    coarsely x h = (agree x h .0, ap (λ c. c / fineness) (E .costs x h) ∙ near-coarse x h)
+
+    pub seen-coarse : Window (netOf (groundIn j bytes)) (Goal (groundIn j bytes)) (j .depth) s (lastOf (groundIn j bytes) (j .depth) s) (ringAt base mark) (coarseAt cost)
+    seen-coarse = window-same (ringAt base mark) (coarseAt cost) (window G d s start-on (Q .shallow) not-goal) coarsely far
 
     -- a marked cell is in the window, and its mark is a ring's up to the deepest
     pub near-of : (x : ℕ) → In base mark x → Near j bytes s x

@@ -7,22 +7,25 @@ use Prim.Native.Nat.{ℕ, suc, _+_, _-_, _≤_, _<_}
 use native.Mathlib.Omega.{arith}
 use lib.ListN.{length, set, take, drop, length-set, length-drop, drop-of-length-le, List·getD-eq-default}
 use lib.Seq.{take-all, getD-drop, getD-set-same, drop-set-lt, drop-cons, append-snoc}
-use Rattle.learning.specs.Ground.{Ground, viewOf, ringOf, lastOf, legOf}
+use Rattle.learning.specs.Ground.{Ground, viewOf, ringOf, lastOf}
+use Rattle.learning.specs.Stretch.{stretched-move, stretched-some}
 use Rattle.learning.specs.Route.{priorIn}
-use Rattle.learning.proofs.Routes.{prior-before, prior-is, route-none, route-more, route-chain}
+use Rattle.learning.proofs.Routes.{prior-before, prior-is, route-none, route-more}
+use Rattle.learning.proofs.Finer.{into-fine, from-fine}
 use Rattle.answers.specs.declared.Job.{Job}
-use Rattle.model.specs.Floor.{Floor, free, leastPrice, heading}
+use Rattle.model.specs.Floor.{Floor, leastPrice, price}
 use Rattle.model.specs.Grounds.{price-low}
 use Rattle.model.specs.Checks.{floorOf, groundIn}
-use Rattle.model.specs.Lookahead.{movesAlong, mostMoves}
-use Rattle.model.proofs.Steps.{moves-more}
+use Rattle.model.specs.Lookahead.{fineness, fine, fineIn, route, movesAlong, mostMoves}
+use Rattle.model.proofs.Meaning.{route-means}
+use Rattle.model.proofs.Steps.{is-false, moves-more}
 use Rattle.lookahead.specs.declared.Link.{Link}
 use Rattle.lookahead.specs.Contract.{Asked, Near, Seen, movesTo, Traced}
 use Rattle.lookahead.specs.Marks.{In}
 use Rattle.lookahead.specs.Costs.{at, Costs}
 use Rattle.lookahead.specs.Way.{Before, Prior, Collecting, Collected}
 use Rattle.lookahead.proofs.Stores.{by-store}
-use Rattle.lookahead.proofs.Meaning.{start-on, not-goal, near-leg, near-free, near-of}
+use Rattle.lookahead.proofs.Meaning.{start-on, not-goal, near-cost, near-free, near-of}
 
 -- a store right ahead of a last part
 ahead : (way : List ℕ) (k m : ℕ) → k < length way → drop k (set way k m) ≡ m ∷ drop (suc k) way
@@ -48,30 +51,41 @@ module _ (j : Job) (bytes : List ℕ) (s : ℕ) (Q : Asked j bytes s) (base : �
     marks = E .spent .size;
     costs = E .size;
     free = λ x i. near-free j bytes s Q x (near x i);
-    small = λ x i. omega (arith, E .costs x (near x i), near-leg j bytes s Q x (near x i));
+    small = λ x i. omega (arith, E .costs x (near x i), near-cost j bytes s Q x (near x i));
   }
 
   pub in-of : (x : ℕ) → Near j bytes s x → In base mark x
   in-of x h = omega (arith, E .marks x h)
 
+  -- the same cells are in the fine window
+  into : (x : ℕ) → Near j bytes s x → ringOf (fineIn j bytes) d s x ≤ lastOf (fineIn j bytes) d s
+  unfolding ringOf lastOf
+  into x h = into-fine G fineness d s (omega arith) (Q .shallow) (start-on j bytes s Q) (not-goal j bytes s Q) x h
+
+  out-of : (x : ℕ) → ringOf (fineIn j bytes) d s x ≤ lastOf (fineIn j bytes) d s → Near j bytes s x
+  unfolding ringOf lastOf
+  out-of x h = from-fine G fineness d s (omega arith) (Q .shallow) (start-on j bytes s Q) (not-goal j bytes s Q) x h
+
   -- every cell of the window but s has one before it
   pub some-prior : (x : ℕ) → Near j bytes s x → x ≢ s → (y : ℕ) × Before (floorOf j bytes) base mark cost x y
-  unfolding ringOf lastOf legOf
   some-prior x h o =
-      let p = prior-before G d s (Q .shallow) (start-on j bytes s Q) (not-goal j bytes s Q) x h o in
-      (p .at, record { inside = in-of (p .at) (p .near); move = omega (arith, p .edge .0, p .edge .1); exact = omega (arith, E .costs (p .at) (p .near), E .costs x h, p .exact, p .edge .1) })
+      let p = prior-before (fineIn j bytes) d s (Q .shallow) (start-on j bytes s Q) (not-goal j bytes s Q) x (into x h) o in
+      let near = out-of (p .at) (p .near) in
+      let some = stretched-some fineness 1 (price f (p .at) x) (omega (arith, p .edge .0, p .edge .1)) in
+      let at-price = stretched-move fineness 1 (price f (p .at) x) some in
+      (p .at, record { inside = in-of (p .at) near; move = some; exact = omega (arith, E .costs (p .at) near, E .costs x h, p .exact, p .edge .1, at-price) })
 
   -- no move leads from s to itself
   moves-none : movesTo j bytes s s ≡ []
-  unfolding movesAlong
-  moves-none = ap (movesAlong f s) (route-none G d s (Q .shallow) (start-on j bytes s Q) (not-goal j bytes s Q))
+  unfolding movesAlong route
+  moves-none = ap (movesAlong f s) (route-none (fineIn j bytes) d s (Q .shallow) (start-on j bytes s Q) (not-goal j bytes s Q))
 
   pub collects-none : (x : ℕ) (way : List ℕ) → Near j bytes s x → length way ≡ mostMoves → Collecting j bytes s cost x mostMoves x way
   collects-none x way h l = record {
     near = h;
     fits = omega arith;
     size = l;
-    room = omega (arith, E .costs x h, near-leg j bytes s Q x h);
+    room = omega (arith, E .costs x h, near-cost j bytes s Q x h);
     moves = sym (ap (λ r. movesTo j bytes s x ++ r) (drop-of-length-le way {i = mostMoves} (omega (arith, l))) ∙ append-nil (movesTo j bytes s x));
     low = λ i p. rw (List·getD-eq-default way 0 {n = i} (omega (arith, l))) (omega arith);
   }
@@ -99,21 +113,24 @@ module _ (j : Job) (bytes : List ℕ) (s : ℕ) (Q : Asked j bytes s) (base : �
     pub prior-near : Near j bytes s (b .cell)
     prior-near = near (b .cell) (P .from .before .inside)
 
-    pub prior-cheap : at cost (b .cell) + leastPrice ≤ at cost x
+    pub prior-cheap : at cost (b .cell) + fine leastPrice ≤ at cost x
     prior-cheap = omega (arith, P .from .before .exact, price-low f (b .cell) x (P .from .before .move))
 
-    prior-same : priorIn G d s (viewOf G d s) x ≡ b .cell
-    unfolding ringOf lastOf legOf
+    prior-same : priorIn (fineIn j bytes) d s (viewOf (fineIn j bytes) d s) x ≡ b .cell
     prior-same =
-        prior-is G d s (Q .shallow) (start-on j bytes s Q) (not-goal j bytes s Q) x (b .cell) prior-near (P .from .before .move)
-        (omega (arith, P .from .before .exact, E .costs (b .cell) prior-near, E .costs x h))
-        (λ y ny p e. P .lowest y (record { inside = in-of y ny; move = p; exact = omega (arith, e, E .costs y ny, E .costs x h) }))
+        let P′ = P .from .before in
+        let at-price = stretched-move fineness 1 (price f (b .cell) x) (P′ .move) in
+        prior-is (fineIn j bytes) d s (Q .shallow) (start-on j bytes s Q) (not-goal j bytes s Q) x (b .cell) (into (b .cell) prior-near) (omega (arith, P′ .move, at-price))
+        (omega (arith, P′ .exact, E .costs (b .cell) prior-near, E .costs x h, at-price))
+        (λ y ny p e.
+        let some = stretched-some fineness 1 (price f y x) p in
+        P .lowest y (record { inside = in-of y (out-of y ny); move = some; exact = omega (arith, e, E .costs y (out-of y ny), E .costs x h, stretched-move fineness 1 (price f y x) some) }))
 
     moves-same : movesTo j bytes s x ≡ movesTo j bytes s (b .cell) ++ b .m ∷ []
-    unfolding ringOf lastOf legOf
+    unfolding route
     moves-same =
-        ap (movesAlong f s) (route-more G d s (Q .shallow) (start-on j bytes s Q) (not-goal j bytes s Q) x (b .cell) h o prior-same)
-        ∙ moves-more f x (route-chain G d s (Q .shallow) (start-on j bytes s Q) (not-goal j bytes s Q) (b .cell) prior-near)
+        ap (movesAlong f s) (route-more (fineIn j bytes) d s (Q .shallow) (start-on j bytes s Q) (not-goal j bytes s Q) x (b .cell) (into x h) o prior-same)
+        ∙ moves-more f x (route-means j bytes s (Q .shallow) (start-on j bytes s Q) (is-false _ (not-goal j bytes s Q)) (Q .deep) (b .cell) prior-near .0)
         ∙ ap (λ m. movesTo j bytes s (b .cell) ++ m ∷ []) (sym (P .from .heading))
 
     -- the move from it comes ahead of the moves that stand there

@@ -16,8 +16,8 @@ use Rattle.model.specs.Checks.{deepest, finest}
 use Rattle.model.specs.Lookahead.{dearestLeg, highestNew}
 use Rattle.model.proofs.Cells.{col-at, row-at}
 use Rattle.lookahead.specs.Marks.{In}
-use Rattle.lookahead.specs.Costs.{Listing, at}
-use Rattle.lookahead.specs.Bests.{ringAt, value, key, unset, Scores, Bests, Topped}
+use Rattle.lookahead.specs.Costs.{Listing}
+use Rattle.lookahead.specs.Bests.{ringAt, coarseAt, value, key, unset, Scores, Bests, Topped}
 use Rattle.lookahead.proofs.Stores.{by-store}
 
 -- a cell of a ring up to the deepest is marked, and a marked cell is of such a ring
@@ -54,7 +54,7 @@ module _ (base : ℕ) (mark cost table : List ℕ) (p : ℕ) where
 
   -- a value is small, and so is a key
   pub value-lt : (x : ℕ) → Scores base mark cost table p → In base mark x → value cost table p x ≤ highestNew
-  value-lt x S i = omega (arith, mul-le-mul {n₁ = p} {m₁ = getD cost x 0} {n₂ = finest} {m₂ = dearestLeg} (S .weight) (S .small x i .0), S .small x i .1)
+  value-lt x S i = omega (arith, mul-le-mul {n₁ = p} {m₁ = coarseAt cost x} {n₂ = finest} {m₂ = dearestLeg} (S .weight) (omega (arith, S .small x i .0)), S .small x i .1)
 
   pub key-lt : (x : ℕ) → Scores base mark cost table p → In base mark x → key cost table p x < unset
   key-lt x S i = omega (arith, value-lt x S i, S .inside x i .0)
@@ -131,7 +131,7 @@ module _ (base : ℕ) (mark cost table : List ℕ) (p : ℕ) where
       small : (x : ℕ) → ring x ≤ m → x < 4096
       small x h = S .inside x (ring-in base mark x (omega (arith, h))) .0
 
-      least : (k : ℕ) → k ≤ m → Least (OnRing p ring (at cost) (figure table) k) (getD best k 0 / 4096)
+      least : (k : ℕ) → k ≤ m → Least (OnRing p ring (coarseAt cost) (figure table) k) (getD best k 0 / 4096)
       least k h =
           let t = entry k h in record {
             met = (t .cell, t .on, sym (entry-value k h));
@@ -141,7 +141,7 @@ module _ (base : ℕ) (mark cost table : List ℕ) (p : ℕ) where
       abbrev target : ℕ
       target = getD best m 0 % 4096
 
-      pub weighed : 1 ≤ m → (top : ℕ) → Topped best (m + 1) top → Ahead p m (ringAt base mark) (at cost) (figure table) (top / 4096) (getD best m 0 % 4096)
+      pub weighed : 1 ≤ m → (top : ℕ) → Topped best (m + 1) top → Ahead p m (ringAt base mark) (coarseAt cost) (figure table) (top / 4096) (getD best m 0 % 4096)
       weighed some top T =
           let t = entry m (omega arith) in
           let c = entry-cell m (omega arith) in

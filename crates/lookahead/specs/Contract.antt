@@ -4,10 +4,11 @@ use mathlib.Core.Path.{_≡_}
 use mathlib.Core.Bool.{true, false}
 use mathlib.Core.List.{List, _++_}
 use lib.ListN.{length, getD, drop}
+use Rattle.learning.specs.Ground.{legOf}
 use Rattle.answers.specs.declared.Job.{Job}
 use Rattle.model.specs.Floor.{Sized, size, free}
 use Rattle.model.specs.Checks.{deepest, finest, ceiling, floorOf}
-use Rattle.model.specs.Lookahead.{seen, ring, w, emptyRing, newFigure, target, route, movesAlong, mostMoves, highestNew}
+use Rattle.model.specs.Lookahead.{seen, ring, w, emptyRing, newFigure, target, fineIn, route, movesAlong, mostMoves, highestNew}
 use Rattle.lookahead.specs.declared.Around.{Around}
 use Rattle.lookahead.specs.declared.Around.the-variants as A
 use Rattle.lookahead.specs.declared.Ahead.{Ahead}
@@ -54,12 +55,16 @@ pub record Asked (j : Job) (bytes : List ℕ) (s : ℕ) : Type 0 where
 abbrev pub Near : Job → List ℕ → (s x : ℕ) → Type 0
 Near j bytes s x = ring j bytes (seen j bytes s) x ≤ seen j bytes s .last
 
--- Points 1 and 2 in the lists: a window cell's mark is the base and its ring, and its cost is its w. Any other cell's mark is below the base.
+-- The fine cost of x: 32 × w and the fewest moves at that cost.
+abbrev pub fineCost : Job → List ℕ → (s x : ℕ) → ℕ
+fineCost j bytes s x = legOf (fineIn j bytes) (j .depth) s x
+
+-- Points 1 and 2 in the lists: a window cell's mark is the base and its ring, and its cost is fine. Any other cell's mark is below the base.
 pub record Seen (j : Job) (bytes : List ℕ) (s base : ℕ) (mark cost : List ℕ) : Type 0 where
   pub spent : Spent base mark
   pub size : length cost ≡ 4096
   pub marks : (x : ℕ) → Near j bytes s x → getD mark x 0 ≡ base + ring j bytes (seen j bytes s) x
-  pub costs : (x : ℕ) → Near j bytes s x → getD cost x 0 ≡ w j bytes (seen j bytes s) x
+  pub costs : (x : ℕ) → Near j bytes s x → getD cost x 0 ≡ fineCost j bytes s x
   pub none : (x : ℕ) → seen j bytes s .last < ring j bytes (seen j bytes s) x → getD mark x 0 < base
 
 -- The whole window: no ring up to the last is empty, and the list's first n places hold just the window's cells.
@@ -95,7 +100,7 @@ pub record Aimed (j : Job) (bytes : List ℕ) (s : ℕ) (table : List ℕ) (a : 
 
 -- Point 5: the moves of the route from s to x, written at the front of the list.
 abbrev pub movesTo : Job → List ℕ → (s x : ℕ) → List ℕ
-movesTo j bytes s x = movesAlong (floorOf j bytes) s (route j bytes s (seen j bytes s) x)
+movesTo j bytes s x = movesAlong (floorOf j bytes) s (route j bytes s x)
 
 pub record Traced (j : Job) (bytes : List ℕ) (s x : ℕ) (out out′ : List ℕ) (n : ℕ) : Type 0 where
   pub count : n ≡ length (movesTo j bytes s x)

@@ -1,13 +1,14 @@
--- The costs in a window: lowered along its moves until none can be lowered.
+-- The fine costs in a window: lowered along its moves until none can be lowered.
 use mathlib.Core.Path.{_≡_}
 use mathlib.Core.List.{List, [], _∷_}
 use mathlib.Core.Logic.{_⊎_}
 use mathlib.Core.Bool.{Bool, true, false}
-use Prim.Native.Nat.{ℕ, _+_, _≤_, _<_}
+use Prim.Native.Nat.{ℕ, _+_, _*_, _≤_, _<_}
 use lib.ListN.{length, getD, set}
 use Rattle.learning.specs.Walk.{Least, Leads}
-use Rattle.model.specs.Floor.{Floor, free}
-use Rattle.model.specs.Lookahead.{dearestLeg}
+use Rattle.model.specs.Floor.{Floor, free, dearestPrice}
+use Rattle.model.specs.Checks.{deepest}
+use Rattle.model.specs.Lookahead.{fine}
 use Rattle.floor.specs.declared.Spot.{Spot}
 use Rattle.floor.specs.declared.Step.the-variants.{To}
 use Rattle.floor.specs.Moves.{Placed, stepOf}
@@ -21,12 +22,16 @@ total (x ∷ xs) = x + total xs
 abbrev pub at : List ℕ → ℕ → ℕ
 at cost x = getD cost x 0
 
+-- what a fine cost comes to at most
+abbrev pub dearestFine : ℕ
+dearestFine = fine dearestPrice * deepest
+
 -- the window's cells are free, and their costs small
 pub record Costs (f : Floor) (base : ℕ) (mark cost : List ℕ) : Type 0 where
   pub marks : length mark ≡ 4096
   pub costs : length cost ≡ 4096
   pub free : (x : ℕ) → In base mark x → free f x ≡ true
-  pub small : (x : ℕ) → In base mark x → at cost x ≤ dearestLeg
+  pub small : (x : ℕ) → In base mark x → at cost x ≤ dearestFine
 
 -- each cost is that of a walk to s in the window
 abbrev pub Walked : Floor → (s base : ℕ) → (mark cost : List ℕ) → Type 0
@@ -34,7 +39,7 @@ Walked f s base mark cost = (x : ℕ) → In base mark x → Leads (net f) (In b
 
 -- the move m from c, followed at the cost u, lowers no cost of the window; nor do the first m moves
 abbrev pub Under : Floor → ℕ → (mark : List ℕ) → (c m u : ℕ) → (cost : List ℕ) → Type 0
-Under f base mark c m u cost = (d v : ℕ) → stepOf f c m ≡ To d v → In base mark d → at cost d ≤ u + v
+Under f base mark c m u cost = (d v : ℕ) → stepOf f c m ≡ To d v → In base mark d → at cost d ≤ u + fine v
 
 abbrev pub Followed : Floor → ℕ → (mark : List ℕ) → (c m u : ℕ) → (cost : List ℕ) → Type 0
 Followed f base mark c m u cost = (i : ℕ) → i < m → Under f base mark c i u cost

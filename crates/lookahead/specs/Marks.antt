@@ -1,5 +1,5 @@
--- What holds while the rings around s are marked. A cell's mark is the base and its ring, or below the base; beside it stands what a walk
--- to it costs; and the marked cells stand in a list, ring by ring, each with the cost at which its moves were followed.
+-- What holds while the rings around s are marked. A cell's mark is the base and its ring, or below the base; beside it stands the fine cost of
+-- a walk to it; and the marked cells stand in a list, ring by ring, each with the cost at which its moves were followed.
 use mathlib.Core.Path.{_≡_}
 use mathlib.Core.List.{List, [], _∷_}
 use mathlib.Core.Bool.{true, cond}
@@ -11,15 +11,15 @@ use Rattle.learning.specs.Walk.{Network, Walk, Leads}
 use Rattle.learning.specs.Ground.{netOf}
 use Rattle.model.specs.Floor.{Floor, free, dearestPrice}
 use Rattle.model.specs.Checks.{deepest}
-use Rattle.model.specs.Grounds.{groundOf}
+use Rattle.model.specs.Lookahead.{fine, fineOf}
 use Rattle.floor.specs.declared.Spot.{Spot}
 use Rattle.floor.specs.declared.Step.the-variants.{To}
 use Rattle.floor.specs.Moves.{Placed, stepOf}
 use Rattle.lookahead.specs.Contract.{lastBase}
 
--- the moves of a floor
+-- the moves of a floor at their fine prices
 abbrev pub net : Floor → Network
-net f = netOf (groundOf f [])
+net f = netOf (fineOf f [])
 
 -- how many cells have no mark
 unfoldable pub blanks : ℕ → List ℕ → ℕ
@@ -59,14 +59,14 @@ pub record Sizes (base : ℕ) (S : State) : Type 0 where
   pub cells : length (S .list) ≡ 8192
   pub count : S .n + blanks base (S .mark) ≡ 4096
 
--- and the marked cells are free, at no more than the dearest price for each move of their ring; where a cell's moves were followed, they lead to marked cells,
+-- and the marked cells are free, at no more than the dearest fine price for each move of their ring; where a cell's moves were followed, they lead to marked cells,
 -- which cost no more than the move adds
 pub record Room (f : Floor) (base : ℕ) (S : State) : Type 0 where
   pub sizes : Sizes base S
   pub free : (x : ℕ) → In base (S .mark) x → free f x ≡ true
-  pub cheap : (x : ℕ) → In base (S .mark) x → costAt S x ≤ dearestPrice * (markOf S x - base)
+  pub cheap : (x : ℕ) → In base (S .mark) x → costAt S x ≤ fine dearestPrice * (markOf S x - base)
   pub notes : (i : ℕ) → i < S .n → (m d v : ℕ) → m < 8 → stepOf f (cellOf S i) m ≡ To d v
-      → (noteAt (S .list) i ≡ 65535) ⊎ (In base (S .mark) d × (costAt S d ≤ noteAt (S .list) i + v))
+      → (noteAt (S .list) i ≡ 65535) ⊎ (In base (S .mark) d × (costAt S d ≤ noteAt (S .list) i + fine v))
 
 -- the cells of mark g are being found, and stand in the list from `to` on; a walk of its ring's moves leads
 -- from each marked cell to s, and its cost is that of a walk
@@ -122,13 +122,13 @@ pub record Leaving (f : Floor) (base c : ℕ) (at : Spot) (k w : ℕ) (S : State
 -- the move m from c, of cost w, leads to a marked cell or none, which costs no more than the move adds; c itself costs what it did
 pub record Extended (f : Floor) (base k c m w : ℕ) (S S′ : State) : Type 0 where
   pub grew : Grew f base k S S′
-  pub out : (d v : ℕ) → stepOf f c m ≡ To d v → In base (S′ .mark) d × (costAt S′ d ≤ w + v)
+  pub out : (d v : ℕ) → stepOf f c m ≡ To d v → In base (S′ .mark) d × (costAt S′ d ≤ w + fine v)
   pub stays : costAt S′ c ≡ w
 
 -- so does each of the first m moves
 pub record Left (f : Floor) (base k c m w : ℕ) (S S′ : State) : Type 0 where
   pub grew : Grew f base k S S′
-  pub out : (i : ℕ) → i < m → (d v : ℕ) → stepOf f c i ≡ To d v → In base (S′ .mark) d × (costAt S′ d ≤ w + v)
+  pub out : (i : ℕ) → i < m → (d v : ℕ) → stepOf f c i ≡ To d v → In base (S′ .mark) d × (costAt S′ d ≤ w + fine v)
   pub stays : costAt S′ c ≡ w
 
 -- a free cell of mark k and cost w

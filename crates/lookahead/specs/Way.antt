@@ -5,7 +5,7 @@ use Prim.Native.Nat.{ℕ, _+_, _*_, _≤_, _<_}
 use lib.ListN.{length, getD, drop}
 use Rattle.answers.specs.declared.Job.{Job}
 use Rattle.model.specs.Floor.{Floor, leastPrice, price, heading}
-use Rattle.model.specs.Lookahead.{mostMoves}
+use Rattle.model.specs.Lookahead.{fine, mostMoves}
 use Rattle.floor.specs.declared.Step.the-variants.{To}
 use Rattle.floor.specs.Moves.{stepOf}
 use Rattle.lookahead.specs.Contract.{Near, movesTo}
@@ -13,11 +13,11 @@ use Rattle.lookahead.specs.Marks.{In}
 use Rattle.lookahead.specs.Costs.{at}
 use Rattle.lookahead.specs.declared.Link.{Link}
 
--- one move from the window's cell y, added to its w, gives exactly the w of x
+-- one move from the window's cell y, added to its fine cost, gives exactly that of x
 pub record Before (f : Floor) (base : ℕ) (mark cost : List ℕ) (x y : ℕ) : Type 0 where
   pub inside : In base mark y
   pub move : 1 ≤ price f y x
-  pub exact : at cost y + price f y x ≡ at cost x
+  pub exact : at cost y + fine (price f y x) ≡ at cost x
 
 -- b is a cell before x and the move from there
 pub record From (f : Floor) (base : ℕ) (mark cost : List ℕ) (x : ℕ) (b : Link) : Type 0 where
@@ -40,7 +40,7 @@ pub record Collecting (j : Job) (bytes : List ℕ) (s : ℕ) (cost : List ℕ) (
   pub near : Near j bytes s cell
   pub fits : k ≤ mostMoves
   pub size : length way ≡ mostMoves
-  pub room : at cost cell < leastPrice * k + leastPrice
+  pub room : at cost cell < fine leastPrice * k + fine leastPrice
   pub moves : movesTo j bytes s x ≡ movesTo j bytes s cell ++ drop k way
   pub low : (i : ℕ) → k ≤ i → getD way i 0 < 8
 

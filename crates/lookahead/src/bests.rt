@@ -32,7 +32,7 @@ fn weigh(
         (min (key (now (cost .entry)) (now (table .entry)) p c) (getD (now (best .entry)) (ringAt base (now (mark .entry)) c) 0)) ⌝ }
 {
     let k = notation::wide32(mark[c] - base);
-    let v = p * notation::wide16(cost[c]) + notation::wide32(table[c]);
+    let v = p * super::coarse(cost[c]) + notation::wide32(table[c]);
     enter(best, k, v * 4096 + c);
 }
 

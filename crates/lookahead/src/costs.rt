@@ -1,4 +1,4 @@
-// The costs in a window are lowered along its moves until none can be lowered: each is then the least of a walk that stays in the window.
+// The fine costs in a window are lowered along its moves until none can be lowered: each is then the least of a walk that stays in the window.
 // Only the moves of a cell whose cost fell since they were followed need to be followed again; the list says at which cost that was.
 ghost use mathlib.Core.Path.{_≡_};
 ghost use mathlib.Core.Bool.{false};
@@ -8,12 +8,10 @@ ghost use Rattle.model.specs.Floor.{Sized};
 ghost use Rattle.floor.specs.Moves.{flat};
 ghost use Rattle.lookahead.specs.Marks.{noteAt, In};
 ghost use Rattle.lookahead.specs.Costs.{at, Costs, Lower, Lowered, Cell, Eased, Easing, Followed, Listing, Noted, Topmost, Again, Passed, Relaxed};
-use floor::LEAST_PRICE;
+use super::FINE_LEAST;
+use super::fine;
 use floor::Spot;
 use floor::Step;
-
-// The least price in more bits.
-const LEAST: usize = LEAST_PRICE as usize;
 
 // The cell d gets the cost v if that is lower; whether a cost was lowered, here or before.
 fn lower(cost: &mut [u16], d: usize, v: u16, changed: bool) -> bool
@@ -51,7 +49,7 @@ fn ease(
             if mark[cell] < base {
                 return changed;
             }
-            let sum = w + v;
+            let sum = w + fine(v);
             lower(cost, cell, sum, changed)
         }
         Step::Wall => changed,
@@ -86,7 +84,7 @@ fn ease_cell(
 }
 
 // The moves of the list's i-th cell are followed, if its cost fell since they were. Where no cost is above `high`, a move from a cell that costs
-// the least price less than that, or more, lowers none.
+// the least fine price less than that, or more, lowers none.
 fn ease_again(
     width: usize,
     height: usize,
@@ -111,7 +109,7 @@ fn ease_again(
         return changed;
     }
     list[i + 4096] = w;
-    if high <= notation::wide16(w) + LEAST {
+    if high <= notation::wide16(w) + FINE_LEAST {
         return changed;
     }
     ease_cell(width, height, floor, base, mark, cost, c, w, changed)

@@ -6,10 +6,10 @@ mod rings;
 mod route;
 
 ghost use mathlib.Core.Path.{_≡_};
-ghost use Prim.Native.Nat.{ℕ, _<_, _≤_, max};
+ghost use Prim.Native.Nat.{ℕ, _/_, _<_, _≤_, max};
 ghost use lib.Dec.{eqb};
 ghost use lib.ListN.{length, getD};
-ghost use Rattle.model.specs.Floor.{free};
+ghost use Rattle.model.specs.Floor.{free, dearestPrice};
 ghost use Rattle.model.specs.Checks.{deepest, floorOf};
 ghost use Rattle.model.specs.Lookahead as model;
 ghost use Rattle.lookahead.specs.Contract.{Marks, Spent, Fresh, Asked, Near, Seen, Window, Looked, Figures, Aimed, Traced};
@@ -26,6 +26,13 @@ pub const DEAREST_LEG: usize = DEAREST_PRICE as usize * DEEPEST;
 pub const MOST_MOVES: usize = DEAREST_LEG / LEAST_PRICE as usize;
 
 const HIGHEST_NEW: usize = CEILING + FINEST * DEAREST_LEG;
+
+// The costs in the lists are fine: so many times what a walk costs, and 1 for each of its moves. So of walks that cost the same the one with fewest moves is
+// the least, and where there are fewer moves than this, a walk that costs more is never less.
+const FINENESS: u16 = 32;
+
+// The least fine price of a move.
+const FINE_LEAST: usize = FINENESS as usize * LEAST_PRICE as usize + 1;
 
 // How many rings there are; and a ring's best before a cell is entered, which is more than any key.
 const MOST_RINGS: usize = DEEPEST + 1;
@@ -54,6 +61,21 @@ pub struct Ahead {
 struct Link {
     cell: usize,
     m: usize,
+}
+
+// The fine price of a move.
+fn fine(price: u16) -> u16
+    requires { ⌜ price ≤ dearestPrice ⌝ }
+    ensures { λ r. ⌜ r ≡ model.fine price ⌝ }
+{
+    FINENESS * price + 1
+}
+
+// What a walk costs, of its fine cost.
+fn coarse(cost: u16) -> usize
+    ensures { λ r. ⌜ r ≡ cost / model.fineness ⌝ }
+{
+    notation::wide16(cost / FINENESS)
 }
 
 fn larger(a: usize, b: usize) -> usize
@@ -149,7 +171,7 @@ pub fn leg(
     requires { ⌜ Asked job (now floor) s ⌝ ∗ ⌜ Seen job (now floor) s base (now mark) (now cost) ⌝ ∗ ⌜ Near job (now floor) s x ⌝ }
     ensures { λ r. ⌜ (r ≡ model.w job (now (floor .entry)) (model.seen job (now (floor .entry)) s) x) × (r ≤ model.dearestLeg) ⌝ }
 {
-    notation::wide16(cost[x])
+    coarse(cost[x])
 }
 
 // The new figure and the target, in a window that is worked out.
@@ -175,7 +197,7 @@ pub fn aim(
     Ahead {
         figure: top / 4096,
         target: target,
-        leg: notation::wide16(cost[target]),
+        leg: coarse(cost[target]),
     }
 }
 

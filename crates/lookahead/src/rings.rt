@@ -12,6 +12,7 @@ ghost use Rattle.lookahead.specs.Contract.{Fresh};
 ghost use Rattle.lookahead.specs.Marks.{state, begun, Sizes, Room, Reached, Leaving, Extended, Open, Left, Segment, Swept};
 ghost use Rattle.lookahead.specs.Rings.{Rings};
 use super::Around;
+use super::fine;
 use floor::Spot;
 use floor::Step;
 
@@ -66,7 +67,7 @@ fn extend(
 {
     match floor::step_from(width, height, floor, c, spot, m) {
         Step::To { cell, cost: v } => {
-            let sum = w + v;
+            let sum = w + fine(v);
             reach(base, mark, cost, list, n, cell, k + 1, sum)
         }
         Step::Wall => n,

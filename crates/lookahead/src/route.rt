@@ -1,4 +1,5 @@
-// The route to a cell of the window, found backward: each time the lowest cell from which one move gives exactly the cost of the cell reached.
+// The route to a cell of the window, found backward: each time the lowest cell from which one move gives exactly the fine cost of the cell reached,
+// and so the lowest from which a route of fewest moves at the least cost goes on.
 ghost use mathlib.Core.Path.{_≡_};
 ghost use Prim.Native.Nat.{ℕ, _<_, _≤_, _+_};
 ghost use mathlib.Core.List.{_++_};
@@ -12,6 +13,7 @@ ghost use Rattle.lookahead.specs.Costs.{Costs, Cell};
 ghost use Rattle.lookahead.specs.Way.{Before, Linked, Prior, Collected};
 use super::Link;
 use super::MOST_MOVES;
+use super::fine;
 use answers::Job;
 use floor::Spot;
 use floor::Step;
@@ -38,7 +40,7 @@ fn consider(
             if mark[cell] < base {
                 return b;
             }
-            let sum = cost[cell] + v;
+            let sum = cost[cell] + fine(v);
             if sum != cost[x] {
                 return b;
             }

@@ -29,7 +29,7 @@ use Rattle.model.specs.Floor.{size}
 use Rattle.model.specs.Checks.{floorOf, groundIn}
 use Rattle.model.specs.Opening.{distances, reaches, trueFigure, soundness, openJob, openTrial, openRun}
 use Rattle.model.specs.Decision.{atGoal, decide}
-use Rattle.model.specs.Ride.{Ride, begun, rideFrom, learningJob, bound, ride, kept, report, trialOf, trial, Course, courseFrom, filedIn, runOf, run}
+use Rattle.model.specs.Ride.{Ride, begun, rideFrom, learningJob, bound, ride, rideBy, kept, report, trialOf, trial, trialBy, Course, courseFrom, filedIn, runOf, run, runBy}
 use Rattle.model.proofs.Openings.{opened, accepted, ready, accepted-trial, ready-run}
 use Rattle.model.proofs.Accepted.{never}
 use Rattle.model.proofs.Moves.{is-true}
@@ -91,13 +91,13 @@ true-high j bytes S x e = S .low x (reaches-means j bytes x e)
 pub trial-is-made : (j : Job) (bytes : List ℕ) (start : ℕ) (table path : List ℕ) → openTrial j bytes start table path ≡ Vd.Done
     → trial j bytes start table path
     ≡ record { answer = Td.Made (report j bytes (ride j bytes start table path)); table = ride j bytes start table path .table; path = ride j bytes start table path .path }
-unfolding trial
+unfolding trialBy
 trial-is-made j bytes start table path e = ap (λ v. trialOf v j bytes (ride j bytes start table path) table path) e
 
 -- and no other: where a trial is made, its job was accepted
 pub made-is-accepted : (j : Job) (bytes : List ℕ) (start : ℕ) (table path : List ℕ) (r : Report) → trial j bytes start table path .answer ≡ Td.Made r
     → (openTrial j bytes start table path ≡ Vd.Done) × (report j bytes (ride j bytes start table path) ≡ r)
-unfolding trial
+unfolding trialBy
 made-is-accepted j bytes start table path r = by (openTrial j bytes start table path)
   where
     by : (v : Verdict) → trialOf v j bytes (ride j bytes start table path) table path .answer ≡ Td.Made r → (v ≡ Vd.Done) × (report j bytes (ride j bytes start table path) ≡ r)
@@ -114,13 +114,13 @@ pub run-is-made : (j : Job) (bytes : List ℕ) (start trials : ℕ) (table path 
       path = courseFrom j bytes start trials table path .path;
       reports = filedIn (map (report j bytes) (courseFrom j bytes start trials table path .rides)) reports;
     }
-unfolding run
+unfolding runBy
 run-is-made j bytes start trials table path reports e = ap (λ v. runOf v j bytes (courseFrom j bytes start trials table path) table path reports) e
 
 pub made-run-is-accepted : (j : Job) (bytes : List ℕ) (start trials : ℕ) (table path : List ℕ) (reports : List Report) (n : ℕ) (b : Bool)
     → run j bytes start trials table path reports .answer ≡ Rn.Made n b
     → (openRun j bytes start table path trials (length reports) ≡ Vd.Done) × (length (courseFrom j bytes start trials table path .rides) ≡ n)
-unfolding run
+unfolding runBy
 made-run-is-accepted j bytes start trials table path reports n b = by (openRun j bytes start table path trials (length reports))
   where
     c : Course
@@ -236,7 +236,7 @@ pub data EachPromised (j : Job) (bytes : List ℕ) (start : ℕ) : List ℕ → 
 
 pub trial-is-promised : (j : Job) (bytes : List ℕ) (start : ℕ) (table path : List ℕ) → openTrial j bytes start table path ≡ Vd.Done
     → Promised j bytes start table path (ride j bytes start table path)
-unfolding ride
+unfolding rideBy
 trial-is-promised j bytes start table path e = record {
   falls-not = no-figure-falls-in-a-trial j bytes start table path (bound j bytes table);
   passes-not = no-figure-passes-truth-in-a-trial j bytes start table path e (bound j bytes table);

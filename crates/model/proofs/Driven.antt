@@ -10,9 +10,8 @@ use borrow.Author.Tests.{eqb-true, eqb-false, ne-eqb}
 use lib.Dec.{T, ltb, leb, eqb}
 use lib.ListN.{length, getD, take, drop, length-map, length-reverse}
 use lib.Seq.{length-take-le, take-at, drop-at, drop-drop}
-use Rattle.learning.specs.Ground.{View, netOf, ringOf, lastOf}
+use Rattle.learning.specs.Ground.{View, netOf}
 use Rattle.learning.specs.Route.{Chain, ended, step}
-use Rattle.learning.proofs.Routes.{route-short}
 use Rattle.answers.specs.declared.Job.{Job}
 use Rattle.answers.specs.declared.State.{State}
 use Rattle.answers.specs.declared.Verdict.{Verdict}
@@ -21,16 +20,16 @@ use Rattle.answers.specs.declared.Answer.{Answer}
 use Rattle.answers.specs.declared.Answer.the-variants as A
 use Rattle.model.specs.Floor.{Floor, size, Sized, free, price, ahead, allowed, heading, opposite}
 use Rattle.model.specs.Grounds.{groundOf, price-same}
-use Rattle.model.specs.Checks.{ceiling, floorOf, goals, groundIn, sizes, pathRoom, settings, places, figures}
+use Rattle.model.specs.Checks.{ceiling, floorOf, goals, sizes, pathRoom, settings, places, figures}
 use Rattle.model.specs.Lookahead.{seen, ring, w, emptyRing, target, route, movesAlong, mostMoves}
-use Rattle.model.specs.Decision.{atGoal, movesRoom, judge, Deed, unchanged, refused, rise, forward, backOut, stay, goBack, act, laid, Outcome, decide}
+use Rattle.model.specs.Decision.{atGoal, movesRoom, judge, Deed, unchanged, refused, rise, forward, forwardBy, backOut, backOutBy, stay, goBack, act, laid, Outcome, decide}
 use Rattle.model.specs.Opening.{openTrial}
-use Rattle.model.specs.Ride.{Ride, begun, next, rideFrom, bound, ride}
+use Rattle.model.specs.Ride.{Ride, begun, next, nextBy, rideFrom, rideFromBy, bound, ride, rideBy}
 use Rattle.model.proofs.Moves.{free-below, price-move, heading-is, opposite-lt, opposite-ahead, opposite-allowed}
 use Rattle.model.proofs.Accepted.{Settings, then-done, sizes-judges, path-judges, settings-judges, places-judges}
 use Rattle.model.proofs.Held.{Sound, at-goal, moves-judges, held-judges}
 use Rattle.model.proofs.Openings.{Ready, ready}
-use Rattle.model.proofs.Meaning.{goal-means, route-means, ahead-means}
+use Rattle.model.proofs.Meaning.{goal-means, route-means, route-few, ahead-means}
 use Rattle.model.proofs.Cases.{act-arrived, act-blind, act-learns, learn-over, learn-forward, learn-back, back-stays, back-lost, back-goes, decide-refused, decide-acts}
 use Rattle.model.proofs.Steps.{newHere, targetHere, moves-length}
 use Rattle.model.proofs.Rides.{ride-there, ride-on, Riding, judges, riding-begun, riding-next, ride-arrives}
@@ -145,28 +144,21 @@ module _ (j : Job) (bytes : List ℕ) (s : State) (table path : List ℕ) where
 
     -- the route from a cell that is no goal to a cell of its window, as moves
     route-drives : (a x : ℕ) → a < size f → atGoal j bytes a ≡ false → ring j bytes (seen j bytes a) x ≤ seen j bytes a .last
-        → Drives f a (movesAlong f a (route j bytes a (seen j bytes a) x)) x (w j bytes (seen j bytes a) x)
-    route-drives a x l e h = chain-drives f (P .sized) (goals j) (route-means j bytes a (P .settings .deep) l e x h)
+        → Drives f a (movesAlong f a (route j bytes a x)) x (w j bytes (seen j bytes a) x)
+    route-drives a x l e h = chain-drives f (P .sized) (goals j) (route-means j bytes a (P .settings .deep) l e (P .settings .shallow) x h .0)
 
-    route-few : (a x : ℕ) → a < size f → atGoal j bytes a ≡ false → ring j bytes (seen j bytes a) x ≤ seen j bytes a .last
-        → length (movesAlong f a (route j bytes a (seen j bytes a) x)) ≤ mostMoves
-    unfolding ringOf lastOf
-    route-few a x l e h =
-        omega (
-          arith,
-          moves-length f a (route j bytes a (seen j bytes a) x),
-          route-short (groundIn j bytes) (j .depth) a (P .settings .deep) l (λ g. subst T e g) x h,
-          P .settings .shallow,
-        )
+    moves-few : (a x : ℕ) → a < size f → atGoal j bytes a ≡ false → ring j bytes (seen j bytes a) x ≤ seen j bytes a .last
+        → length (movesAlong f a (route j bytes a x)) ≤ mostMoves
+    moves-few a x l e h = omega (arith, moves-length f a (route j bytes a x), route-few j bytes a (P .settings .deep) l e (P .settings .shallow) x h)
 
     forward-drives : atGoal j bytes (s .current) ≡ false → emptyRing j bytes (seen j bytes (s .current)) (seen j bytes (s .current) .last) ≡ false
         → Driven j bytes s (forward j bytes s (seen j bytes (s .current)) table path (newHere j bytes s table) (targetHere j bytes s table))
-    unfolding forward
+    unfolding forwardBy
     forward-drives e full =
         let inside = free-below f (s .current) (P .here) in
         let near : ring j bytes (seen j bytes (s .current)) (targetHere j bytes s table) ≤ seen j bytes (s .current) .last =
         omega (arith, ahead-means j bytes (s .current) (P .settings .deep) inside e table full .on-last) in
-        record { drives = route-drives (s .current) _ inside e near; few = route-few (s .current) _ inside e near; names = by }
+        record { drives = route-drives (s .current) _ inside e near; few = moves-few (s .current) _ inside e near; names = by }
       where
         by : {x a m : ℕ} (t n : ℕ) → Names (A.Forward x a m) t n → (x ≡ t) × (m ≡ n)
         by t n forward-to = (refl, refl)
@@ -175,7 +167,7 @@ module _ (j : Job) (bytes : List ℕ) (s : State) (table path : List ℕ) where
     back-drives : (new : ℕ) → eqb (s .length) 0 ≡ false
         → eqb (ring j bytes (seen j bytes (getD path (s .length - 1) 0)) (s .current)) (seen j bytes (getD path (s .length - 1) 0) .last) ≡ true
         → Driven j bytes s (backOut j bytes s (seen j bytes (getD path (s .length - 1) 0)) table path new (getD path (s .length - 1) 0))
-    unfolding backOut
+    unfolding backOutBy
     back-drives new e on =
         let l = getD path (s .length - 1) 0 in
         let some : s .length ≡ 0 → ⊥ = eqb-false (s .length) 0 e in
@@ -187,9 +179,9 @@ module _ (j : Job) (bytes : List ℕ) (s : State) (table path : List ℕ) where
           drives = drives-back f (P .sized) (route-drives l (s .current) inside aside near);
           few = omega (
             arith,
-            length-map (reverse (movesAlong f l (route j bytes l (seen j bytes l) (s .current)))) opposite,
-            length-reverse (movesAlong f l (route j bytes l (seen j bytes l) (s .current))),
-            route-few l (s .current) inside aside near,
+            length-map (reverse (movesAlong f l (route j bytes l (s .current)))) opposite,
+            length-reverse (movesAlong f l (route j bytes l (s .current))),
+            moves-few l (s .current) inside aside near,
           );
           names = by;
         }
@@ -298,7 +290,7 @@ module _ (j : Job) (bytes : List ℕ) (start : ℕ) (table path : List ℕ) (e :
   Drove r = DrivenFrom start j bytes r
 
   drove-from : (n : ℕ) (r : Ride) → Riding j bytes start table path r → Drove r → Drove (rideFrom j bytes n r)
-  unfolding rideFrom next
+  unfolding rideFromBy nextBy
   drove-from zero r g k = k
   drove-from (suc n) r g k = by (atGoal j bytes (r .state .current)) refl (drove-from n)
     where
@@ -320,6 +312,6 @@ module _ (j : Job) (bytes : List ℕ) (start : ℕ) (table path : List ℕ) (e :
   trial-ends-at-the-bench = goal-means (floorOf j bytes) (j .goal) _ (subst T (sym (ride-arrives j bytes start table path (ready j bytes start table path e))) tt)
 
   pub trial-drives-to-the-bench : Drives (floorOf j bytes) start (ride j bytes start table path .moves) (j .goal) (ride j bytes start table path .travel)
-  unfolding ride
+  unfolding rideBy
   trial-drives-to-the-bench =
       subst (λ x. Drives (floorOf j bytes) start (ride j bytes start table path .moves) x (ride j bytes start table path .travel)) trial-ends-at-the-bench (trial-drives (bound j bytes table))

@@ -7,7 +7,7 @@ use mathlib.Core.Bool.{Bool, true, false, not, _&&_, _||_}
 use mathlib.Core.List.{List}
 use native.Mathlib.Omega.{arith}
 use borrow.Author.Tests.{le-leb, le-ltb, ne-eqb}
-use lib.Dec.{T, ltb, eqb}
+use lib.Dec.{ltb, eqb}
 use lib.ListN.{length, getD}
 use Rattle.learning.specs.Walk.{Walk, stop, move, Any}
 use Rattle.learning.specs.Path.{All, end, also, Distinct, alone, apart}
@@ -29,7 +29,7 @@ use Rattle.model.proofs.Moves.{is-true}
 use Rattle.model.proofs.Accepted.{then-next, sizes-judges, path-judges, settings-judges, places-judges, naming-done}
 use Rattle.model.proofs.Openings.{Held}
 use Rattle.model.proofs.Meaning.{goal-means}
-use Rattle.model.proofs.Steps.{asState, short, here}
+use Rattle.model.proofs.Steps.{asState, short, here, is-false}
 
 -- ---- tests over lists
 
@@ -51,10 +51,6 @@ distinct-true (apart h k) = ap₂ (λ a b. not a && b) (absent h) (distinct-true
 all-and : {P Q : ℕ → Type 0} {xs : List ℕ} → All P xs → All Q xs → All (λ x. P x × Q x) xs
 all-and end end = end
 all-and (also h k) (also i l) = also (h, i) (all-and k l)
-
-is-false : (b : Bool) → ¬ T b → b ≡ false
-is-false true h = absurd (h tt)
-is-false false h = refl
 
 -- ---- in a trial
 

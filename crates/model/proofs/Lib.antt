@@ -13,7 +13,7 @@ pub mod Refusals
 pub mod Compared
 pub mod SlowZones
 pub mod OpeningSound
--- The lookahead: empty rings; what the definitions mean, in document 01's words.
+-- The lookahead: empty rings; what the definitions mean, in the documents' words.
 pub mod Rings
 pub mod Meaning
 -- A decision test by test; in a trial it is one of `learning` and is never refused; trials and runs; the figures.
@@ -25,6 +25,9 @@ pub mod Tables
 -- A decision's moves drive the cart, and so do a trial's; the way kept is a walk.
 pub mod Driven
 pub mod KeptWay
+-- Document 02 on smoother routes: the choice of routes moves no figure, target or cost; where no cell is slow they are document 01's.
+pub mod Chosen
+pub mod PlainFloors
 -- Demand 3 of the mission, sentence by sentence.
 pub mod Demand
 -- Document 02 on corners: what a move needs free; learned tables stay sound.

@@ -1,6 +1,6 @@
--- What the definitions mean, in document 01's words: moves, rings, the window, w, the new figure, the target, the route, true distances, and number 9.
+-- What the definitions mean, in the documents' words: moves, rings, the window, w, the new figure, the target, the route, true distances, and number 9.
 -- All are what `learning` proves of any ground; here they are said of the model's own names.
-use Prim.Native.Nat.{ℕ, zero, suc, _+_, _≤_, _<_}
+use Prim.Native.Nat.{ℕ, zero, suc, _+_, _%_, _≤_, _<_}
 use mathlib.Core.Path.{_≡_, refl, subst}
 use mathlib.Core.Logic.{_⊎_, inl, inr, _≢_}
 use mathlib.Core.Bool.{true, false}
@@ -10,29 +10,31 @@ use native.Mathlib.Decide.{decLe}
 use native.Mathlib.Omega.{arith}
 use borrow.Author.Tests.{lt-ltb}
 use lib.Dec.{T, ltb, eqb, eqb→eq, eqb-refl}
-use lib.ListN.{getD}
+use lib.ListN.{length, getD}
 use Rattle.learning.specs.Walk.{Network, Walk, Any, Least, Leads, Arrives}
 use Rattle.learning.specs.Ahead.{Window, Ahead}
-use Rattle.learning.specs.Ground.{Goal, netOf, distIn, distOf, ringOf, lastOf, legOf}
+use Rattle.learning.specs.Ground.{Goal, netOf, distIn, distOf, viewOf, ringOf, lastOf, legOf}
 use Rattle.learning.specs.Route.{Chain, priorIn}
 use Rattle.learning.proofs.Walks.{turn}
 use Rattle.learning.proofs.Sound.{ring-self, crosses}
 use Rattle.learning.proofs.Spread.{second-true}
 use Rattle.learning.proofs.Ground.{dist-least, window, ring-low, ring-walk}
 use Rattle.learning.proofs.Look.{answer-if, walk-inside}
-use Rattle.learning.proofs.Routes.{route-chain, route-none, route-more, prior-least}
+use Rattle.learning.proofs.Route.{leg-moves}
+use Rattle.learning.proofs.Routes.{chain-walk, route-none, route-more}
+use Rattle.learning.proofs.Finer.{into-fine, fewest-moves, route-fewest, prior-fewest, prior-goes}
 use Rattle.answers.specs.declared.Job.{Job}
 use Rattle.model.specs.Basics.{member}
-use Rattle.model.specs.Floor.{Floor, size, Sized, doubled, slowly, price, ahead, allowed, goalsOf}
-use Rattle.model.specs.Checks.{floorOf, groundIn}
-use Rattle.model.specs.Lookahead.{seen, ring, w, emptyRing, newFigure, target, route}
+use Rattle.model.specs.Floor.{Floor, size, Sized, dearestPrice, doubled, slowly, price, ahead, allowed, goalsOf}
+use Rattle.model.specs.Checks.{deepest, floorOf, groundIn}
+use Rattle.model.specs.Lookahead.{seen, ring, w, emptyRing, newFigure, target, fineness, fineIn, route, mostMoves}
 use Rattle.model.specs.Opening.{distances, reaches}
 use Rattle.model.specs.Decision.{atGoal}
 use Rattle.model.proofs.Moves.{toll, price-move, price-toll, allowed-inside, allowed-some}
 use Rattle.model.proofs.Held.{or-false}
 use Rattle.model.proofs.Soundness.{reaches-of, reaches-means}
 use Rattle.model.proofs.Rings.{Bare, empty-none, empty-some, empty-full, empty-of}
-use Rattle.model.specs.Grounds.{groundOf}
+use Rattle.model.specs.Grounds.{price-high, groundOf}
 
 -- ---- "A move is allowed when the cell moved into is on the floor and free. A straight move costs 10, a diagonal one 14.
 -- A move that begins or ends in a slow cell costs double, 20 or 28, the same each way."
@@ -123,26 +125,61 @@ module _ (j : Job) (bytes : List ℕ) (s : ℕ) (deep : 1 ≤ j .depth) (floor :
       full zero h = (s, omega (arith, ring-self window-means))
       full (suc k) h = let (x, l, q) = empty-full j bytes (seen j bytes s) (seen j bytes s .last) e (suc k) (omega arith) h in (x, q)
 
-  -- "The route is found backward from the target": it is a walk of the window at the cost w
-  pub route-means : (x : ℕ) → InWindow x → Chain (net j bytes) InWindow s (route j bytes s (seen j bytes s) x) x (w j bytes (seen j bytes s) x)
-  unfolding ringOf lastOf legOf
-  route-means x h = route-chain (groundIn j bytes) (j .depth) s deep floor off x h
+  -- "Among routes of equal cost to the target, the one with fewest moves is to be taken; among those, 01's backward rule applies, and each cell it picks must
+  -- leave a fewest-move route."
 
-  -- "each time the lowest-numbered window cell from which one allowed move, added to its w, gives exactly the w of the cell reached"
+  -- x can be reached in the window by so many moves at the cost w(x); and n(x), the fewest of them
+  abbrev pub CheapIn : ℕ → ℕ → Type 0
+  CheapIn x m = Walk (net j bytes) InWindow s x (w j bytes (seen j bytes s) x) m
+
+  abbrev pub n : ℕ → ℕ
+  n x = legOf (fineIn j bytes) (j .depth) s x % fineness
+
+  -- the cell before x on the route
   abbrev pub prior : ℕ → ℕ
-  prior x = priorIn (groundIn j bytes) (j .depth) s (seen j bytes s) x
+  prior x = priorIn (fineIn j bytes) (j .depth) s (viewOf (fineIn j bytes) (j .depth) s) x
 
-  pub prior-means : (x : ℕ) → InWindow x → x ≢ s
-      → Least (λ b. InWindow b × (1 ≤ price (floorOf j bytes) b x) × (w j bytes (seen j bytes s) b + price (floorOf j bytes) b x ≡ w j bytes (seen j bytes s) x)) (prior x)
-  unfolding ringOf lastOf legOf
-  prior-means x h o = prior-least (groundIn j bytes) (j .depth) s deep floor off x h o
+  module _ (shallow : j .depth ≤ deepest) where
+    pub n-means : (x : ℕ) → InWindow x → Least (CheapIn x) (n x)
+    unfolding ringOf lastOf legOf
+    n-means x h = fewest-moves (groundIn j bytes) fineness (j .depth) s (omega arith) deep floor off (omega arith) x h
 
-  pub route-goes-back : (x : ℕ) → InWindow x → x ≢ s → route j bytes s (seen j bytes s) x ≡ route j bytes s (seen j bytes s) (prior x) ++ x ∷ []
-  unfolding ringOf lastOf
-  route-goes-back x h o = route-more (groundIn j bytes) (j .depth) s deep floor off x (prior x) h o refl
+    -- the route is a walk of the window that costs w, and has n moves
+    pub route-means : (x : ℕ) → InWindow x
+        → Chain (net j bytes) InWindow s (route j bytes s x) x (w j bytes (seen j bytes s) x) × (length (route j bytes s x) ≡ n x)
+    unfolding route ringOf lastOf legOf
+    route-means x h = route-fewest (groundIn j bytes) fineness (j .depth) s (omega arith) deep floor off (omega arith) x h
 
-  pub route-ends : route j bytes s (seen j bytes s) s ≡ []
-  route-ends = route-none (groundIn j bytes) (j .depth) s deep floor off
+    -- so none of that cost has fewer
+    pub route-smooth : (x m : ℕ) → InWindow x → CheapIn x m → length (route j bytes s x) ≤ m
+    route-smooth x m h t = omega (arith, route-means x h .1, n-means x h .low m t)
+
+    pub route-few : (x : ℕ) → InWindow x → length (route j bytes s x) ≤ mostMoves
+    unfolding ringOf lastOf legOf
+    route-few x h =
+        omega (arith, leg-moves window-means dearestPrice (λ a b c e. omega (arith, e .1, price-high (floorOf j bytes) a b)) x _ h (chain-walk (route-means x h .0)), window-means .depth)
+
+    -- "each time the lowest-numbered window cell from which one allowed move, added to its w, gives exactly the w of the cell reached", and leaves a
+    -- fewest-move route
+    pub prior-means : (x : ℕ) → InWindow x → x ≢ s → Least (λ b. InWindow b × (1 ≤ price (floorOf j bytes) b x)
+        × (w j bytes (seen j bytes s) b + price (floorOf j bytes) b x ≡ w j bytes (seen j bytes s) x) × (n b + 1 ≡ n x)) (prior x)
+    unfolding ringOf lastOf legOf
+    prior-means x h o = prior-fewest (groundIn j bytes) fineness (j .depth) s (omega arith) deep floor off (omega arith) x h o
+
+    -- in walks: a fewest-move route to x of cost w(x) goes on from it, and from no lower cell
+    pub prior-leaves : (x : ℕ) → InWindow x → x ≢ s → Least (λ b. (c m : ℕ) × Walk (net j bytes) InWindow s b c m × (1 ≤ price (floorOf j bytes) b x)
+        × (c + price (floorOf j bytes) b x ≡ w j bytes (seen j bytes s) x) × (m + 1 ≡ n x)) (prior x)
+    unfolding ringOf lastOf legOf
+    prior-leaves x h o = prior-goes (groundIn j bytes) fineness (j .depth) s (omega arith) deep floor off (omega arith) x h o
+
+    pub route-goes-back : (x : ℕ) → InWindow x → x ≢ s → route j bytes s x ≡ route j bytes s (prior x) ++ x ∷ []
+    unfolding route ringOf lastOf
+    route-goes-back x h o =
+        route-more (fineIn j bytes) (j .depth) s deep floor off x (prior x) (into-fine (groundIn j bytes) fineness (j .depth) s (omega arith) deep floor off x h) o refl
+
+  pub route-ends : route j bytes s s ≡ []
+  unfolding route
+  route-ends = route-none (fineIn j bytes) (j .depth) s deep floor off
 
   -- 9: "a ring up to d is empty and the goal is in none before it"
   abbrev pub Lost : ℕ → Type 0

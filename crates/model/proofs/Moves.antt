@@ -202,7 +202,7 @@ module _ (f : Floor) (a b : ℕ) where
       let y = leb-true dy 1 (r .1) in
       record { columns = x; rows = y; some = some-tariff (dx + dy) (p .1); cost = clear-fare t s dx dy (q .1) x y }
 
-  priced : 1 ≤ price f a b → Priced f (slowly f a b) a b (price f a b)
+  pub priced : 1 ≤ price f a b → Priced f (slowly f a b) a b (price f a b)
   unfolding price
   priced = fared (clear f a b) (slowly f a b)
 

@@ -23,7 +23,7 @@ use Rattle.answers.specs.declared.Verdict.the-variants as Vd
 use Rattle.model.specs.Floor.{size, leastPrice, dearestPrice}
 use Rattle.model.specs.Checks.{ceiling, floorOf, groundIn, farthest, finest, largestQuota}
 use Rattle.model.specs.Decision.{atGoal, judge, act}
-use Rattle.model.specs.Ride.{Ride, begun, next, rideFrom, learningJob, bound, ride, kept, Course, courseFrom}
+use Rattle.model.specs.Ride.{Ride, begun, next, nextBy, rideFrom, rideFromBy, learningJob, bound, ride, rideBy, kept, Course, courseFrom, courseFromBy}
 use Rattle.model.specs.Opening.{openTrial}
 use Rattle.model.proofs.Openings.{Held, Ready, accepted-trial}
 use Rattle.model.proofs.Judged.{judged}
@@ -48,13 +48,13 @@ dearestKept = finest * (farthest + largestQuota)
 
 module _ (j : Job) (bytes : List ℕ) where
   pub ride-there : (n : ℕ) (r : Ride) → atGoal j bytes (r .state .current) ≡ true → rideFrom j bytes n r ≡ r
-  unfolding rideFrom
+  unfolding rideFromBy
   ride-there zero r e = refl
-  ride-there (suc n) r e = rw (e, rideFrom)
+  ride-there (suc n) r e = rw (e, rideFromBy)
 
   pub ride-on : (n : ℕ) (r : Ride) → atGoal j bytes (r .state .current) ≡ false → rideFrom j bytes (suc n) r ≡ rideFrom j bytes n (next j bytes r)
-  unfolding rideFrom
-  ride-on n r e = rw (e, rideFrom)
+  unfolding rideFromBy
+  ride-on n r e = rw (e, rideFromBy)
 
 -- where a ride stands, as `learning` has it
 abbrev pub standing : Ride → learning.State
@@ -100,7 +100,7 @@ module _ (j : Job) (bytes : List ℕ) (start : ℕ) (table path : List ℕ) (R :
       does = act-does j bytes H (r .state) (r .table) (r .path) keeps room aside
 
       pub riding-next : Riding j bytes start table path (next j bytes r)
-      unfolding next
+      unfolding nextBy
       riding-next = record {
         made = trial-on (g .made) (does .step);
         fits = λ x h. subst (λ t. getD t x 0 ≤ ceiling) (sym (does .stores))
@@ -110,12 +110,12 @@ module _ (j : Job) (bytes : List ℕ) (start : ℕ) (table path : List ℕ) (R :
       }
 
       pub falls : yet j bytes (next j bytes r) < yet j bytes r
-      unfolding next
+      unfolding nextBy
       falls = step-falls (H .lawful) (does .step) keeps
 
   -- after any number of decisions
   pub riding-from : (n : ℕ) (r : Ride) → Riding j bytes start table path r → Riding j bytes start table path (rideFrom j bytes n r)
-  unfolding rideFrom
+  unfolding rideFromBy
   riding-from zero r g = g
   riding-from (suc n) r g = by (atGoal j bytes (r .state .current)) refl (riding-from n)
     where
@@ -159,16 +159,16 @@ module _ (j : Job) (bytes : List ℕ) (start : ℕ) (table path : List ℕ) (R :
   begun-low = potential-opened (H .lawful) start table (R .opened .sound) (R .opened .reach)
 
   pub ride-riding : Riding j bytes start table path (ride j bytes start table path)
-  unfolding ride
+  unfolding rideBy
   ride-riding = arrives (bound j bytes table) (begun start table path) riding-begun begun-low .0
 
   pub ride-arrives : atGoal j bytes (ride j bytes start table path .state .current) ≡ true
-  unfolding ride
+  unfolding rideBy
   ride-arrives = arrives (bound j bytes table) (begun start table path) riding-begun begun-low .1
 
   -- for a loop: the whole ride is the rest of what has begun, and the rest stays the same until it is all there is
   pub rest-begun : ride j bytes start table path ≡ rest j bytes (begun start table path)
-  unfolding ride
+  unfolding rideBy
   rest-begun = enough (bound j bytes table) _ (begun start table path) riding-begun begun-low (omega arith)
 
   pub rest-next : {r : Ride} → Riding j bytes start table path r → atGoal j bytes (r .state .current) ≡ false → rest j bytes r ≡ rest j bytes (next j bytes r)
@@ -260,14 +260,14 @@ pub data Rides (j : Job) (bytes : List ℕ) (start : ℕ) : List ℕ → List �
 
 module _ (j : Job) (bytes : List ℕ) (start : ℕ) where
   pub course-none : (table path : List ℕ) → courseFrom j bytes start 0 table path ≡ record { rides = []; settled = false; table = table; path = path }
-  unfolding courseFrom
+  unfolding courseFromBy
   course-none table path = refl
 
   pub course-settled : (k : ℕ) (table path : List ℕ) → eqb (ride j bytes start table path .learned) 0 ≡ true
       → courseFrom j bytes start (suc k) table path
       ≡ record { rides = ride j bytes start table path ∷ []; settled = true; table = ride j bytes start table path .table; path = ride j bytes start table path .path }
-  unfolding courseFrom
-  course-settled k table path e = rw (e, courseFrom)
+  unfolding courseFromBy
+  course-settled k table path e = rw (e, courseFromBy)
 
   -- a course after its first ride
   abbrev with-ride : Ride → Course → Course
@@ -276,11 +276,11 @@ module _ (j : Job) (bytes : List ℕ) (start : ℕ) where
   pub course-again : (k : ℕ) (table path : List ℕ) → eqb (ride j bytes start table path .learned) 0 ≡ false
       → courseFrom j bytes start (suc k) table path
       ≡ with-ride (ride j bytes start table path) (courseFrom j bytes start k (ride j bytes start table path .table) (ride j bytes start table path .path))
-  unfolding courseFrom
-  course-again k table path e = rw (e, courseFrom)
+  unfolding courseFromBy
+  course-again k table path e = rw (e, courseFromBy)
 
   pub course-rides : (trials : ℕ) (table path : List ℕ) → Ready j bytes start table path → Rides j bytes start table path (courseFrom j bytes start trials table path .rides)
-  unfolding courseFrom
+  unfolding courseFromBy
   course-rides zero table path R = over
   course-rides (suc k) table path R = by (eqb (ride j bytes start table path .learned) 0) refl (course-rides k)
     where

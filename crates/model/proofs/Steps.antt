@@ -23,7 +23,6 @@ use Rattle.learning.proofs.Trials.{Keeps}
 use Rattle.learning.proofs.Never.{path-room, ring-here, new-high}
 use Rattle.learning.proofs.Look.{answer, walk-inside}
 use Rattle.learning.specs.Route.{Chain, ended, step}
-use Rattle.learning.proofs.Routes.{route-chain, route-short}
 use Rattle.learning.proofs.Lent.{forward-kept}
 use Rattle.answers.specs.declared.Job.{Job}
 use Rattle.answers.specs.declared.State.{State}
@@ -33,10 +32,11 @@ use Rattle.model.specs.Floor.{Floor, size, Sized, heading, opposite, dea
 use Rattle.model.specs.Grounds.{price-high, groundOf}
 use Rattle.model.specs.Checks.{ceiling, floorOf, goals, groundIn, farthest}
 use Rattle.model.specs.Lookahead.{seen, ring, emptyRing, newFigure, target, route, movesAlong, mostMoves}
-use Rattle.model.specs.Decision.{atGoal, onPath, Deed, rise, stored, forward, backOut, stay, act}
+use Rattle.model.specs.Decision.{atGoal, onPath, Deed, rise, stored, forward, forwardBy, backOut, backOutBy, stay, act}
 use Rattle.model.specs.Ride.{learningJob}
 use Rattle.model.proofs.Moves.{opposite-lt, price-move, heading-is}
 use Rattle.model.proofs.Openings.{Held, not-both}
+use Rattle.model.proofs.Meaning.{route-means, route-few}
 use Rattle.model.proofs.Cases.{act-learns, learn-forward, learn-back, back-stays, back-goes}
 use Rattle.model.proofs.Rings.{empty-none}
 
@@ -120,6 +120,10 @@ same c u e f i = record { cell = c; used = u; path = e i; table = f i }
 
 -- ---- in a trial
 
+pub is-false : (b : Bool) → ¬ T b → b ≡ false
+is-false true h = absurd (h tt)
+is-false false h = refl
+
 module _ (j : Job) (bytes : List ℕ) (H : Held j bytes) where
   abbrev J : learning.Job
   J = learningJob j bytes
@@ -130,20 +134,21 @@ module _ (j : Job) (bytes : List ℕ) (H : Held j bytes) where
   pub dear : (a b c : ℕ) → J .net .Edge a b c → c ≤ dearestPrice
   dear a b c e = omega (arith, e .1, price-high (floorOf j bytes) a b)
 
-  route-few : (s x : ℕ) → CanReach J s → ¬ J .Goal s → ringOf (groundIn j bytes) (j .depth) s x ≤ lastOf (groundIn j bytes) (j .depth) s
-      → length (movesAlong (floorOf j bytes) s (route j bytes s (seen j bytes s) x)) ≤ mostMoves
-  route-few s x r g l =
-      omega (
-        arith,
-        moves-length (floorOf j bytes) s (route j bytes s (seen j bytes s) x),
-        route-short (groundIn j bytes) (j .depth) s (H .settings .deep) (H .lawful .on-floor s r) g x l,
-        H .settings .shallow,
-      )
+  module _ (s x : ℕ) (r : CanReach J s) (g : ¬ J .Goal s) (near : ringOf (groundIn j bytes) (j .depth) s x ≤ lastOf (groundIn j bytes) (j .depth) s) where
+    moves-few : length (movesAlong (floorOf j bytes) s (route j bytes s x)) ≤ mostMoves
+    unfolding ringOf lastOf
+    moves-few =
+        omega (
+          arith,
+          moves-length (floorOf j bytes) s (route j bytes s x),
+          route-few j bytes s (H .settings .deep) (H .lawful .on-floor s r) (is-false _ g) (H .settings .shallow) x near,
+        )
 
-  route-low : (s x : ℕ) → CanReach J s → ¬ J .Goal s → ringOf (groundIn j bytes) (j .depth) s x ≤ lastOf (groundIn j bytes) (j .depth) s
-      → All (λ m. m < 8) (movesAlong (floorOf j bytes) s (route j bytes s (seen j bytes s) x))
-  route-low s x r g l =
-      moves-low (floorOf j bytes) (H .sized) (goals j) (route-chain (groundIn j bytes) (j .depth) s (H .settings .deep) (H .lawful .on-floor s r) g x l)
+    moves-eight : All (λ m. m < 8) (movesAlong (floorOf j bytes) s (route j bytes s x))
+    unfolding ringOf lastOf
+    moves-eight =
+        moves-low (floorOf j bytes) (H .sized) (goals j)
+        (route-means j bytes s (H .settings .deep) (H .lawful .on-floor s r) (is-false _ g) (H .settings .shallow) x near .0)
 
   module _ {start : ℕ} (s : State) (table path : List ℕ) (k : Keeps J start (asState s table path)) (room : size (floorOf j bytes) ≤ length path) where
     pub short : s .length < size (floorOf j bytes)
@@ -188,7 +193,7 @@ module _ (j : Job) (bytes : List ℕ) (H : Held j bytes) where
 
       forward-does : s .learned + rise table (s .current) (newHere j bytes s table) ≤ j .q * j .quota
           → Does j bytes s table path (forward j bytes s (seen j bytes (s .current)) table path (newHere j bytes s table) (targetHere j bytes s table))
-      unfolding forward legOf ringOf lastOf
+      unfolding forwardBy legOf ringOf lastOf
       forward-does h =
           let new = newHere j bytes s table in
           let t = targetHere j bytes s table in
@@ -199,8 +204,8 @@ module _ (j : Job) (bytes : List ℕ) (H : Held j bytes) where
             stores = refl;
             places = length-set path (s .length) (s .current);
             says = went refl;
-            few = route-few (s .current) t here off (omega (arith, looked .on-last));
-            low = route-low (s .current) t here off (omega (arith, looked .on-last));
+            few = moves-few (s .current) t here off (omega (arith, looked .on-last));
+            low = moves-eight (s .current) t here off (omega (arith, looked .on-last));
           }
 
       -- backing out, with a path: not 8
@@ -228,7 +233,7 @@ module _ (j : Job) (bytes : List ℕ) (H : Held j bytes) where
 
       back-does : j .q * j .quota < s .learned + rise table (s .current) (newHere j bytes s table) → 1 ≤ s .length
           → Does j bytes s table path (backOut j bytes s (seen j bytes l) table path (newHere j bytes s table) l)
-      unfolding backOut legOf ringOf lastOf
+      unfolding backOutBy legOf ringOf lastOf
       back-does h i =
           let new = newHere j bytes s table in
           record {
@@ -243,11 +248,11 @@ module _ (j : Job) (bytes : List ℕ) (H : Held j bytes) where
             says = backed refl;
             few = omega (
               arith,
-              length-map (reverse (movesAlong (floorOf j bytes) l (route j bytes l (seen j bytes l) (s .current)))) opposite,
-              length-reverse (movesAlong (floorOf j bytes) l (route j bytes l (seen j bytes l) (s .current))),
-              route-few l (s .current) (there i) (leads i .0) (omega (arith, leads i .1)),
+              length-map (reverse (movesAlong (floorOf j bytes) l (route j bytes l (s .current)))) opposite,
+              length-reverse (movesAlong (floorOf j bytes) l (route j bytes l (s .current))),
+              moves-few l (s .current) (there i) (leads i .0) (omega (arith, leads i .1)),
             );
-            low = back-low [] (route-low l (s .current) (there i) (leads i .0) (omega (arith, leads i .1))) end;
+            low = back-low [] (moves-eight l (s .current) (there i) (leads i .0) (omega (arith, leads i .1))) end;
           }
 
       -- with none

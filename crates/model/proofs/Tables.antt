@@ -23,8 +23,8 @@ use Rattle.answers.specs.declared.Verdict.the-variants as Vd
 use Rattle.model.specs.Basics.{choose}
 use Rattle.model.specs.Checks.{ceiling, groundIn}
 use Rattle.model.specs.Lookahead.{seen, ring, emptyRing}
-use Rattle.model.specs.Decision.{Deed, atGoal, rise, stored, forward, backOut, stay, goBack, act, outcomeOf, judge, decide}
-use Rattle.model.specs.Ride.{Ride, begun, next, rideFrom, learningJob, bound, ride, Course, courseFrom}
+use Rattle.model.specs.Decision.{Deed, atGoal, rise, stored, forwardBy, backOutBy, stay, goBack, act, outcomeOf, judge, decide, decideBy}
+use Rattle.model.specs.Ride.{Ride, begun, next, nextBy, rideFrom, rideFromBy, learningJob, bound, ride, rideBy, Course, courseFrom, courseFromBy}
 use Rattle.model.proofs.Openings.{Held, Opened, Ready, second-false}
 use Rattle.model.proofs.Cases.{act-arrived, act-blind, act-learns, learn-over, learn-forward, learn-back, back-stays, back-lost, back-goes}
 use Rattle.model.proofs.Steps.{newHere, targetHere, stored-raised, stored-fits}
@@ -63,7 +63,7 @@ Left j bytes s table after =
 
 module _ (j : Job) (bytes : List ℕ) (s : State) (table path : List ℕ) where
   back-table : (new : ℕ) → (goBack j bytes s table path new .table ≡ table) ⊎ (goBack j bytes s table path new .table ≡ stored table (s .current) new)
-  unfolding backOut stay
+  unfolding backOutBy stay
   back-table new = by (eqb (s .length) 0) refl (eqb (ring j bytes (seen j bytes l) (s .current)) (seen j bytes l .last)) refl
     where
       l : ℕ
@@ -76,7 +76,7 @@ module _ (j : Job) (bytes : List ℕ) (s : State) (table path : List ℕ) where
       by false e false f = inl (ap (λ d. d .table) (back-lost j bytes s table path new e f))
 
   act-table : Left j bytes s table (act j bytes s table path .table)
-  unfolding forward
+  unfolding forwardBy
   act-table =
       by (atGoal j bytes (s .current)) refl (emptyRing j bytes (seen j bytes (s .current)) (seen j bytes (s .current) .last)) refl
       (ltb (getD table (s .current) 0) new && ltb ceiling new) refl (leb (s .learned + rise table (s .current) new) (j .q * j .quota)) refl
@@ -163,7 +163,7 @@ module _ (j : Job) (bytes : List ℕ) (s : State) (table path : List ℕ) where
 
   -- the call with its checks leaves the decision's table, or the lent one
   pub decide-table : (P : List ℕ → Type 0) (moves : List ℕ) (from : ℕ) → P table → P (act j bytes s table path .table) → P (decide j bytes s table path moves from .table)
-  unfolding decide
+  unfolding decideBy
   decide-table P moves from old new = by (judge j bytes s table path (length moves) from)
     where
       by : (v : Verdict) → P (outcomeOf v (act j bytes s table path) s table path moves from .table)
@@ -174,7 +174,7 @@ module _ (j : Job) (bytes : List ℕ) (s : State) (table path : List ℕ) where
 
 module _ (j : Job) (bytes : List ℕ) where
   pub ride-high : (n : ℕ) (r : Ride) (x : ℕ) → getD (r .table) x 0 ≤ getD (rideFrom j bytes n r .table) x 0
-  unfolding rideFrom next
+  unfolding rideFromBy nextBy
   ride-high zero r x = omega arith
   ride-high (suc n) r x = by (atGoal j bytes (r .state .current)) refl (ride-high n (next j bytes r) x)
     where
@@ -185,7 +185,7 @@ module _ (j : Job) (bytes : List ℕ) where
       by false e h = omega (arith, act-high j bytes (r .state) (r .table) (r .path) x, ap (λ (q : Ride). getD (q .table) x 0) (ride-on j bytes n r e))
 
   pub course-high : (start trials : ℕ) (table path : List ℕ) (x : ℕ) → getD table x 0 ≤ getD (courseFrom j bytes start trials table path .table) x 0
-  unfolding courseFrom ride
+  unfolding courseFromBy rideBy
   course-high start zero table path x = omega arith
   course-high start (suc k) table path x =
       by (eqb (r .learned) 0) refl (ride-high (bound j bytes table) (begun start table path) x) (course-high start k (r .table) (r .path) x)
@@ -202,7 +202,7 @@ module _ (j : Job) (bytes : List ℕ) where
   -- and what a course leaves is accepted again
   pub course-ready : (start trials : ℕ) (table path : List ℕ) → Ready j bytes start table path
       → Ready j bytes start (courseFrom j bytes start trials table path .table) (courseFrom j bytes start trials table path .path)
-  unfolding courseFrom
+  unfolding courseFromBy
   course-ready start zero table path R = R
   course-ready start (suc k) table path R =
       by (eqb (ride j bytes start table path .learned) 0) refl (ready-after j bytes start table path R)

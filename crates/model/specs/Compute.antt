@@ -6,10 +6,10 @@ use Rattle.learning.specs.Route.{priorIn, routeFrom, routeIn}
 use Rattle.model.specs.Basics.{every, member, distinct, naming}
 use Rattle.model.specs.Floor.{free, slow, clear, price, ahead, inside, allowed, heading, octile, opening, openingTable}
 use Rattle.model.specs.Checks.{sizes, pathRoom, settings, scale, benches, places, figures}
-use Rattle.model.specs.Lookahead.{emptyRing, movesAlong}
-use Rattle.model.specs.Decision.{movesRoom, stateHolds, judge, forward, backOut, stay, goBack, learn, act, decide}
+use Rattle.model.specs.Lookahead.{emptyRing, route, movesAlong}
+use Rattle.model.specs.Decision.{movesRoom, stateHolds, judge, forwardBy, backOutBy, stay, goBackBy, learnBy, actBy, decideBy}
 use Rattle.model.specs.Opening.{soundness, accepts, openJob, openTrial, reportsRoom, trialsHold, openRun, openTable}
-use Rattle.model.specs.Ride.{next, rideFrom, bound, ride, kept, trial, courseFrom, run}
+use Rattle.model.specs.Ride.{nextBy, rideFromBy, bound, rideBy, kept, trialBy, courseFromBy, runBy}
 use Rattle.model.specs.TableFile.{trailerHolds, checkTrailer, findRecords, sameJob, recordFault, judgeRecords, applied, readVerdict, readTable, changed, recordsOf, trailerOf, fileOf}
 use Rattle.model.specs.TableFile.{unlike, writeVerdict, writeTable}
 use Rattle.model.specs.Writing.{fileRoom}
@@ -24,10 +24,10 @@ unfolding decLe ℕ-discrete
     every member distinct naming
     free slow clear price ahead inside allowed heading octile opening openingTable
     sizes pathRoom settings scale benches places figures
-    emptyRing movesAlong
-    movesRoom stateHolds judge forward backOut stay goBack learn act decide
+    emptyRing route movesAlong
+    movesRoom stateHolds judge forwardBy backOutBy stay goBackBy learnBy actBy decideBy
     soundness accepts openJob openTrial reportsRoom trialsHold openRun openTable
-    next rideFrom bound ride kept trial courseFrom run
+    nextBy rideFromBy bound rideBy kept trialBy courseFromBy runBy
     trailerHolds checkTrailer findRecords sameJob recordFault judgeRecords applied readVerdict readTable changed recordsOf trailerOf fileOf unlike fileRoom writeVerdict writeTable
     begins sizeIn header rowHolds rows cellsOf floorVerdict readFloor
     rowsOf textOf textVerdict writeFloor

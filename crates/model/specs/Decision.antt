@@ -74,14 +74,19 @@ rise table s new = new - getD table s 0
 abbrev pub stored : List ℕ → ℕ → ℕ → List ℕ
 stored table s new = choose (ltb (getD table s 0) new) (set table s new) table
 
+-- A choice of routes: the cells after s in order, to a cell x of the window around s. The carts take `route`; any other leaves the same figures, states and
+-- costs, and differs in moves alone (`Chosen` of the proofs)
+abbrev pub Choice : Type 0
+Choice = (s x : ℕ) → List ℕ
+
 -- 3: "go forward. The current cell is written at the place after the path's last, the length grows by one, u grows by a, and the cart takes the route.
 -- If the target is already on the path, the length is cut so that the target and all after it are off the path; old entries remain in the list beyond
 -- the length."
-unfoldable pub forward : Job → List ℕ → State → View → (table path : List ℕ) → (new t : ℕ) → Deed
-forward j bytes s v table path new t =
+unfoldable pub forwardBy : Choice → Job → List ℕ → State → View → (table path : List ℕ) → (new t : ℕ) → Deed
+forwardBy choice j bytes s v table path new t =
     let a = rise table (s .current) new in
     let written = set path (s .length) (s .current) in
-    let way = movesAlong (floorOf j bytes) (s .current) (route j bytes (s .current) v t) in
+    let way = movesAlong (floorOf j bytes) (s .current) (choice (s .current) t) in
     record {
       answer = A.Forward t a (length way);
       state = record { current = t; learned = s .learned + a; length = length (before t (take (suc (s .length)) written)) };
@@ -94,10 +99,10 @@ forward j bytes s v table path new t =
 
 -- 4: "u stays. With a path, the last cell is taken off (only the length changes, its entry stays in the list), and the cart goes there by the reverse
 -- of that cell's own route to where it stands. With none it stays." The last cell is l, and v what is seen from there
-unfoldable pub backOut : Job → List ℕ → State → View → (table path : List ℕ) → (new l : ℕ) → Deed
-backOut j bytes s v table path new l =
+unfoldable pub backOutBy : Choice → Job → List ℕ → State → View → (table path : List ℕ) → (new l : ℕ) → Deed
+backOutBy choice j bytes s v table path new l =
     let a = rise table (s .current) new in
-    let way = map opposite (reverse (movesAlong (floorOf j bytes) l (route j bytes l v (s .current)))) in
+    let way = map opposite (reverse (movesAlong (floorOf j bytes) l (choice l (s .current)))) in
     record {
       answer = A.BackedOut l a (length way);
       state = record { current = l; learned = s .learned; length = s .length - 1 };
@@ -114,36 +119,36 @@ stay s table path new =
     record { answer = A.Stayed a; state = s; table = stored table (s .current) new; path = path; rise = a; way = []; cost = 0 }
 
 -- backing out, its check last. 8: the current cell is not on the last ring of the cell taken off
-unfoldable pub goBack : Job → List ℕ → State → (table path : List ℕ) → ℕ → Deed
-goBack j bytes s table path new =
+unfoldable pub goBackBy : Choice → Job → List ℕ → State → (table path : List ℕ) → ℕ → Deed
+goBackBy choice j bytes s table path new =
     let l = getD path (s .length - 1) 0 in
     let v = seen j bytes l in
     elim (eqb (s .length) 0) [
       | true ↦ stay s table path new
-      | false ↦ elim (eqb (ring j bytes v (s .current)) (v .last)) [ true ↦ backOut j bytes s v table path new l | false ↦ refused s table path 8 ]
+      | false ↦ elim (eqb (ring j bytes v (s .current)) (v .last)) [ true ↦ backOutBy choice j bytes s v table path new l | false ↦ refused s table path 8 ]
     ]
 
 -- with the lookahead's new figure and target. 10: the new figure is greater than the one stored, and passes the ceiling. Then the quota's test:
 -- "If u + a ≤ q × T: go forward." "Otherwise back out"
-unfoldable pub learn : Job → List ℕ → State → View → (table path : List ℕ) → (new t : ℕ) → Deed
-learn j bytes s v table path new t =
+unfoldable pub learnBy : Choice → Job → List ℕ → State → View → (table path : List ℕ) → (new t : ℕ) → Deed
+learnBy choice j bytes s v table path new t =
     elim (ltb (getD table (s .current) 0) new && ltb ceiling new) [
       | true ↦ refused s table path 10
       | false ↦ elim (leb (s .learned + rise table (s .current) new) (j .q * j .quota)) [
-        | true ↦ forward j bytes s v table path new t
-        | false ↦ goBack j bytes s table path new
+        | true ↦ forwardBy choice j bytes s v table path new t
+        | false ↦ goBackBy choice j bytes s table path new
       ]
     ]
 
 -- 1 and 2: done at the goal, else the lookahead. 9: a ring up to d is empty and the goal is in none before it
-unfoldable pub act : Job → List ℕ → State → (table path : List ℕ) → Deed
-act j bytes s table path =
+unfoldable pub actBy : Choice → Job → List ℕ → State → (table path : List ℕ) → Deed
+actBy choice j bytes s table path =
     let v = seen j bytes (s .current) in
     elim (atGoal j bytes (s .current)) [
       | true ↦ unchanged s table path A.Arrived
       | false ↦ elim (emptyRing j bytes v (v .last)) [
         | true ↦ refused s table path 9
-        | false ↦ learn j bytes s v table path (newFigure j bytes v table) (target j bytes v table)
+        | false ↦ learnBy choice j bytes s v table path (newFigure j bytes v table) (target j bytes v table)
       ]
     ]
 
@@ -164,6 +169,25 @@ outcomeOf Vd.Done d s table path moves from =
     record { answer = d .answer; state = d .state; table = d .table; path = d .path; moves = laid moves from (d .way) }
 outcomeOf (Vd.Refused r) d s table path moves from = record { answer = A.Refused r; state = s; table = table; path = path; moves = moves }
 
-unfoldable pub decide : Job → List ℕ → State → (table path moves : List ℕ) → ℕ → Outcome
-decide j bytes s table path moves from =
-    outcomeOf (judge j bytes s table path (length moves) from) (act j bytes s table path) s table path moves from
+unfoldable pub decideBy : Choice → Job → List ℕ → State → (table path moves : List ℕ) → ℕ → Outcome
+decideBy choice j bytes s table path moves from =
+    outcomeOf (judge j bytes s table path (length moves) from) (actBy choice j bytes s table path) s table path moves from
+
+-- the carts' own, by `route`
+abbrev pub forward : Job → List ℕ → State → View → (table path : List ℕ) → (new t : ℕ) → Deed
+forward j bytes = forwardBy (route j bytes) j bytes
+
+abbrev pub backOut : Job → List ℕ → State → View → (table path : List ℕ) → (new l : ℕ) → Deed
+backOut j bytes = backOutBy (route j bytes) j bytes
+
+abbrev pub goBack : Job → List ℕ → State → (table path : List ℕ) → ℕ → Deed
+goBack j bytes = goBackBy (route j bytes) j bytes
+
+abbrev pub learn : Job → List ℕ → State → View → (table path : List ℕ) → (new t : ℕ) → Deed
+learn j bytes = learnBy (route j bytes) j bytes
+
+abbrev pub act : Job → List ℕ → State → (table path : List ℕ) → Deed
+act j bytes = actBy (route j bytes) j bytes
+
+abbrev pub decide : Job → List ℕ → State → (table path moves : List ℕ) → ℕ → Outcome
+decide j bytes = decideBy (route j bytes) j bytes

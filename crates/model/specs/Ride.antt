@@ -18,7 +18,8 @@ use Rattle.answers.specs.declared.Tried.the-variants as Td
 use Rattle.answers.specs.declared.Ran.{Ran}
 use Rattle.answers.specs.declared.Ran.the-variants as Rn
 use Rattle.model.specs.Checks.{groundIn}
-use Rattle.model.specs.Decision.{Deed, act, atGoal, onPath}
+use Rattle.model.specs.Decision.{Deed, Choice, actBy, atGoal, onPath}
+use Rattle.model.specs.Lookahead.{route}
 use Rattle.model.specs.Opening.{openTrial, openRun}
 
 -- Where a trial stands: the state and the lists, and so far its decisions, learned amount, travel and moves.
@@ -55,13 +56,13 @@ ridden r d = record {
   moves = r .moves ++ d .way;
 }
 
-unfoldable pub next : Job → List ℕ → Ride → Ride
-next j bytes r = ridden r (act j bytes (r .state) (r .table) (r .path))
+unfoldable pub nextBy : Choice → Job → List ℕ → Ride → Ride
+nextBy choice j bytes r = ridden r (actBy choice j bytes (r .state) (r .table) (r .path))
 
 -- decisions until done, at most so many; the arrived answer isn't counted
-unfoldable pub rideFrom : Job → List ℕ → ℕ → Ride → Ride
-rideFrom j bytes zero r = r
-rideFrom j bytes (suc n) r = elim (atGoal j bytes (r .state .current)) [ true ↦ r | false ↦ rideFrom j bytes n (next j bytes r) ]
+unfoldable pub rideFromBy : Choice → Job → List ℕ → ℕ → Ride → Ride
+rideFromBy choice j bytes zero r = r
+rideFromBy choice j bytes (suc n) r = elim (atGoal j bytes (r .state .current)) [ true ↦ r | false ↦ rideFromBy choice j bytes n (nextBy choice j bytes r) ]
 
 -- the job as `learning` has it, and K × (R + 1): more than the decisions of any trial from an accepted job
 abbrev pub learningJob : Job → List ℕ → learning.Job
@@ -70,8 +71,8 @@ learningJob j bytes = jobOf (groundIn j bytes) (j .depth) (j .p) (j .q) (j .quot
 unfoldable pub bound : Job → List ℕ → List ℕ → ℕ
 bound j bytes table = factor (learningJob j bytes) * (left (learningJob j bytes) table + 1)
 
-unfoldable pub ride : Job → List ℕ → (start : ℕ) → (table path : List ℕ) → Ride
-ride j bytes start table path = rideFrom j bytes (bound j bytes table) (begun start table path)
+unfoldable pub rideBy : Choice → Job → List ℕ → (start : ℕ) → (table path : List ℕ) → Ride
+rideBy choice j bytes start table path = rideFromBy choice j bytes (bound j bytes table) (begun start table path)
 
 -- kept cost: the legs along the path at the end
 unfoldable pub kept : Job → List ℕ → Ride → ℕ
@@ -90,8 +91,8 @@ abbrev pub trialOf : Verdict → Job → List ℕ → Ride → (table path : Lis
 trialOf Vd.Done j bytes r table path = record { answer = Td.Made (report j bytes r); table = r .table; path = r .path }
 trialOf (Vd.Refused r′) j bytes r table path = record { answer = Td.Refused r′; table = table; path = path }
 
-unfoldable pub trial : Job → List ℕ → (start : ℕ) → (table path : List ℕ) → TrialOutcome
-trial j bytes start table path = trialOf (openTrial j bytes start table path) j bytes (ride j bytes start table path) table path
+unfoldable pub trialBy : Choice → Job → List ℕ → (start : ℕ) → (table path : List ℕ) → TrialOutcome
+trialBy choice j bytes start table path = trialOf (openTrial j bytes start table path) j bytes (rideBy choice j bytes start table path) table path
 
 -- A course: the rides of a run's trials in order, whether the last learned nothing, and the lists it leaves.
 pub record Course : Type 0 where
@@ -101,13 +102,13 @@ pub record Course : Type 0 where
   pub path : List ℕ
 
 -- trials until one learns 0 or the number asked for is used
-unfoldable pub courseFrom : Job → List ℕ → (start trials : ℕ) → (table path : List ℕ) → Course
-courseFrom j bytes start zero table path = record { rides = []; settled = false; table = table; path = path }
-courseFrom j bytes start (suc k) table path =
-    let r = ride j bytes start table path in
+unfoldable pub courseFromBy : Choice → Job → List ℕ → (start trials : ℕ) → (table path : List ℕ) → Course
+courseFromBy choice j bytes start zero table path = record { rides = []; settled = false; table = table; path = path }
+courseFromBy choice j bytes start (suc k) table path =
+    let r = rideBy choice j bytes start table path in
     elim (eqb (r .learned) 0) [
       | true ↦ record { rides = r ∷ []; settled = true; table = r .table; path = r .path }
-      | false ↦ let c = courseFrom j bytes start k (r .table) (r .path) in
+      | false ↦ let c = courseFromBy choice j bytes start k (r .table) (r .path) in
           record { rides = r ∷ c .rides; settled = c .settled; table = c .table; path = c .path }
     ]
 
@@ -127,6 +128,25 @@ runOf Vd.Done j bytes c table path reports =
     record { answer = Rn.Made (length (c .rides)) (c .settled); table = c .table; path = c .path; reports = filedIn (map (report j bytes) (c .rides)) reports }
 runOf (Vd.Refused r) j bytes c table path reports = record { answer = Rn.Refused r; table = table; path = path; reports = reports }
 
-unfoldable pub run : Job → List ℕ → (start trials : ℕ) → (table path : List ℕ) → List Report → RunOutcome
-run j bytes start trials table path reports =
-    runOf (openRun j bytes start table path trials (length reports)) j bytes (courseFrom j bytes start trials table path) table path reports
+unfoldable pub runBy : Choice → Job → List ℕ → (start trials : ℕ) → (table path : List ℕ) → List Report → RunOutcome
+runBy choice j bytes start trials table path reports =
+    runOf (openRun j bytes start table path trials (length reports)) j bytes (courseFromBy choice j bytes start trials table path) table path reports
+
+-- the carts' own, by `route`
+abbrev pub next : Job → List ℕ → Ride → Ride
+next j bytes = nextBy (route j bytes) j bytes
+
+abbrev pub rideFrom : Job → List ℕ → ℕ → Ride → Ride
+rideFrom j bytes = rideFromBy (route j bytes) j bytes
+
+abbrev pub ride : Job → List ℕ → (start : ℕ) → (table path : List ℕ) → Ride
+ride j bytes = rideBy (route j bytes) j bytes
+
+abbrev pub trial : Job → List ℕ → (start : ℕ) → (table path : List ℕ) → TrialOutcome
+trial j bytes = trialBy (route j bytes) j bytes
+
+abbrev pub courseFrom : Job → List ℕ → (start trials : ℕ) → (table path : List ℕ) → Course
+courseFrom j bytes = courseFromBy (route j bytes) j bytes
+
+abbrev pub run : Job → List ℕ → (start trials : ℕ) → (table path : List ℕ) → List Report → RunOutcome
+run j bytes = runBy (route j bytes) j bytes

@@ -19,7 +19,7 @@ use Rattle.answers.specs.declared.Verdict.the-variants as Vd
 use Rattle.answers.specs.declared.Ran.the-variants as Rn
 use Rattle.answers.specs.Says.{saysRan}
 use Rattle.model.specs.Opening.{openTrial, openRun}
-use Rattle.model.specs.Ride.{Ride, ride, report, Course, courseFrom, RunOutcome, runOf, run}
+use Rattle.model.specs.Ride.{Ride, ride, report, Course, courseFrom, courseFromBy, RunOutcome, runOf, run, runBy}
 use Rattle.model.proofs.Openings.{accepted-trial, ready-run}
 use Rattle.model.proofs.Demand.{trial-stays-accepted}
 use Rattle.run.specs.Trials.{none, Rode, IsRun, allowedBy, limitAfter, answered}
@@ -58,12 +58,12 @@ module _ (j : Job) (bytes : List ℕ) (start : ℕ) where
     rest = courseFrom j bytes start k (this .table) (this .path)
 
     course-last : eqb (this .learned) 0 ≡ true → courseFrom j bytes start (suc k) table path ≡ record { rides = this ∷ []; settled = true; table = this .table; path = this .path }
-    unfolding courseFrom
-    course-last e = rw (e, courseFrom)
+    unfolding courseFromBy
+    course-last e = rw (e, courseFromBy)
 
     course-more : eqb (this .learned) 0 ≡ false → courseFrom j bytes start (suc k) table path ≡ record { rides = this ∷ rest .rides; settled = rest .settled; table = rest .table; path = rest .path }
-    unfolding courseFrom
-    course-more e = rw (e, courseFrom)
+    unfolding courseFromBy
+    course-more e = rw (e, courseFromBy)
 
   -- what a course comes to after so many trials
   abbrev follows : (made : ℕ) → Course → List Report → RunOutcome
@@ -81,7 +81,7 @@ module _ (j : Job) (bytes : List ℕ) (start : ℕ) where
 
   course-is : (left made : ℕ) (table path : List ℕ) (reports : List Report) → made + left ≤ length reports
       → goesOn left made table path reports ≡ follows made (courseFrom j bytes start left table path) reports
-  unfolding courseFrom goesOn
+  unfolding courseFromBy goesOn
   course-is zero made table path reports h =
       rw add-zero (ap (over made false table path) (sym (take-append-drop made reports)))
   course-is (suc k) made table path reports h =
@@ -167,7 +167,7 @@ module _ (j : Job) (bytes : List ℕ) (start : ℕ) where
   -- nothing made yet
   pub begins : (trials : ℕ) (table path : List ℕ) (reports : List Report) (v : Verdict) → v ≡ openRun j bytes start table path trials (length reports)
       → Running (run j bytes start trials table path reports) v 0 (allowedBy v trials) table path reports
-  unfolding run standing
+  unfolding runBy standing
   begins trials table path reports (Vd.Refused f) e =
       record { comes = ap (λ u. runOf u j bytes (courseFrom j bytes start trials table path) table path reports) e; going = λ h. absurd (omega arith); few = omega arith; within = omega arith }
   begins trials table path reports Vd.Done e =

@@ -26,7 +26,7 @@ use Rattle.model.specs.Checks.{floorOf}
 use Rattle.model.specs.Opening.{openTrial}
 use Rattle.model.specs.Decision.{Deed, atGoal, onPath, judge, act, laid}
 use Rattle.model.specs.Ride as model
-use Rattle.model.specs.Ride.{Ride, begun, next, learningJob, ride, trialOf, trial}
+use Rattle.model.specs.Ride.{Ride, begun, next, nextBy, learningJob, ride, trialOf, trial, trialBy}
 use Rattle.model.proofs.Held.{or-false}
 use Rattle.model.proofs.Moves.{is-true, free-below}
 use Rattle.model.proofs.Accepted.{fails}
@@ -161,7 +161,7 @@ module _ (j : Job) (bytes : List ℕ) (start : ℕ) (table₀ path₀ : List ℕ
       -- and one more is made
       pub drives : {moves along moves′ table′ path′ along′ : List ℕ} {r : Stand} → Went (act j bytes s table path) w moves along r table′ path′ moves′ along′
           → Driving j bytes start table₀ path₀ r table′ path′
-      unfolding next
+      unfolding nextBy
       drives a = record {
         at = next j bytes (g .at);
         riding = riding-next j bytes start table₀ path₀ R (g .riding) off;
@@ -176,7 +176,7 @@ module _ (j : Job) (bytes : List ℕ) (start : ℕ) (table₀ path₀ : List ℕ
 
       pub lowers : {moves along moves′ table′ path′ along′ : List ℕ} {r : Stand} → Went (act j bytes s table path) w moves along r table′ path′ moves′ along′
           → yetTo j bytes (r .state) table′ path′ < yetTo j bytes s table path
-      unfolding next
+      unfolding nextBy
       lowers a =
           let after = ap (λ d. asState (d .state) (d .table) (d .path)) same ∙ (λ i. asState (sym (a .state) i) (sym (a .table) i) (sym (a .path) i)) in
           let here : asState (g .at .state) (g .at .table) (g .at .path) ≡ asState s table path = λ i. asState (g .state-is i) (g .table-is i) (g .path-is i) in
@@ -332,7 +332,7 @@ module _ (j : Job) (bytes : List ℕ) (start : ℕ) (table₀ path₀ : List ℕ
 
 module _ (j : Job) (bytes : List ℕ) (start : ℕ) (table path : List ℕ) where
   pub trial-refused : (v : Verdict) (f : Refusal) → v ≡ openTrial j bytes start table path → v ≡ Vd.Refused f → IsTrial (trial j bytes start table path) (Td.Refused f) table path
-  unfolding trial
+  unfolding trialBy
   trial-refused v f judged e =
       let o = ap (λ u. trialOf u j bytes (ride j bytes start table path) table path) (sym judged ∙ e) in
       record { answer-is = ap (λ u. saysTried (u .answer)) (sym o); table-is = ap (λ u. u .table) (sym o); path-is = ap (λ u. u .path) (sym o) }

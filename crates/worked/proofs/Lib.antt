@@ -4,6 +4,7 @@ pub mod More
 -- Cases for what these and the laws leave open:
 pub mod PinsDecision
 pub mod PinsSlow
+pub mod PinsRoutes
 pub mod PinsChecks
 pub mod PinsOpening
 pub mod PinsRide

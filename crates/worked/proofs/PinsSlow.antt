@@ -44,12 +44,9 @@ abbrev costing : (a b : ℕ) → List Answer
 costing a b =
     A.Forward 1 a 1 ∷ A.Forward 2 b 1 ∷ A.Forward 5 a 1 ∷ A.Forward 8 b 1 ∷ A.Forward 7 a 1 ∷ A.Forward 6 b 1 ∷ A.Forward 3 a 1 ∷ A.Forward 0 b 1 ∷ []
 
--- rows `...`, `.S.`, `...`; rows `...`, `.SS`, `..S`
+-- rows `...`, `.S.`, `...`
 abbrev post : List ℕ
 post = slowAt (4 ∷ [])
-
-abbrev lane : List ℕ
-lane = slowAt (4 ∷ 5 ∷ 8 ∷ [])
 
 -- the first decision from a cell with depth 2, the figures of these cells being far above and all others 0
 abbrev twoAhead : (goal : ℕ) → (bytes : List ℕ) → (current : ℕ) → (high : List ℕ) → Outcome
@@ -93,9 +90,6 @@ pub record PinsSlow : Type 0 where
   pub through-above : along (0 ∷ 2 ∷ 0 ∷ []) 41 ≡ no 7 (P.Cell 2)
   pub slant-met : slant 28 ≡ Vd.Done
   pub slant-above : slant 29 ≡ no 7 (P.Cell 3)
-  -- of two ways at 48, by 4 and by 7 and 3, the one that the backward rule finds
-  pub lane-moves : twoAhead 1 lane 8 (0 ∷ 2 ∷ 3 ∷ 6 ∷ []) .answer ≡ A.Forward 1 48 3
-  pub lane-way : take 4 (twoAhead 1 lane 8 (0 ∷ 2 ∷ 3 ∷ 6 ∷ []) .moves) ≡ 6 ∷ 7 ∷ 1 ∷ 9 ∷ []
   -- a trial's counts: each of the two moves through costs 20, and each decision learns 10
   pub ridden : trial (rowJob 3 0 1 1000) (0 ∷ 2 ∷ 0 ∷ []) 2 (0 ∷ 10 ∷ 20 ∷ []) fresh .answer ≡ Td.Made (record { decisions = 2; learned = 20; kept = 40; travel = 40 })
   -- the kept cost is of the legs at the job's own depth: with windows of eight rings the second leg would cost 10 less
@@ -123,8 +117,6 @@ pinsSlow = record {
   through-above = refl;
   slant-met = refl;
   slant-above = refl;
-  lane-moves = refl;
-  lane-way = refl;
   ridden = refl;
   kept-depth = refl;
   printed = refl;

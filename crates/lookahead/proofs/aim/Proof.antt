@@ -15,7 +15,7 @@ returns c =
     let weighed = c .before .before .before .before .before in
     let best = weighed .before in
     let a = best .before .before .before .before .before .before in
-    aimed _ _ _ (a .pre .0) _ (a .pre .1 .1) _ _ _ _ _ _ (a .pre .1 .0) _ _ (weighed .weigh-all .ensures) (c .before .before .greatest .ensures) _ (c .wide16 .ensures .0)
+    aimed _ _ _ (a .pre .0) _ (a .pre .1 .1) _ _ _ _ _ _ (a .pre .1 .0) _ _ (weighed .weigh-all .ensures) (c .before .before .greatest .ensures) _ (c .coarse .ensures)
 
 pub aim-spec : {M : Type 1} → statement M
 aim-spec =

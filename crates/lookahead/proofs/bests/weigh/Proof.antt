@@ -3,10 +3,8 @@
 use Prim.Native.Nat.{_+_, _-_, _*_, _≤_, _<_, min}
 use mathlib.Core.Path.{ap₂, _∙_}
 use native.Mathlib.Omega.{arith}
-use native.Mathlib.Nat.{mul-le-mul}
 use borrow.Author.Needs.{needs}
 use lib.ListN.{length, getD, set}
-use Rattle.model.specs.Checks.{finest}
 use Rattle.model.specs.Lookahead.{highestNew}
 use Rattle.lookahead.proofs.Weighing.{value-lt, ring-is}
 use Rattle.lookahead.proofs.bests.weigh.Statement.{statement}
@@ -23,15 +21,15 @@ places c = c .pre .0 .inside (c .args .c) (c .pre .1 .0)
 -- its value is small
 small : (c : tie.After-wide322) →
     let wide = c .before .before .before .before in
-    start wide .args .p * c .before .before .wide16 .result + c .wide322 .result ≤ highestNew
+    start wide .args .p * c .before .before .coarse .result + c .wide322 .result ≤ highestNew
 small c =
     let a = start (c .before .before .before .before) in
-    rw (c .before .before .wide16 .ensures .0, c .wide322 .ensures .0) (value-lt _ _ _ _ _ _ (a .pre .0) (a .pre .1 .0))
+    rw (c .before .before .coarse .ensures, c .wide322 .ensures .0) (value-lt _ _ _ _ _ _ (a .pre .0) (a .pre .1 .0))
 
 mul-v : tie.Need-mul-v
 mul-v c =
     let a = start (c .before .before) in
-    omega (arith, mul-le-mul {n₁ = a .args .p} {m₁ = c .wide16 .result} {n₂ = finest} {m₂ = 65536} (a .pre .0 .weight) (omega (arith, c .wide16 .ensures .1)))
+    rw (c .coarse .ensures) (omega (arith, value-lt _ _ _ _ _ _ (a .pre .0) (a .pre .1 .0)))
 
 enter-requires : tie.Need-enter-requires
 enter-requires c κs =
@@ -46,7 +44,7 @@ returns c =
     let wide = cost .before .before in
     let a = start wide in
     let k = wide .wide32 .ensures .0 ∙ ring-is (a .args .base) (a .args .mark .now) (a .args .c) (a .pre .1 .0) in
-    let v = ap₂ (λ w t. (a .args .p * w + t) * 4096 + a .args .c) (cost .wide16 .ensures .0) (figure .wide322 .ensures .0) in
+    let v = ap₂ (λ w t. (a .args .p * w + t) * 4096 + a .args .c) (cost .coarse .ensures) (figure .wide322 .ensures .0) in
     c .before .before .enter .ensures ∙ ap₂ (λ i u. set (a .args .best .now) i (min u (getD (a .args .best .now) i 0))) k v
 
 pub weigh-spec : {M : Type 1} → statement M

@@ -39,23 +39,30 @@ returns c =
     let a = to-start (c .before .before .before) in
     eased-out _ _ _ _ _ _ _ (a .pre .1 .0) (a .pre .1 .1 .1 .1) _ _ _ (to-cell (c .before .before .before)) (c .if1 .taken)
 
+fine-requires : tie.Need-fine-requires
+fine-requires c κs = omega (arith, at-cell (c .before .before .before) .most)
+
+-- where the fine price is known
+abbrev from-fine : tie.After-fine → tie.After-cell
+from-fine c = c .before .before .before .before
+
 add-sum : tie.Need-add-sum
 add-sum c =
-    let a = to-start (c .before .before .before) in
-    omega (arith, a .pre .1 .0 .small (a .args .c) (a .pre .1 .1 .0 .marked), a .pre .1 .1 .1 .1, at-cell (c .before .before .before) .most)
+    let a = to-start (from-fine c) in
+    omega (arith, a .pre .1 .0 .small (a .args .c) (a .pre .1 .1 .0 .marked), a .pre .1 .1 .1 .1, at-cell (from-fine c) .most, c .fine .ensures)
 
 lower-requires : tie.Need-lower-requires
 lower-requires c κs =
-    let start = to-start (c .before .before .before .before) in
-    omega (arith, at-cell (c .before .before .before .before) .few, start .pre .1 .0 .costs)
+    let after-cell = from-fine (c .before) in
+    omega (arith, at-cell after-cell .few, to-start after-cell .pre .1 .0 .costs)
 
 returns-2 : tie.Need-returns-2
 returns-2 c =
-    let after-known-told = c .before .before .before .before .before .before in
-    let after-cell = after-known-told .before in
-    let a = after-cell .before .before .before .before .before .before in
+    let after-fine = c .before .before .before .before in
+    let after-cell = from-fine after-fine in
+    let a = to-start after-cell in
     eased _ _ _ _ _ _ _ (a .pre .1 .0) (a .pre .1 .1 .1 .1) (a .pre .0) _ _ (to-cell after-cell)
-    (a .pre .1 .1 .0 .marked) (omega (arith, c .before .before .before .before .if1 .left)) _ _ _ (c .before .before .lower .ensures)
+    (a .pre .1 .1 .0 .marked) (omega (arith, after-fine .before .if1 .left)) _ _ _ (rw (sym (after-fine .fine .ensures)) (c .before .before .lower .ensures))
 
 returns-3 : tie.Need-returns-3
 returns-3 c =
@@ -71,6 +78,7 @@ ease-spec =
     mul-if1
     shared-slice-read-if1
     returns
+    fine-requires
     add-sum
     lower-requires
     (λ c. search needs)

@@ -28,24 +28,41 @@ at-cell : (c : tie.After-cell) →
     Stepped (flat (a .width) (a .height) (a .floor .now)) (a .c) (a .m) (c .cell .given .0 .0) (c .cell .given .0 .1 .0)
 at-cell c = stepped _ (to-start c .pre .0) _ _ _ _ (to-cell c)
 
+fine-requires : tie.Need-fine-requires
+fine-requires c κs = omega (arith, at-cell (c .before) .most)
+
+-- where the fine price is known
+abbrev from-fine : tie.After-fine → tie.After-cell
+from-fine c = c .before .before
+
 add-sum : tie.Need-add-sum
 add-sum c =
-    let a = to-start (c .before) in
+    let a = to-start (from-fine c) in
     let l = a .pre .1 .1 .0 in
-    omega (arith, a .pre .1 .0 .cheap (a .args .c) (omega (arith, l .marked, l .ring .first)), l .marked, l .ring .last, l .costs, at-cell (c .before) .most)
+    omega (
+      arith,
+      a .pre .1 .0 .cheap (a .args .c) (omega (arith, l .marked, l .ring .first)),
+      l .marked,
+      l .ring .last,
+      l .costs,
+      at-cell (from-fine c) .most,
+      c .fine .ensures,
+    )
 
 reach-requires : tie.Need-reach-requires
 reach-requires c κs =
-    let start = to-start (c .before .before .before .before) in
-    (start .pre .1 .0 .sizes, at-cell (c .before .before .before .before) .few)
+    let after-cell = from-fine (c .before .before .before) in
+    (to-start after-cell .pre .1 .0 .sizes, at-cell after-cell .few)
 
 returns : tie.Need-returns
 returns c =
     let after-reach = c .before .before .before .before .before .before in
-    let after-cell = after-reach .before .before .before .before .before in
+    let after-fine = after-reach .before .before .before .before in
+    let after-cell = from-fine after-fine in
     let a = to-start after-cell in
     let l = a .pre .1 .1 .0 in
-    extended-to _ (a .pre .0) _ _ _ _ _ _ _ _ _ (a .pre .1 .0) (l .marked) (l .costs) (l .ring .first) (to-cell after-cell) (after-reach .reach .ensures)
+    extended-to _ (a .pre .0) _ _ _ _ _ _ _ _ _ (a .pre .1 .0) (l .marked) (l .costs) (l .ring .first) (to-cell after-cell)
+    (rw (sym (after-fine .fine .ensures)) (after-reach .reach .ensures))
 
 returns-2 : tie.Need-returns-2
 returns-2 c =
@@ -59,6 +76,7 @@ extend-spec =
     (tie.spec
     (λ c κs. search needs)
     (λ c. search needs)
+    fine-requires
     add-sum
     (λ c. search needs)
     reach-requires

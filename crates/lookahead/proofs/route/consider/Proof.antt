@@ -52,41 +52,51 @@ shared-slice-read-sum c =
     let start = to-start (c .before .before .before .before) in
     omega (arith, at-cell (c .before .before .before .before) .few, start .pre .1 .0 .costs)
 
+fine-requires : tie.Need-fine-requires
+fine-requires c κs = omega (arith, at-cell (c .before .before .before .before) .most)
+
+-- where the fine price is known
+abbrev from-fine : tie.After-fine → tie.After-cell
+from-fine c = c .before .before .before .before .before
+
 add-sum : tie.Need-add-sum
 add-sum c =
-    let after-cell = c .before .before .before .before in
-    let a = after-cell .before .before .before .before .before .before in
-    omega (arith, a .pre .1 .0 .small (after-cell .cell .given .0 .0) (omega (arith, c .before .if1 .left)), at-cell (after-cell) .most)
+    let after-cell = from-fine c in
+    let a = to-start after-cell in
+    omega (
+      arith,
+      a .pre .1 .0 .small (after-cell .cell .given .0 .0) (omega (arith, c .before .before .if1 .left)),
+      at-cell after-cell .most,
+      c .fine .ensures,
+    )
 
 mul-if2 : tie.Need-mul-if2
-mul-if2 c =
-    let start = to-start (c .before .before .before .before) in
-    omega (arith, few start)
+mul-if2 c = omega (arith, few (to-start (from-fine c)))
 
 shared-slice-read-if2 : tie.Need-shared-slice-read-if2
 shared-slice-read-if2 c =
-    let start = to-start (c .before .before .before .before .before) in
+    let start = to-start (from-fine (c .before)) in
     omega (arith, few start, start .pre .1 .0 .costs)
 
 returns-2 : tie.Need-returns-2
 returns-2 c =
-    let a = to-start (c .before .before .before .before .before .before) in
-    linked-slack _ (a .pre .0) _ _ _ _ _ _ _ _ (a .pre .1 .1 .1 .1) (to-cell (c .before .before .before .before .before .before)) (c .if2 .taken)
+    let after-fine = c .before .before in
+    let a = to-start (from-fine after-fine) in
+    linked-slack _ (a .pre .0) _ _ _ _ _ _ _ _ (a .pre .1 .1 .1 .1) (to-cell (from-fine after-fine)) (rw (sym (after-fine .fine .ensures)) (c .if2 .taken))
 
 returns-3 : tie.Need-returns-3
 returns-3 c =
-    let else1 = c .before .before .before .before .before in
-    let after-cell = else1 .before .before .before in
-    let a = after-cell .before .before .before .before .before .before in
+    let after-cell = from-fine (c .before .before .before .before) in
+    let a = to-start after-cell in
     linked-high _ (a .pre .0) _ _ _ _ _ _ _ _ (a .pre .1 .1 .1 .1) (to-cell after-cell) (c .if3 .taken)
 
 returns-4 : tie.Need-returns-4
 returns-4 c =
-    let else1 = c .before .before .before .before .before in
-    let after-cell = else1 .before .before .before in
-    let a = after-cell .before .before .before .before .before .before in
+    let after-fine = c .before .before .before .before in
+    let after-cell = from-fine after-fine in
+    let a = to-start after-cell in
     linked-new _ (a .pre .0) _ _ _ _ _ _ _ _ (a .pre .1 .1 .1 .1) (to-cell after-cell) (a .pre .1 .1 .1 .0)
-    (omega (arith, else1 .if1 .left)) (c .before .before .if2 .left) (omega (arith, c .if3 .left))
+    (omega (arith, after-fine .before .before .if1 .left)) (rw (sym (after-fine .fine .ensures)) (c .before .before .if2 .left)) (omega (arith, c .if3 .left))
 
 returns-5 : tie.Need-returns-5
 returns-5 c =
@@ -104,6 +114,7 @@ consider-spec =
     returns
     mul-sum
     shared-slice-read-sum
+    fine-requires
     add-sum
     mul-if2
     shared-slice-read-if2
