@@ -29,9 +29,9 @@ use Rattle.model.proofs.Moves.{free-below, price-move, heading-is, oppo
 use Rattle.model.proofs.Accepted.{Settings, then-done, sizes-judges, path-judges, settings-judges, places-judges}
 use Rattle.model.proofs.Held.{Sound, at-goal, moves-judges, held-judges}
 use Rattle.model.proofs.Openings.{Ready, ready}
-use Rattle.model.proofs.Meaning.{goal-means, route-means, route-few, ahead-means}
+use Rattle.model.proofs.Meaning.{goal-means, route-means, ahead-means}
 use Rattle.model.proofs.Cases.{act-arrived, act-blind, act-learns, learn-over, learn-forward, learn-back, back-stays, back-lost, back-goes, decide-refused, decide-acts}
-use Rattle.model.proofs.Steps.{newHere, targetHere, moves-length}
+use Rattle.model.proofs.Steps.{newHere, targetHere, moves-few}
 use Rattle.model.proofs.Rides.{ride-there, ride-on, Riding, judges, riding-begun, riding-next, ride-arrives}
 
 -- ---- to be driven by moves
@@ -147,10 +147,6 @@ module _ (j : Job) (bytes : List ℕ) (s : State) (table path : List ℕ) where
         → Drives f a (movesAlong f a (route j bytes a x)) x (w j bytes (seen j bytes a) x)
     route-drives a x l e h = chain-drives f (P .sized) (goals j) (route-means j bytes a (P .settings .deep) l e (P .settings .shallow) x h .0)
 
-    moves-few : (a x : ℕ) → a < size f → atGoal j bytes a ≡ false → ring j bytes (seen j bytes a) x ≤ seen j bytes a .last
-        → length (movesAlong f a (route j bytes a x)) ≤ mostMoves
-    moves-few a x l e h = omega (arith, moves-length f a (route j bytes a x), route-few j bytes a (P .settings .deep) l e (P .settings .shallow) x h)
-
     forward-drives : atGoal j bytes (s .current) ≡ false → emptyRing j bytes (seen j bytes (s .current)) (seen j bytes (s .current) .last) ≡ false
         → Driven j bytes s (forward j bytes s (seen j bytes (s .current)) table path (newHere j bytes s table) (targetHere j bytes s table))
     unfolding forwardBy
@@ -158,7 +154,7 @@ module _ (j : Job) (bytes : List ℕ) (s : State) (table path : List ℕ) where
         let inside = free-below f (s .current) (P .here) in
         let near : ring j bytes (seen j bytes (s .current)) (targetHere j bytes s table) ≤ seen j bytes (s .current) .last =
         omega (arith, ahead-means j bytes (s .current) (P .settings .deep) inside e table full .on-last) in
-        record { drives = route-drives (s .current) _ inside e near; few = moves-few (s .current) _ inside e near; names = by }
+        record { drives = route-drives (s .current) _ inside e near; few = moves-few j bytes (s .current) (P .settings .deep) inside e (P .settings .shallow) _ near; names = by }
       where
         by : {x a m : ℕ} (t n : ℕ) → Names (A.Forward x a m) t n → (x ≡ t) × (m ≡ n)
         by t n forward-to = (refl, refl)
@@ -181,7 +177,7 @@ module _ (j : Job) (bytes : List ℕ) (s : State) (table path : List ℕ) where
             arith,
             length-map (reverse (movesAlong f l (route j bytes l (s .current)))) opposite,
             length-reverse (movesAlong f l (route j bytes l (s .current))),
-            moves-few l (s .current) inside aside near,
+            moves-few j bytes l (P .settings .deep) inside aside (P .settings .shallow) (s .current) near,
           );
           names = by;
         }

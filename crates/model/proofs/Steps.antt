@@ -30,13 +30,13 @@ use Rattle.answers.specs.declared.Answer.the-variants as A
 use Rattle.model.specs.Basics.{choose}
 use Rattle.model.specs.Floor.{Floor, size, Sized, heading, opposite, dearestPrice}
 use Rattle.model.specs.Grounds.{price-high, groundOf}
-use Rattle.model.specs.Checks.{ceiling, floorOf, goals, groundIn, farthest}
+use Rattle.model.specs.Checks.{deepest, ceiling, floorOf, goals, groundIn, farthest}
 use Rattle.model.specs.Lookahead.{seen, ring, emptyRing, newFigure, target, route, movesAlong, mostMoves}
 use Rattle.model.specs.Decision.{atGoal, onPath, Deed, rise, stored, forward, forwardBy, backOut, backOutBy, stay, act}
 use Rattle.model.specs.Ride.{learningJob}
 use Rattle.model.proofs.Moves.{opposite-lt, price-move, heading-is}
 use Rattle.model.proofs.Openings.{Held, not-both}
-use Rattle.model.proofs.Meaning.{route-means, route-few}
+use Rattle.model.proofs.Meaning.{InWindow, route-means, route-few}
 use Rattle.model.proofs.Cases.{act-learns, learn-forward, learn-back, back-stays, back-goes}
 use Rattle.model.proofs.Rings.{empty-none}
 
@@ -83,10 +83,16 @@ stored-fits table s new top low fits x h = by (ltb (getD table s 0) new) refl (�
     by true r (no e) = omega (arith, getD-set-other table s x new 0 e, fits x h)
     by false r d = fits x h
 
-pub moves-length : (f : Floor) (a : ℕ) (cells : List ℕ) → length (movesAlong f a cells) ≡ length cells
+moves-length : (f : Floor) (a : ℕ) (cells : List ℕ) → length (movesAlong f a cells) ≡ length cells
 unfolding movesAlong
 moves-length f a [] = refl
 moves-length f a (b ∷ bs) = ap suc (moves-length f b bs)
+
+-- a route has at most `mostMoves` moves
+pub moves-few : (j : Job) (bytes : List ℕ) (s : ℕ) (deep : 1 ≤ j .depth) (floor : s < size (floorOf j bytes)) (aside : atGoal j bytes s ≡ false) → j .depth ≤ deepest
+    → (x : ℕ) → InWindow j bytes s deep floor aside x → length (movesAlong (floorOf j bytes) s (route j bytes s x)) ≤ mostMoves
+moves-few j bytes s deep floor aside shallow x near =
+    omega (arith, moves-length (floorOf j bytes) s (route j bytes s x), route-few j bytes s deep floor aside shallow x near)
 
 -- one cell more at the end of a walk is one move more
 pub moves-more : {N : Network} {S : ℕ → Type 0} (f : Floor) (x : ℕ) {a z c : ℕ} {xs : List ℕ} → Chain N S a xs z c
@@ -135,14 +141,9 @@ module _ (j : Job) (bytes : List ℕ) (H : Held j bytes) where
   dear a b c e = omega (arith, e .1, price-high (floorOf j bytes) a b)
 
   module _ (s x : ℕ) (r : CanReach J s) (g : ¬ J .Goal s) (near : ringOf (groundIn j bytes) (j .depth) s x ≤ lastOf (groundIn j bytes) (j .depth) s) where
-    moves-few : length (movesAlong (floorOf j bytes) s (route j bytes s x)) ≤ mostMoves
+    few-here : length (movesAlong (floorOf j bytes) s (route j bytes s x)) ≤ mostMoves
     unfolding ringOf lastOf
-    moves-few =
-        omega (
-          arith,
-          moves-length (floorOf j bytes) s (route j bytes s x),
-          route-few j bytes s (H .settings .deep) (H .lawful .on-floor s r) (is-false _ g) (H .settings .shallow) x near,
-        )
+    few-here = moves-few j bytes s (H .settings .deep) (H .lawful .on-floor s r) (is-false _ g) (H .settings .shallow) x near
 
     moves-eight : All (λ m. m < 8) (movesAlong (floorOf j bytes) s (route j bytes s x))
     unfolding ringOf lastOf
@@ -204,7 +205,7 @@ module _ (j : Job) (bytes : List ℕ) (H : Held j bytes) where
             stores = refl;
             places = length-set path (s .length) (s .current);
             says = went refl;
-            few = moves-few (s .current) t here off (omega (arith, looked .on-last));
+            few = few-here (s .current) t here off (omega (arith, looked .on-last));
             low = moves-eight (s .current) t here off (omega (arith, looked .on-last));
           }
 
@@ -250,7 +251,7 @@ module _ (j : Job) (bytes : List ℕ) (H : Held j bytes) where
               arith,
               length-map (reverse (movesAlong (floorOf j bytes) l (route j bytes l (s .current)))) opposite,
               length-reverse (movesAlong (floorOf j bytes) l (route j bytes l (s .current))),
-              moves-few l (s .current) (there i) (leads i .0) (omega (arith, leads i .1)),
+              few-here l (s .current) (there i) (leads i .0) (omega (arith, leads i .1)),
             );
             low = back-low [] (moves-eight l (s .current) (there i) (leads i .0) (omega (arith, leads i .1))) end;
           }
