@@ -3,15 +3,16 @@
 use Prim.Native.Nat.{ℕ, _+_, _-_, _*_, _≤_, _<_}
 use mathlib.Core.Path.{_≡_, refl, sym, ap, ap₂, _∙_, subst}
 use mathlib.Core.Bool.{Bool, true, false, _&&_}
-use mathlib.Core.List.{List, [], _++_}
-use native.Mathlib.Nat.{mul-le-mul, add-zero}
+use mathlib.Core.List.{List}
+use native.Mathlib.Nat.{mul-le-mul}
 use native.Mathlib.Omega.{arith}
 use borrow.Author.Tests.{eq-eqb, ne-eqb, eqb-true, eqb-false, le-leb, lt-leb}
 use lib.Dec.{ltb, eqb}
-use lib.ListN.{length, getD, take, drop, take-append-drop, replicate, length-replicate}
+use lib.ListN.{length, getD, replicate, length-replicate}
 use Rattle.answers.specs.declared.Job.{Job}
 use Rattle.answers.specs.declared.State.{State}
 use Rattle.answers.specs.declared.Refusal.{Refusal}
+use Rattle.answers.specs.declared.Answer.{Answer}
 use Rattle.answers.specs.declared.Answer.the-variants as A
 use Rattle.answers.specs.declared.Verdict.the-variants as Vd
 use Rattle.answers.specs.declared.Decided.{Decided}
@@ -29,15 +30,16 @@ use Rattle.model.proofs.Cases.{act-arrived, act-blind, act-learns, learn-over, 
 use Rattle.lookahead.specs.declared.Ahead.{Ahead}
 use Rattle.lookahead.specs.declared.Around.{Around}
 use Rattle.lookahead.specs.declared.Around.the-variants as R
-use Rattle.lookahead.specs.Contract.{Fresh, Used, Asked, Near, Window, Looked, Aimed, Figures, movesTo}
-use Rattle.lookahead.proofs.Fresh.{marks-zeros}
+use Rattle.lookahead.specs.Contract.{Used, Asked, Near, Window, Looked, Aimed, Figures, movesTo}
+use Rattle.lookahead.proofs.Fresh.{spent-zeros}
 use Rattle.decision.specs.declared.Acted.{Acted}
-use Rattle.decision.specs.Ready.{Places, Ready, Acts, Decides}
-use Rattle.decision.specs.Inner.{Open, Extended, Lays, wayBack, refusing, learns, Leaves}
+use Rattle.decision.specs.Laying.{wayBack, wayOf, counts, Shown, Lays}
+use Rattle.decision.specs.Ready.{Places, Ready, Acts, Serves, Decides}
+use Rattle.decision.specs.Inner.{Open, Extended, refusing, learns}
 
 -- ---- what a ready call gives its parts
 
-module _ {j : Job} {bytes : List ℕ} {s : State} {table path : List ℕ} {moves from : ℕ} (r : Ready j bytes s table path moves from) where
+module _ {j : Job} {bytes : List ℕ} {s : State} {table path : List ℕ} (r : Ready j bytes s table path) where
   pub asked : (s .current ≡ j .goal → ⊥) → Asked j bytes (s .current)
   asked away = record {
     sized = r .sized;
@@ -127,84 +129,73 @@ module _ (j : Job) (bytes : List ℕ) (s base : ℕ) (mark cost list : List ℕ)
 pub used-at : {b base : ℕ} {mark cost list : List ℕ} → b ≡ base → Used base mark cost list → Used b mark cost list
 used-at {mark = mark} {cost = cost} {list = list} e u = subst (λ b. Used b mark cost list) (sym e) u
 
+pub shown-at : {j : Job} {bytes : List ℕ} {s b base : ℕ} {a : Answer} {mark cost : List ℕ} → b ≡ base → Shown j bytes s a base mark cost → Shown j bytes s a b mark cost
+shown-at {j} {bytes} {s} {b} {base} {a} {mark} {cost} e h = subst (λ n. Shown j bytes s a n mark cost) (sym e) h
+
 -- m and n are variables so that the lists are not written out
-zeros-fresh : (m n : ℕ) → m ≡ 4096 → n ≡ 8192 → Fresh 1 (replicate m 0) (replicate m 0) (replicate n 0)
-zeros-fresh m n d e = record { marks = marks-zeros m d; costs = length-replicate {A = ℕ} m 0 ∙ d; cells = length-replicate {A = ℕ} n 0 ∙ e }
+zeros-used : (m n : ℕ) → m ≡ 4096 → n ≡ 8192 → Used 1 (replicate m 0) (replicate m 0) (replicate n 0)
+zeros-used m n d e = record { marks = spent-zeros m d; costs = length-replicate {A = ℕ} m 0 ∙ d; cells = length-replicate {A = ℕ} n 0 ∙ e }
 
-pub fresh-zeros : Fresh 1 (replicate 4096 0) (replicate 4096 0) (replicate 8192 0)
-fresh-zeros = zeros-fresh 4096 8192 refl refl
-
-pub leaves-refused : {r : Acted} {s : State} {number base : ℕ} {mark cost list place path : List ℕ} → r ≡ refusing s number base → Used base mark cost list
-    → Places place path (s .length) → Leaves r mark cost list place path
-leaves-refused {mark = mark} {cost = cost} {list = list} {place = place} {path = path} q u p = subst (λ (x : Acted). Leaves x mark cost list place path) (sym q) (record { used = u; places = p })
-
--- ---- nothing is laid
-
-pub laid-none : (lent : List ℕ) (from : ℕ) → laid lent from [] ≡ lent
-laid-none lent from = ap (λ n. take from lent ++ drop n lent) (add-zero from) ∙ take-append-drop from lent
+pub used-zeros : Used 1 (replicate 4096 0) (replicate 4096 0) (replicate 8192 0)
+used-zeros = zeros-used 4096 8192 refl refl
 
 -- ---- the ways through
 
-module _ (lent : List ℕ) (from : ℕ) where
-  pub acts-as : {d d′ : Deed} {r : Acted} {table path moves : List ℕ} → d ≡ d′ → Acts d′ lent from r table path moves → Acts d lent from r table path moves
-  acts-as {r = r} {table = table} {path = path} {moves = moves} e h = subst (λ (x : Deed). Acts x lent from r table path moves) (sym e) h
+module _ {j : Job} {bytes : List ℕ} {s : State} where
+  pub acts-as : {d d′ : Deed} {r : Acted} {table path : List ℕ} → d ≡ d′ → Acts j bytes s d′ r table path → Acts j bytes s d r table path
+  acts-as {r = r} {table = table} {path = path} e h = subst (λ (x : Deed). Acts j bytes s x r table path) (sym e) h
 
-  pub acts-refused : {r : Acted} {s : State} {number base : ℕ} (table path : List ℕ) → r ≡ refusing s number base → Acts (refused s table path number) lent from r table path lent
-  acts-refused table path q = record {
-    answer = ap (λ (x : Acted). x .answer) q;
-    state = ap (λ (x : Acted). x .state) q;
-    rise = ap (λ (x : Acted). x .rise) q;
-    cost = ap (λ (x : Acted). x .cost) q;
-    table = refl;
-    path = refl;
-    moves = sym (laid-none lent from);
-  }
+  pub acts-refused : {r : Acted} {number base : ℕ} (table path : List ℕ) → r ≡ refusing s number base → Acts j bytes s (refused s table path number) r table path
+  acts-refused {number = number} table path q = subst (λ (x : Acted). Acts j bytes s (refused s table path number) x table path) (sym q)
+      (record { answer = refl; way = refl; state = refl; rise = refl; cost = refl; table = refl; path = refl })
 
-  pub acts-arrived : (s : State) (table path : List ℕ) (base : ℕ)
-      → Acts (unchanged s table path A.Arrived) lent from (record { answer = A.Arrived; state = s; rise = 0; cost = 0; base = base }) table path lent
-  acts-arrived s table path base = record { answer = refl; state = refl; rise = refl; cost = refl; table = refl; path = refl; moves = sym (laid-none lent from) }
+  pub shown-refused : {r : Acted} {number base b : ℕ} {mark cost : List ℕ} → r ≡ refusing s number base → Shown j bytes (s .current) (r .answer) b mark cost
+  shown-refused {b = b} {mark = mark} {cost = cost} q = subst (λ (x : Acted). Shown j bytes (s .current) (x .answer) b mark cost) (sym q) (record { window = tt })
 
-  pub acts-renewed : {d : Deed} {r : Acted} {table path moves : List ℕ} (b : ℕ) → Acts d lent from r table path moves
-      → Acts d lent from (record { answer = r .answer; state = r .state; rise = r .rise; cost = r .cost; base = b }) table path moves
-  acts-renewed b h =
-      record { answer = h .answer; state = h .state; rise = h .rise; cost = h .cost; table = h .table; path = h .path; moves = h .moves }
+  pub serves-refused : {r : Acted} {number base : ℕ} {mark cost list place path : List ℕ} → r ≡ refusing s number base → Used base mark cost list
+      → Places place path (s .length) → Serves j bytes s r mark cost list place path
+  serves-refused {mark = mark} {cost = cost} {list = list} {place = place} {path = path} q u p = subst (λ (x : Acted). Serves j bytes s x mark cost list place path) (sym q)
+      (record { used = u; places = p; shown = record { window = tt } })
 
-  module _ (j : Job) (bytes : List ℕ) (s : State) (table path : List ℕ) (new a : ℕ) (risen : a ≡ rise table (s .current) new) (table′ : List ℕ)
-      (made : table′ ≡ stored table (s .current) new) (base : ℕ) where
-    acts-stay : Acts (stay s table path new) lent from (record { answer = A.Stayed a; state = s; rise = a; cost = 0; base = base }) table′ path lent
+module _ (j : Job) (bytes : List ℕ) (s : State) where
+  pub acts-arrived : (table path : List ℕ) (base : ℕ)
+      → Acts j bytes s (unchanged s table path A.Arrived) (record { answer = A.Arrived; state = s; rise = 0; cost = 0; base = base }) table path
+  acts-arrived table path base = record { answer = refl; way = refl; state = refl; rise = refl; cost = refl; table = refl; path = refl }
+
+  module _ (table path : List ℕ) (new a : ℕ) (risen : a ≡ rise table (s .current) new) (table′ : List ℕ) (made : table′ ≡ stored table (s .current) new) (base : ℕ) where
+    acts-stay : Acts j bytes s (stay s table path new) (record { answer = A.Stayed a; state = s; rise = a; cost = 0; base = base }) table′ path
     unfolding stay
-    acts-stay = record { answer = ap A.Stayed risen; state = refl; rise = risen; cost = refl; table = made; path = refl; moves = sym (laid-none lent from) }
+    acts-stay = record { answer = ap A.Stayed (sym risen); way = refl; state = refl; rise = risen; cost = refl; table = made; path = refl }
 
-    pub acts-stays : s .length ≡ 0 → Acts (goBack j bytes s table path new) lent from (record { answer = A.Stayed a; state = s; rise = a; cost = 0; base = base }) table′ path lent
+    pub acts-stays : s .length ≡ 0 → Acts j bytes s (goBack j bytes s table path new) (record { answer = A.Stayed a; state = s; rise = a; cost = 0; base = base }) table′ path
     acts-stays e = acts-as (back-stays j bytes s table path new (eq-eqb (s .length) 0 e)) acts-stay
 
-    acts-back : (l count leg : ℕ) (moves : List ℕ) → Lays lent from (wayBack j bytes l (s .current)) moves count → leg ≡ w j bytes (seen j bytes l) (s .current)
-        → Acts (backOut j bytes s (seen j bytes l) table path new l) lent from
-        (record { answer = A.BackedOut l a count; state = record { current = l; learned = s .learned; length = s .length - 1 }; rise = a; cost = leg; base = base }) table′ path moves
+    acts-back : (l leg : ℕ) → leg ≡ w j bytes (seen j bytes l) (s .current)
+        → Acts j bytes s (backOut j bytes s (seen j bytes l) table path new l)
+        (record { answer = A.BackedOut l a 0; state = record { current = l; learned = s .learned; length = s .length - 1 }; rise = a; cost = leg; base = base }) table′ path
     unfolding backOutBy
-    acts-back l count leg moves y e = record {
-      answer = ap₂ (A.BackedOut l) risen (y .count);
+    acts-back l leg e = record {
+      answer = ap (λ u. A.BackedOut l u (length (wayBack j bytes l (s .current)))) (sym risen);
+      way = refl;
       state = refl;
       rise = risen;
       cost = e;
       table = made;
       path = refl;
-      moves = y .moves;
     }
 
-    pub acts-forward : (t count leg len : ℕ) (moves path′ place′ : List ℕ) → Lays lent from (movesTo j bytes (s .current) t) moves count
-        → Extended path (s .length) (s .current) t path′ place′ len → leg ≡ w j bytes (seen j bytes (s .current)) t
-        → Acts (forward j bytes s (seen j bytes (s .current)) table path new t) lent from
-        (record { answer = A.Forward t a count; state = record { current = t; learned = s .learned + a; length = len }; rise = a; cost = leg; base = base }) table′ path′ moves
+    pub acts-forward : (t leg len : ℕ) (path′ place′ : List ℕ) → Extended path (s .length) (s .current) t path′ place′ len → leg ≡ w j bytes (seen j bytes (s .current)) t
+        → Acts j bytes s (forward j bytes s (seen j bytes (s .current)) table path new t)
+        (record { answer = A.Forward t a 0; state = record { current = t; learned = s .learned + a; length = len }; rise = a; cost = leg; base = base }) table′ path′
     unfolding forwardBy
-    acts-forward t count leg len moves path′ place′ y x e = record {
-      answer = ap₂ (A.Forward t) risen (y .count);
+    acts-forward t leg len path′ place′ x e = record {
+      answer = ap (λ u. A.Forward t u (length (movesTo j bytes (s .current) t))) (sym risen);
+      way = refl;
       state = ap₂ (λ u n. record { current = t; learned = s .learned + u; length = n }) risen (x .length);
       rise = risen;
       cost = e;
       table = made;
       path = x .written;
-      moves = y .moves;
     }
 
     -- backing out, by the path's last cell l
@@ -212,18 +203,17 @@ module _ (lent : List ℕ) (from : ℕ) where
       abbrev on-last : ℕ → Bool
       on-last y = eqb (ring j bytes (seen j bytes y) (s .current)) (seen j bytes y .last)
 
-      pub acts-lost : {r : Acted} {b : ℕ} → on-last l ≡ false → r ≡ refusing s 8 b → Acts (goBack j bytes s table path new) lent from r table path lent
+      pub acts-lost : {r : Acted} {b : ℕ} → on-last l ≡ false → r ≡ refusing s 8 b → Acts j bytes s (goBack j bytes s table path new) r table path
       acts-lost h q =
           acts-as (back-lost j bytes s table path new (ne-eqb (s .length) 0 (λ e. omega arith)) (subst (λ y. on-last y ≡ false) last h)) (acts-refused table path q)
 
-      pub acts-returns : (count leg : ℕ) (moves : List ℕ) → on-last l ≡ true → Lays lent from (wayBack j bytes l (s .current)) moves count
-          → leg ≡ w j bytes (seen j bytes l) (s .current)
-          → Acts (goBack j bytes s table path new) lent from
-          (record { answer = A.BackedOut l a count; state = record { current = l; learned = s .learned; length = s .length - 1 }; rise = a; cost = leg; base = base }) table′ path moves
-      acts-returns count leg moves h y e =
+      pub acts-returns : (leg : ℕ) → on-last l ≡ true → leg ≡ w j bytes (seen j bytes l) (s .current)
+          → Acts j bytes s (goBack j bytes s table path new)
+          (record { answer = A.BackedOut l a 0; state = record { current = l; learned = s .learned; length = s .length - 1 }; rise = a; cost = leg; base = base }) table′ path
+      acts-returns leg h e =
           acts-as
           (back-goes j bytes s table path new (ne-eqb (s .length) 0 (λ e. omega arith)) (subst (λ y. on-last y ≡ true) last h)
-          ∙ sym (ap (λ y. backOut j bytes s (seen j bytes y) table path new y) last)) (acts-back l count leg moves y e)
+          ∙ sym (ap (λ y. backOut j bytes s (seen j bytes y) table path new y) last)) (acts-back l leg e)
 
 -- ---- from the tests to the deed
 
@@ -264,9 +254,16 @@ module _ (j : Job) (bytes : List ℕ) (s : State) (table path : List ℕ) where
 -- ---- the public call
 
 module _ (j : Job) (bytes : List ℕ) (s : State) (table path moves : List ℕ) (from : ℕ) where
-  pub decides-acts : {r : Acted} {table′ path′ moves′ : List ℕ} → Acts (act j bytes s table path) moves from r table′ path′ moves′
-      → Decides (outcomeOf Vd.Done (act j bytes s table path) s table path moves from) (record { answer = r .answer; state = r .state }) table′ path′ moves′
-  decides-acts h = record { answer = ap saysAnswer (h .answer); state = h .state; table = h .table; path = h .path; moves = h .moves }
+  pub decides-acts : {r : Acted} {n : ℕ} {a : Answer} {table′ path′ moves′ : List ℕ} → Acts j bytes s (act j bytes s table path) r table′ path′
+      → Lays moves from (wayOf j bytes (s .current) (r .answer)) moves′ n → a ≡ counts (r .answer) n
+      → Decides (outcomeOf Vd.Done (act j bytes s table path) s table path moves from) (record { answer = a; state = r .state }) table′ path′ moves′
+  decides-acts {r} h y e = record {
+    answer = ap saysAnswer (e ∙ ap (counts (r .answer)) (y .count ∙ ap length (sym (h .way))) ∙ sym (h .answer));
+    state = h .state;
+    table = h .table;
+    path = h .path;
+    moves = y .moves ∙ ap (laid moves from) (sym (h .way));
+  }
 
   pub decides-refused : (q : Refusal) → judge j bytes s table path (length moves) from ≡ Vd.Refused q
       → Decides (decide j bytes s table path moves from) (record { answer = A.Refused q; state = s }) table path moves

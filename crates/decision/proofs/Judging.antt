@@ -18,7 +18,8 @@ use Rattle.model.specs.Checks.{ceiling, floorOf, goals, sizes, pathRoom, settin
 use Rattle.model.specs.Decision.{movesRoom, stateHolds, judge}
 use Rattle.model.proofs.Accepted.{not-refused, then-done, sizes-judges, path-judges, settings-judges, places-judges, figures-accepted}
 use Rattle.model.proofs.Held.{Held, held-judges, moves-judges, sound-room}
-use Rattle.decision.specs.Ready.{leastRoom, Places, Ready, Judged}
+use Rattle.decision.specs.Laying.{leastRoom}
+use Rattle.decision.specs.Ready.{Places, Ready, Judged}
 use Rattle.decision.specs.Inner.{listsFit, Checked}
 
 then-assoc : (a b c : Verdict) → then (then a b) c ≡ then a (then b c)
@@ -81,7 +82,10 @@ module _ (j : Job) (bytes : List ℕ) (s : State) (table path : List ℕ) (room 
       by (yes h) = omega (arith, List·getD-eq-default table 0 {n = x} h)
       by (no h) = figures-accepted (floorOf j bytes) table e x (omega arith)
 
-  pub ready : judge j bytes s table path room from ≡ Vd.Done → Ready j bytes s table path room from
+  pub roomy : judge j bytes s table path room from ≡ Vd.Done → from + leastRoom ≤ room
+  roomy e = fits j bytes (length table) (length path) room from (then-done _ _ (judge-is ∙ e) .0) .moves
+
+  pub ready : judge j bytes s table path room from ≡ Vd.Done → Ready j bytes s table path
   ready e =
       let a = then-done _ _ (judge-is ∙ e) in
       let b = then-done _ _ (a .1) in
@@ -96,7 +100,6 @@ module _ (j : Job) (bytes : List ℕ) (s : State) (table path : List ℕ) (room 
         figures = f .figures-are;
         low = low (f .figures-are) (d .0);
         wide = f .path;
-        room = f .moves;
         here = p .0;
         bench = p .1;
         within = h .within;

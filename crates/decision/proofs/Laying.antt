@@ -1,7 +1,8 @@
 -- What a decision stores: a figure where it is greater, and moves in a part of the lent list. Assumes nothing.
 use Prim.Native.Nat.{ℕ, suc, _+_, _-_, _≤_, _<_}
-use mathlib.Core.Path.{_≡_, sym, ap, ap₂, _∙_}
+use mathlib.Core.Path.{_≡_, refl, sym, ap, ap₂, subst, _∙_}
 use mathlib.Core.List.{List, [], _∷_, _++_, map, reverse, reverse-cons, append-assoc, map-append}
+use native.Mathlib.Nat.{add-zero}
 use native.Mathlib.Numerals.{add-one}
 use native.Mathlib.Omega.{arith}
 use borrow.Author.Tests.{lt-ltb, le-ltb}
@@ -9,13 +10,13 @@ use lib.Dec.{ltb}
 use lib.ListN.{List·getD-append, length, getD, set, take, drop, length-append, length-drop, length-reverse, length-map, take-append-drop, drop-of-length-le}
 use lib.Seq.{drop-cons, drop-drop, set-at, drop-append-le, length-take-le, getD-take, take-at}
 use Rattle.answers.specs.declared.Job.{Job}
+use Rattle.answers.specs.declared.Answer.{Answer}
 use Rattle.model.specs.Basics.{choose}
 use Rattle.model.specs.Floor.{opposite}
 use Rattle.model.specs.Lookahead.{mostMoves}
 use Rattle.model.specs.Decision.{stored, laid}
 use Rattle.lookahead.specs.Contract.{movesTo, Traced}
-use Rattle.decision.specs.Ready.{leastRoom}
-use Rattle.decision.specs.Inner.{Lays, wayBack}
+use Rattle.decision.specs.Laying.{leastRoom, wayBack, wayOf, Shown, Lays}
 
 -- ---- the figure
 
@@ -117,3 +118,15 @@ module _ (there part : List ℕ) (n : ℕ) (long : n ≤ length there) (room : n
 
   pub turn-all : turned there n n ++ drop n part ≡ map opposite (reverse (take n there)) ++ drop n part
   turn-all = let z : n - n ≡ 0 = omega arith in ap (λ i. map opposite (reverse (drop i (take n there))) ++ drop n part) z
+
+-- ---- by the answer
+
+pub lays-none : (lent : List ℕ) (from : ℕ) → Lays lent from [] lent 0
+lays-none lent from = record { count = refl; moves = sym (ap (λ n. take from lent ++ drop n lent) (add-zero from) ∙ take-append-drop from lent) }
+
+module _ {a b : Answer} (e : a ≡ b) where
+  pub shown-as : {j : Job} {bytes : List ℕ} {s base : ℕ} {mark cost : List ℕ} → Shown j bytes s a base mark cost → Shown j bytes s b base mark cost
+  shown-as {j} {bytes} {s} {base} {mark} {cost} h = subst (λ (x : Answer). Shown j bytes s x base mark cost) e h
+
+  pub lays-as : (j : Job) (bytes : List ℕ) (s : ℕ) {lent moves : List ℕ} {from n : ℕ} → Lays lent from (wayOf j bytes s b) moves n → Lays lent from (wayOf j bytes s a) moves n
+  lays-as j bytes s {lent} {moves} {from} {n} h = subst (λ (x : Answer). Lays lent from (wayOf j bytes s x) moves n) (sym e) h

@@ -2,7 +2,7 @@
 use Prim.Native.Nat.{ℕ, suc, _+_, _<_}
 use mathlib.Core.Path.{_≡_}
 use mathlib.Core.Bool.{Bool, true, false, _&&_}
-use mathlib.Core.List.{List, map, reverse}
+use mathlib.Core.List.{List}
 use lib.Dec.{ltb, eqb}
 use lib.ListN.{length, getD, set, take}
 use Rattle.learning.specs.Path.{before}
@@ -12,12 +12,10 @@ use Rattle.answers.specs.declared.Place.the-variants as P
 use Rattle.answers.specs.declared.Answer.the-variants as A
 use Rattle.answers.specs.declared.Verdict.{Verdict}
 use Rattle.answers.specs.declared.Verdict.the-variants as Vd
-use Rattle.model.specs.Floor.{opposite}
 use Rattle.model.specs.Basics.{then}
 use Rattle.model.specs.Checks.{floorOf, sizes, pathRoom}
 use Rattle.model.specs.Lookahead.{seen, newFigure, target}
-use Rattle.model.specs.Decision.{Deed, laid, movesRoom, stateHolds, learn}
-use Rattle.lookahead.specs.Contract.{Used, movesTo}
+use Rattle.model.specs.Decision.{Deed, movesRoom, stateHolds, learn}
 use Rattle.decision.specs.declared.Acted.{Acted}
 use Rattle.model.proofs.Held.{Fair, Sound}
 use Rattle.decision.specs.Ready.{Places}
@@ -61,15 +59,6 @@ pub record Extended (path : List ℕ) (n current target : ℕ) (path′ place′
   pub length : r ≡ length (before target (take (suc n) (set path n current)))
   pub places : Places place′ path′ r
 
--- the moves of a way, laid into the lent list
-pub record Lays (lent : List ℕ) (from : ℕ) (way moves′ : List ℕ) (r : ℕ) : Type 0 where
-  pub count : r ≡ length way
-  pub moves : moves′ ≡ laid lent from way
-
--- the way back from x by l's own route
-abbrev pub wayBack : Job → List ℕ → (l x : ℕ) → List ℕ
-wayBack j bytes l x = map opposite (reverse (movesTo j bytes l x))
-
 -- a decision past the checks that is refused after all: nothing changes
 abbrev pub refusing : State → (number base : ℕ) → Acted
 refusing s number base = record { answer = A.Refused (record { number = number; place = P.Nowhere }); state = s; rise = 0; cost = 0; base = base }
@@ -77,8 +66,3 @@ refusing s number base = record { answer = A.Refused (record { number = number; 
 -- a decision past the lookahead
 unfoldable pub learns : Job → List ℕ → State → (table path : List ℕ) → Deed
 learns j bytes s table path = let v = seen j bytes (s .current) in learn j bytes s v table path (newFigure j bytes v table) (target j bytes v table)
-
--- what a decision leaves in the scratch lists, ahead of the next base
-pub record Leaves (r : Acted) (mark cost list place path : List ℕ) : Type 0 where
-  pub used : Used (r .base) mark cost list
-  pub places : Places place path (r .state .length)

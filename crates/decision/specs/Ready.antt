@@ -1,5 +1,5 @@
 -- What a decision past its checks takes, and what it promises, over the model's own functions.
-use Prim.Native.Nat.{ℕ, _+_, _*_, _≤_, _<_}
+use Prim.Native.Nat.{ℕ, _*_, _≤_, _<_}
 use mathlib.Core.Path.{_≡_}
 use mathlib.Core.Bool.{true}
 use mathlib.Core.List.{List}
@@ -12,15 +12,12 @@ use Rattle.answers.specs.declared.Verdict.the-variants as Vd
 use Rattle.answers.specs.Says.{saysAnswer}
 use Rattle.model.specs.Floor.{Sized, size, free}
 use Rattle.model.specs.Checks.{ceiling, floorOf}
-use Rattle.model.specs.Decision.{Deed, Outcome, judge, laid}
+use Rattle.model.specs.Decision.{Deed, Outcome, judge}
 use Rattle.model.proofs.Accepted.{Settings}
 use Rattle.model.proofs.Held.{Fair}
-use Rattle.lookahead.specs.Contract.{Fresh}
+use Rattle.lookahead.specs.Contract.{Used}
 use Rattle.decision.specs.declared.Acted.{Acted}
-
--- how many places a decision needs for its moves
-abbrev pub leastRoom : ℕ
-leastRoom = 288
+use Rattle.decision.specs.Laying.{wayOf, counts, Shown}
 
 -- The place of each of the path's first n cells is noted under the cell's number, so no cell stands there twice.
 pub record Places (place path : List ℕ) (n : ℕ) : Type 0 where
@@ -29,13 +26,12 @@ pub record Places (place path : List ℕ) (n : ℕ) : Type 0 where
 
 -- What the checks give and a trial keeps: the floor, the settings and the sizes; figures within the ceiling; the current cell and the goal free;
 -- the learned amount within the quota; and a path of fair cells that leaves room for the current one.
-pub record Ready (j : Job) (bytes : List ℕ) (s : State) (table path : List ℕ) (moves from : ℕ) : Type 0 where
+pub record Ready (j : Job) (bytes : List ℕ) (s : State) (table path : List ℕ) : Type 0 where
   pub sized : Sized (floorOf j bytes)
   pub settings : Settings j
   pub figures : length table ≡ size (floorOf j bytes)
   pub low : (x : ℕ) → getD table x 0 ≤ ceiling
   pub wide : size (floorOf j bytes) ≤ length path
-  pub room : from + leastRoom ≤ moves
   pub here : free (floorOf j bytes) (s .current) ≡ true
   pub bench : free (floorOf j bytes) (j .goal) ≡ true
   pub within : s .learned ≤ j .q * j .quota
@@ -47,20 +43,22 @@ pub record Judged (j : Job) (bytes : List ℕ) (s : State) (table path : List �
   pub verdict : v ≡ judge j bytes s table path room from
   pub places : v ≡ Vd.Done → Places place path (s .length)
 
--- The answer, the state, the rise, the cost and the lent lists are those of the model's deed.
-pub record Acts (d : Deed) (lent : List ℕ) (from : ℕ) (r : Acted) (table′ path′ moves′ : List ℕ) : Type 0 where
-  pub answer : r .answer ≡ d .answer
+-- The answer, the state, the rise, the cost and the lent lists are those of the model's deed. The moves are not laid nor counted yet, and the answer tells which
+-- they are.
+pub record Acts (j : Job) (bytes : List ℕ) (s : State) (d : Deed) (r : Acted) (table′ path′ : List ℕ) : Type 0 where
+  pub answer : d .answer ≡ counts (r .answer) (length (d .way))
+  pub way : d .way ≡ wayOf j bytes (s .current) (r .answer)
   pub state : r .state ≡ d .state
   pub rise : r .rise ≡ d .rise
   pub cost : r .cost ≡ d .cost
   pub table : table′ ≡ d .table
   pub path : path′ ≡ d .path
-  pub moves : moves′ ≡ laid lent from (d .way)
 
--- The scratch lists after a decision serve the next one.
-pub record Serves (r : Acted) (mark cost list place path : List ℕ) : Type 0 where
-  pub fresh : Fresh (r .base) mark cost list
+-- The scratch lists after a decision serve the next one, and first to lay the moves of this one.
+pub record Serves (j : Job) (bytes : List ℕ) (s : State) (r : Acted) (mark cost list place path : List ℕ) : Type 0 where
+  pub used : Used (r .base) mark cost list
   pub places : Places place path (r .state .length)
+  pub shown : Shown j bytes (s .current) (r .answer) (r .base) mark cost
 
 -- The public decision's answer and lists are those of the model's outcome.
 pub record Decides (o : Outcome) (r : Decided) (table′ path′ moves′ : List ℕ) : Type 0 where

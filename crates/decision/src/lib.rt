@@ -1,18 +1,21 @@
-// One decision: `judge` makes the checks ahead of the lookahead, `act` is the decision past them, and `decide` is the public call of both.
+// One decision: `judge` makes the checks ahead of the lookahead, `act` is the decision past them, `lay` lays its moves, and `decide` is the public call of all three.
 mod back;
 mod held;
+mod moves;
 mod steps;
 
+pub use moves::lay;
 ghost use mathlib.Core.Path.{_≡_};
 ghost use mathlib.Core.Bool.{_&&_};
-ghost use Prim.Native.Nat.{_<_, _-_};
+ghost use Prim.Native.Nat.{_+_, _-_, _≤_};
 ghost use lib.Dec.{ltb};
 ghost use lib.ListN.{length};
 ghost use Rattle.model.specs.Checks.{ceiling};
 ghost use Rattle.model.specs.Decision as model;
-ghost use Rattle.lookahead.specs.Contract.{Fresh, Asked, Window};
+ghost use Rattle.lookahead.specs.Contract.{Fresh, Used, Asked, Window};
+ghost use Rattle.decision.specs.Laying.{leastRoom};
 ghost use Rattle.decision.specs.Ready.{Ready, Places, Judged, Acts, Serves, Decides};
-ghost use Rattle.decision.specs.Inner.{listsFit, refusing, learns, Leaves};
+ghost use Rattle.decision.specs.Inner.{listsFit, refusing, learns};
 use answers::Answer;
 use answers::Decided;
 use answers::Job;
@@ -24,9 +27,10 @@ use floor::CEILING;
 use lookahead::Around;
 
 // How many places a decision needs for its moves.
-const LEAST_ROOM: usize = 288;
+pub const LEAST_ROOM: usize = 288;
 
-// What a decision past the checks comes to: its answer, the state after it, its rise, what its moves cost, and the next lookahead's base.
+// What a decision past the checks comes to: its answer, in which no move is counted yet, the state after it, its rise, what its moves cost, and the base of
+// the marks that it leaves.
 pub struct Acted {
     pub answer: Answer,
     pub state: State,
@@ -148,19 +152,17 @@ fn learn(
     last: usize,
     table: &mut [u32],
     path: &mut [u16],
-    moves: &mut [u8],
-    from: usize,
     base: u32,
     mark: &mut [u32],
     cost: &mut [u16],
     list: &mut [u16],
     place: &mut [u16],
 ) -> Acted
-    requires { ⌜ Ready job (now floor) state (now table) (now path) (length (now moves)) from ⌝ ∗ ⌜ Asked job (now floor) (state .current) ⌝
+    requires { ⌜ Ready job (now floor) state (now table) (now path) ⌝ ∗ ⌜ Asked job (now floor) (state .current) ⌝
         ∗ ⌜ Window job (now floor) (state .current) base (now mark) (now cost) (now list) n last ⌝ ∗ ⌜ Places (now place) (now path) (state .length) ⌝ }
-    ensures { λ r. ⌜ Acts (learns job (now (floor .entry)) state (now (table .entry)) (now (path .entry)))
-        (now (moves .entry)) from r (now (table .exit)) (now (path .exit)) (now (moves .exit)) ⌝ }
-    ensures { λ r. ⌜ Leaves r (now (mark .exit)) (now (cost .exit)) (now (list .exit)) (now (place .exit)) (now (path .exit)) ⌝ }
+    ensures { λ r. ⌜ Acts job (now (floor .entry)) state (learns job (now (floor .entry)) state (now (table .entry)) (now (path .entry)))
+        r (now (table .exit)) (now (path .exit)) ⌝ }
+    ensures { λ r. ⌜ Serves job (now (floor .entry)) state r (now (mark .exit)) (now (cost .exit)) (now (list .exit)) (now (place .exit)) (now (path .exit)) ⌝ }
 {
     let s = state.current;
     let aim = lookahead::aim(job, floor, s, table, base, mark, cost, list, n, last);
@@ -170,21 +172,7 @@ fn learn(
     }
     let rise = rise_of(old, aim.figure);
     if state.learned + rise <= job.q * job.quota {
-        return steps::forward(
-            job,
-            floor,
-            state,
-            aim,
-            rise,
-            table,
-            path,
-            moves,
-            from,
-            base,
-            mark,
-            cost,
-            place,
-        );
+        return steps::forward(job, floor, state, aim, rise, table, path, base, place);
     }
     back::go_back(
         job,
@@ -194,8 +182,6 @@ fn learn(
         rise,
         table,
         path,
-        moves,
-        from,
         base,
         mark,
         cost,
@@ -210,19 +196,17 @@ fn go(
     state: State,
     table: &mut [u32],
     path: &mut [u16],
-    moves: &mut [u8],
-    from: usize,
     base: u32,
     mark: &mut [u32],
     cost: &mut [u16],
     list: &mut [u16],
     place: &mut [u16],
 ) -> Acted
-    requires { ⌜ Ready job (now floor) state (now table) (now path) (length (now moves)) from ⌝ ∗ ⌜ Asked job (now floor) (state .current) ⌝
+    requires { ⌜ Ready job (now floor) state (now table) (now path) ⌝ ∗ ⌜ Asked job (now floor) (state .current) ⌝
         ∗ ⌜ Fresh base (now mark) (now cost) (now list) ⌝ ∗ ⌜ Places (now place) (now path) (state .length) ⌝ }
-    ensures { λ r. ⌜ Acts (model.act job (now (floor .entry)) state (now (table .entry)) (now (path .entry)))
-        (now (moves .entry)) from r (now (table .exit)) (now (path .exit)) (now (moves .exit)) ⌝ }
-    ensures { λ r. ⌜ Leaves r (now (mark .exit)) (now (cost .exit)) (now (list .exit)) (now (place .exit)) (now (path .exit)) ⌝ }
+    ensures { λ r. ⌜ Acts job (now (floor .entry)) state (model.act job (now (floor .entry)) state (now (table .entry)) (now (path .entry)))
+        r (now (table .exit)) (now (path .exit)) ⌝ }
+    ensures { λ r. ⌜ Serves job (now (floor .entry)) state r (now (mark .exit)) (now (cost .exit)) (now (list .exit)) (now (place .exit)) (now (path .exit)) ⌝ }
 {
     let s = state.current;
     match lookahead::look(job, floor, s, base, mark, cost, list) {
@@ -234,8 +218,6 @@ fn go(
             last,
             table,
             path,
-            moves,
-            from,
             base,
             mark,
             cost,
@@ -247,25 +229,24 @@ fn go(
 }
 
 // A decision past the checks. Scratch is lent: `mark`, `cost` and `list` are the lookahead's, and `place` has the path's places.
+// Its moves can be laid after it, by `lay`, from what it leaves there.
 pub fn act(
     job: Job,
     floor: &[u8],
     state: State,
     table: &mut [u32],
     path: &mut [u16],
-    moves: &mut [u8],
-    from: usize,
     base: u32,
     mark: &mut [u32],
     cost: &mut [u16],
     list: &mut [u16],
     place: &mut [u16],
 ) -> Acted
-    requires { ⌜ Ready job (now floor) state (now table) (now path) (length (now moves)) from ⌝
-        ∗ ⌜ Fresh base (now mark) (now cost) (now list) ⌝ ∗ ⌜ Places (now place) (now path) (state .length) ⌝ }
-    ensures { λ r. ⌜ Acts (model.act job (now (floor .entry)) state (now (table .entry)) (now (path .entry)))
-        (now (moves .entry)) from r (now (table .exit)) (now (path .exit)) (now (moves .exit)) ⌝ }
-    ensures { λ r. ⌜ Serves r (now (mark .exit)) (now (cost .exit)) (now (list .exit)) (now (place .exit)) (now (path .exit)) ⌝ }
+    requires { ⌜ Ready job (now floor) state (now table) (now path) ⌝
+        ∗ ⌜ Used base (now mark) (now cost) (now list) ⌝ ∗ ⌜ Places (now place) (now path) (state .length) ⌝ }
+    ensures { λ r. ⌜ Acts job (now (floor .entry)) state (model.act job (now (floor .entry)) state (now (table .entry)) (now (path .entry)))
+        r (now (table .exit)) (now (path .exit)) ⌝ }
+    ensures { λ r. ⌜ Serves job (now (floor .entry)) state r (now (mark .exit)) (now (cost .exit)) (now (list .exit)) (now (place .exit)) (now (path .exit)) ⌝ }
 {
     if floor::is_goal(job.goal, state.current) {
         return Acted {
@@ -276,33 +257,22 @@ pub fn act(
             base: base,
         };
     }
-    let r = go(
+    let next = lookahead::renew(base, mark);
+    go(
         job,
         floor,
         state,
         table,
         path,
-        moves,
-        from,
-        base,
+        next,
         mark,
         cost,
         list,
         place,
-    );
-    let next = lookahead::renew(r.base, mark);
-    let answer = r.answer;
-    let after = r.state;
-    Acted {
-        answer: answer,
-        state: after,
-        rise: r.rise,
-        cost: r.cost,
-        base: next,
-    }
+    )
 }
 
-// A decision that was let through, with the lookahead's scratch in its frame.
+// A decision that was let through and its moves, with the lookahead's scratch in its frame.
 fn decide_past(
     job: Job,
     floor: &[u8],
@@ -313,7 +283,7 @@ fn decide_past(
     from: usize,
     place: &mut [u16],
 ) -> Decided
-    requires { ⌜ Ready job (now floor) state (now table) (now path) (length (now moves)) from ⌝ ∗ ⌜ Places (now place) (now path) (state .length) ⌝ }
+    requires { ⌜ Ready job (now floor) state (now table) (now path) ⌝ ∗ ⌜ from + leastRoom ≤ length (now moves) ⌝ ∗ ⌜ Places (now place) (now path) (state .length) ⌝ }
     ensures { λ r. ⌜ Decides (model.outcomeOf Verdict.Done (model.act job (now (floor .entry)) state (now (table .entry)) (now (path .entry))) state
         (now (table .entry)) (now (path .entry)) (now (moves .entry)) from) r (now (table .exit)) (now (path .exit)) (now (moves .exit)) ⌝ }
 {
@@ -326,8 +296,6 @@ fn decide_past(
         state,
         table,
         path,
-        moves,
-        from,
         1,
         &mut mark,
         &mut cost,
@@ -335,14 +303,25 @@ fn decide_past(
         place,
     );
     let answer = r.answer;
+    let n = lay(
+        job,
+        floor,
+        state.current,
+        answer,
+        r.base,
+        &mark,
+        &cost,
+        moves,
+        from,
+    );
     let after = r.state;
     Decided {
-        answer: answer,
+        answer: moves::count(answer, n),
         state: after,
     }
 }
 
-// One decision: the checks, then the decision past them. A refused call changes nothing.
+// One decision: the checks, then the decision past them and its moves. A refused call changes nothing.
 pub fn decide(
     job: Job,
     floor: &[u8],

@@ -1,14 +1,13 @@
-// What a decision stores: the figure, the path's next cell, and the moves. And going forward.
+// What a decision stores: the figure and the path's next cell. And going forward.
 ghost use mathlib.Core.Path.{_≡_};
-ghost use Prim.Native.Nat.{_+_, _-_, _<_, _≤_};
+ghost use Prim.Native.Nat.{_-_, _<_, _≤_};
 ghost use lib.ListN.{length, getD};
 ghost use Rattle.model.specs.Lookahead.{seen, highestNew};
 ghost use Rattle.model.specs.Decision as model;
-ghost use Rattle.lookahead.specs.Contract.{Asked, Near, Seen, Aimed, movesTo};
-ghost use Rattle.decision.specs.Ready.{leastRoom, Ready, Places, Acts};
-ghost use Rattle.decision.specs.Inner.{Open, Extended, Lays};
+ghost use Rattle.lookahead.specs.Contract.{Asked, Aimed};
+ghost use Rattle.decision.specs.Ready.{Ready, Places, Acts};
+ghost use Rattle.decision.specs.Inner.{Open, Extended};
 use super::Acted;
-use super::LEAST_ROOM;
 use answers::Answer;
 use answers::Job;
 use answers::State;
@@ -38,26 +37,6 @@ fn extend(path: &mut [u16], place: &mut [u16], n: usize, current: usize, target:
     n + 1
 }
 
-// The moves of the route from s to the cell x of the window go into the lent list from the place named; their number.
-fn lay(
-    job: Job,
-    floor: &[u8],
-    s: usize,
-    base: u32,
-    mark: &[u32],
-    cost: &[u16],
-    x: usize,
-    moves: &mut [u8],
-    from: usize,
-) -> usize
-    requires { ⌜ Asked job (now floor) s ⌝ ∗ ⌜ Seen job (now floor) s base (now mark) (now cost) ⌝ ∗ ⌜ Near job (now floor) s x ⌝
-        ∗ ⌜ from + leastRoom ≤ length (now moves) ⌝ }
-    ensures { λ r. ⌜ Lays (now (moves .entry)) from (movesTo job (now (floor .entry)) s x) (now (moves .exit)) r ⌝ }
-{
-    let end = from + LEAST_ROOM;
-    lookahead::trace(job, floor, s, base, mark, cost, x, &mut moves[from..end])
-}
-
 // Forward to the target.
 pub(crate) fn forward(
     job: Job,
@@ -67,32 +46,27 @@ pub(crate) fn forward(
     rise: usize,
     table: &mut [u32],
     path: &mut [u16],
-    moves: &mut [u8],
-    from: usize,
     base: u32,
-    mark: &[u32],
-    cost: &[u16],
     place: &mut [u16],
 ) -> Acted
-    requires { ⌜ Ready job (now floor) state (now table) (now path) (length (now moves)) from ⌝ ∗ ⌜ Asked job (now floor) (state .current) ⌝
-        ∗ ⌜ Seen job (now floor) (state .current) base (now mark) (now cost) ⌝
+    requires { ⌜ Ready job (now floor) state (now table) (now path) ⌝ ∗ ⌜ Asked job (now floor) (state .current) ⌝
         ∗ ⌜ Aimed job (now floor) (state .current) (now table) aim ⌝
         ∗ ⌜ (rise ≡ aim .figure - getD (now table) (state .current) 0) × Places (now place) (now path) (state .length) ⌝ }
-    ensures { λ r. ⌜ Acts (model.forward job (now (floor .entry)) state (seen job (now (floor .entry)) (state .current)) (now (table .entry)) (now (path .entry)) (aim .figure) (aim .target))
-        (now (moves .entry)) from r (now (table .exit)) (now (path .exit)) (now (moves .exit)) ⌝ }
-    ensures { λ r. ⌜ (r .base ≡ base) × Places (now (place .exit)) (now (path .exit)) (r .state .length) ⌝ }
+    ensures { λ r. ⌜ Acts job (now (floor .entry)) state
+        (model.forward job (now (floor .entry)) state (seen job (now (floor .entry)) (state .current)) (now (table .entry)) (now (path .entry)) (aim .figure) (aim .target))
+        r (now (table .exit)) (now (path .exit)) ⌝ }
+    ensures { λ r. ⌜ (r .base ≡ base) × (r .answer ≡ Answer.Forward (aim .target) rise 0) × Places (now (place .exit)) (now (path .exit)) (r .state .length) ⌝ }
 {
     let s = state.current;
     let n = state.length;
     let target = aim.target;
-    let count = lay(job, floor, s, base, mark, cost, target, moves, from);
     let length = extend(path, place, n, s, target);
     store(table, s, aim.figure);
     Acted {
         answer: Answer::Forward {
             target: target,
             rise: rise,
-            moves: count,
+            moves: 0,
         },
         state: State {
             current: target,

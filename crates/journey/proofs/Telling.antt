@@ -1,27 +1,24 @@
 -- Texts told one after another are one text, told; and what a decision of a trial tells.
 -- Assumes nothing.
-use Prim.Native.Nat.{ℕ, zero, suc, _+_, _-_, _*_, _≤_, _<_}
+use Prim.Native.Nat.{ℕ, zero, suc, _+_, _-_, _≤_, _<_}
 use mathlib.Core.Path.{_≡_, refl, sym, ap, subst, _∙_}
-use mathlib.Core.Bool.{Bool, true, false, _&&_, _||_}
+use mathlib.Core.Bool.{Bool, false, _||_}
 use mathlib.Core.List.{List, [], _∷_, _++_, append-assoc, append-nil}
 use native.Mathlib.Decide.{decLe}
 use native.Mathlib.Omega.{arith}
 use borrow.Author.Tests.{lt-ltb}
-use lib.Dec.{leb, ltb, eqb}
+use lib.Dec.{ltb}
 use lib.ListN.{length, take, drop, getD, length-append, length-drop, drop-of-length-le}
 use lib.Seq.{sets-eq, length-sets, take-at, length-take-le, drop-append-le, drop-drop}
 use Rattle.learning.specs.Path.{All, end, also}
 use Rattle.answers.specs.declared.Job.{Job}
-use Rattle.answers.specs.declared.State.{State}
 use Rattle.answers.specs.declared.Report.{Report}
 use Rattle.answers.specs.declared.Verdict.the-variants as Vd
 use Rattle.model.specs.Opening.{openTrial}
-use Rattle.learning.specs.Ground.{View}
 use Rattle.model.specs.Basics.{member}
 use Rattle.model.specs.Floor.{goalsOf}
-use Rattle.model.specs.Checks.{ceiling}
-use Rattle.model.specs.Lookahead.{seen, ring, emptyRing, newFigure, target, mostMoves}
-use Rattle.model.specs.Decision.{Deed, atGoal, rise, forwardBy, stay, backOutBy, goBack, goBackBy, learn, learnBy, act, actBy}
+use Rattle.model.specs.Lookahead.{mostMoves}
+use Rattle.model.specs.Decision.{Deed, act}
 use Rattle.model.specs.Ride.{Ride, next, nextBy, report}
 use Rattle.model.specs.Line.{field, movesField, trialLine}
 use Rattle.model.proofs.Openings as openings
@@ -29,10 +26,9 @@ use Rattle.model.proofs.Steps.{Does}
 use Rattle.model.proofs.Rides.{does}
 use Rattle.line.specs.Printing.{Printed, moveDigits, countFields}
 use Rattle.line.proofs.Decimals.{field-few}
-use Rattle.lookahead.specs.Contract.{Fresh}
-use Rattle.decision.specs.Ready.{Places}
+use Rattle.decision.specs.Laying.{leastRoom, wayOf, Lays}
 use Rattle.run.specs.declared.Stand.{Stand}
-use Rattle.run.specs.Stands.{movesOf, setOut, Went}
+use Rattle.run.specs.Stands.{setOut, Went, Left}
 use Rattle.run.specs.Trials.{Scratch}
 use Rattle.run.proofs.Driving.{Driving, Underway, off, sets-out, sets-out-at, aside, goes-on, goes-on-at}
 use Rattle.journey.specs.Telling.{Follows, Room, Spilt, Told, Ended, some, dash}
@@ -128,34 +124,6 @@ all-at end ys i h = absurd (omega arith)
 all-at (also p a) ys zero h = p
 all-at (also p a) ys (suc i) h = all-at a ys i (omega arith)
 
--- ---- a decision's answer tells how many moves it has
-
-abbrev Counted : Deed → Type 0
-Counted d = movesOf (d .answer) ≡ length (d .way)
-
-either : (b : Bool) (x y : Deed) → Counted x → Counted y → Counted (elim b [ true ↦ x | false ↦ y ])
-either true x y h k = h
-either false x y h k = k
-
-module _ (j : Job) (bytes : List ℕ) (s : State) (table path : List ℕ) where
-  back-counted : (new : ℕ) → Counted (goBack j bytes s table path new)
-  unfolding goBackBy stay backOutBy
-  back-counted new =
-      either (eqb (s .length) 0) _ _ refl
-      (either (eqb (ring j bytes (seen j bytes (getD path (s .length - 1) 0)) (s .current)) (seen j bytes (getD path (s .length - 1) 0) .last)) _ _ refl refl)
-
-  learn-counted : (v : View) (new t : ℕ) → Counted (learn j bytes s v table path new t)
-  unfolding learnBy forwardBy
-  learn-counted v new t =
-      either (ltb (getD table (s .current) 0) new && ltb ceiling new) _ _ refl
-      (either (leb (s .learned + rise table (s .current) new) (j .q * j .quota)) _ _ refl (back-counted new))
-
-  act-counted : Counted (act j bytes s table path)
-  unfolding actBy
-  act-counted =
-      let v = seen j bytes (s .current) in
-      either (atGoal j bytes (s .current)) _ _ refl (either (emptyRing j bytes v (v .last)) _ _ refl (learn-counted v (newFigure j bytes v table) (target j bytes v table)))
-
 -- ---- a decision of a trial
 
 module _ (j : Job) (bytes : List ℕ) (start : ℕ) (table₀ path₀ : List ℕ) (opened : openTrial j bytes start table₀ path₀ ≡ Vd.Done)
@@ -169,81 +137,83 @@ module _ (j : Job) (bytes : List ℕ) (start : ℕ) (table₀ path₀ : List ℕ
   done : Does j bytes (g .at .state) (g .at .table) (g .at .path) (act j bytes (g .at .state) (g .at .table) (g .at .path))
   done = does j bytes start table₀ path₀ (openings.ready j bytes start table₀ path₀ opened) (g .riding) (off j bytes start table₀ path₀ opened g aside)
 
-  module _ {moves along moves′ table′ path′ along′ : List ℕ} {r : Stand} (a : Went d w moves along r table′ path′ moves′ along′) where
+  module _ {moves moves′ : List ℕ} {n : ℕ} (l : Lays moves 0 (d .way) moves′ n) where
     -- its moves stand at the front of the lent list
-    counted : r .moves ≡ length (d .way)
-    counted = a .many ∙ act-counted j bytes (w .state) table path
-
-    laid-is : moves′ ≡ d .way ++ drop (0 + length (d .way)) moves
-    laid-is = a .moves
-
-    way-is : take (r .moves) moves′ ≡ d .way
-    way-is = ap (take (r .moves)) laid-is ∙ take-at (d .way) _ (r .moves) (sym counted)
+    way-is : take n moves′ ≡ d .way
+    way-is = ap (take n) (l .moves) ∙ take-at (d .way) _ n (sym (l .count))
 
     -- they are few, and moves
-    pub sayable : (r .moves ≤ mostMoves) × (r .moves ≤ length moves′) × ((i : ℕ) → i < r .moves → getD moves′ i 0 < 8)
+    pub sayable : (n ≤ mostMoves) × (n ≤ length moves′) × ((i : ℕ) → i < n → getD moves′ i 0 < 8)
     sayable = (
-      omega (arith, counted, done .few, ap (λ x. length (x .way)) same),
-      omega (arith, counted, ap length laid-is, length-append (d .way) (drop (0 + length (d .way)) moves)),
-      λ i h. subst (λ l. getD l i 0 < 8) (sym laid-is) (all-at (subst (λ x. All (λ m. m < 8) (x .way)) same (done .low)) _ i (omega (arith, counted))),
+      omega (arith, l .count, done .few, ap (λ x. length (x .way)) same),
+      omega (arith, l .count, ap length (l .moves), length-append (d .way) (drop (0 + length (d .way)) moves)),
+      λ i h. subst (λ l. getD l i 0 < 8) (sym (l .moves)) (all-at (subst (λ x. All (λ m. m < 8) (x .way)) same (done .low)) _ i (omega (arith, l .count))),
     )
 
     -- told after the moves before it, they are those of the ride so far
-    pub more-moves : moveDigits (g .at .moves) ++ moveDigits (take (r .moves) moves′) ≡ moveDigits (next j bytes (g .at) .moves)
+    pub more-moves : moveDigits (g .at .moves) ++ moveDigits (take n moves′) ≡ moveDigits (next j bytes (g .at) .moves)
     unfolding nextBy
     more-moves =
         ap (λ l. moveDigits (g .at .moves) ++ moveDigits l) (way-is ∙ ap (λ x. x .way) (sym same))
         ∙ sym (digits-more (g .at .moves) (act j bytes (g .at .state) (g .at .table) (g .at .path) .way))
 
-    pub moved-more : (some (g .at .moves) || ltb 0 (r .moves)) ≡ some (next j bytes (g .at) .moves)
+    pub moved-more : (some (g .at .moves) || ltb 0 n) ≡ some (next j bytes (g .at) .moves)
     unfolding nextBy
     moved-more =
-        ap (λ (n : ℕ). some (g .at .moves) || ltb 0 n) (counted ∙ ap (λ x. length (x .way)) (sym same))
+        ap (λ (n : ℕ). some (g .at .moves) || ltb 0 n) (l .count ∙ ap (λ x. length (x .way)) (sym same))
         ∙ sym (some-more (g .at .moves) (act j bytes (g .at .state) (g .at .table) (g .at .path) .way))
 
 -- ---- a trial, decision by decision
 
--- The invariant: the ride so far, and its moves are told.
+-- The invariant: the ride so far, its moves are told, and there is room for those of the next decision.
 pub record Telling (j : Job) (bytes : List ℕ) (start : ℕ) (table₀ path₀ out₀ : List ℕ) (from : ℕ) (w : Stand) (table path moves mark cost list place along : List ℕ)
     (moved : Bool) (out : List ℕ) (at : ℕ) : Type 0 where
-  pub under : Underway j bytes start table₀ path₀ w table path moves mark cost list place along
+  pub under : Underway j bytes start table₀ path₀ w table path mark cost list place along
   pub told : Told out₀ from (moveDigits (under .drive .at .moves)) out at
   pub moved-is : moved ≡ some (under .drive .at .moves)
+  pub room : length moves ≡ leastRoom
 
 module _ (j : Job) (bytes : List ℕ) (start : ℕ) (table₀ path₀ : List ℕ) (opened : openTrial j bytes start table₀ path₀ ≡ Vd.Done) (out₀ : List ℕ) (from : ℕ) where
-  pub tells-none : {moves mark cost list place along : List ℕ} → Scratch moves mark cost list place along → Room out₀ from
+  pub tells-none : {moves mark cost list place along : List ℕ} → Scratch mark cost list place along → length moves ≡ leastRoom → Room out₀ from
       → Telling j bytes start table₀ path₀ out₀ from (setOut start) table₀ path₀ moves mark cost list place along false out₀ from
-  tells-none l r =
+  tells-none l room r =
       let e = sym (sets-out-at j bytes start table₀ path₀ opened l) in
       record {
         under = sets-out j bytes start table₀ path₀ opened l;
         told = subst (λ o. Told out₀ from (moveDigits (o .moves)) out₀ from) e (told-none r);
         moved-is = ap (λ o. some (o .moves)) e;
+        room = room;
       }
 
+  -- one decision is made, and its moves are laid
   module _ {w : Stand} {table path moves mark cost list place along out : List ℕ} {moved : Bool} {at : ℕ}
       (t : Telling j bytes start table₀ path₀ out₀ from w table path moves mark cost list place along moved out at) (e : member (w .state .current) (goalsOf (j .goal)) ≡ false)
-      {moves′ table′ path′ along′ : List ℕ} {r : Stand} (a : Went (act j bytes (w .state) table path) w moves along r table′ path′ moves′ along′) where
+      {table′ path′ along′ mark′ cost′ list′ place′ moves′ : List ℕ} {r : Stand} {n : ℕ} (a : Went (act j bytes (w .state) table path) w along r table′ path′ along′)
+      (f : Left j bytes (act j bytes (w .state) table path) w r mark′ cost′ list′ place′ path′) (l : Lays moves 0 (wayOf j bytes (w .state .current) (r .answer)) moves′ n) where
     abbrev g : Driving j bytes start table₀ path₀ w table path
     g = t .under .drive
 
     abbrev off-it : w .state .current ≡ j .goal → ⊥
     off-it = aside j bytes start table₀ path₀ opened (t .under) e
 
-    pub may-say : Room out at × ((r .moves ≤ mostMoves) × (r .moves ≤ length moves′) × ((i : ℕ) → i < r .moves → getD moves′ i 0 < 8))
-    may-say = (t .told .room, sayable j bytes start table₀ path₀ opened g off-it a)
+    -- the moves laid are the decision's
+    laying : Lays moves 0 (act j bytes (w .state) table path .way) moves′ n
+    laying = subst (λ v. Lays moves 0 v moves′ n) (sym (f .way)) l
 
-    pub tells : {mark′ cost′ list′ place′ out′ : List ℕ} {at′ : ℕ} {moved′ : Bool} → Fresh (r .base) mark′ cost′ list′ × Places place′ path′ (r .state .length) → length moves′ ≡ length moves
-        → Told out at (moveDigits (take (r .moves) moves′)) out′ at′ → moved′ ≡ (moved || ltb 0 (r .moves))
+    pub may-say : Room out at × ((n ≤ mostMoves) × (n ≤ length moves′) × ((i : ℕ) → i < n → getD moves′ i 0 < 8))
+    may-say = (t .told .room, sayable j bytes start table₀ path₀ opened g off-it laying)
+
+    pub tells : {out′ : List ℕ} {at′ : ℕ} {moved′ : Bool} → length moves′ ≡ length moves → Told out at (moveDigits (take n moves′)) out′ at′ → moved′ ≡ (moved || ltb 0 n)
         → Telling j bytes start table₀ path₀ out₀ from r table′ path′ moves′ mark′ cost′ list′ place′ along′ moved′ out′ at′
-    tells {out′ = out′} {at′ = at′} f size u m =
-        let so = sym (goes-on-at j bytes start table₀ path₀ opened (t .under) e a f size) in
+    tells {out′} {at′} size u m =
+        let so = sym (goes-on-at j bytes start table₀ path₀ opened (t .under) e a f) in
         record {
-          under = goes-on j bytes start table₀ path₀ opened (t .under) e a f size;
+          under = goes-on j bytes start table₀ path₀ opened (t .under) e a f;
           told =
               subst (λ o. Told out₀ from (moveDigits (o .moves)) out′ at′) so
-              (subst (λ l. Told out₀ from l out′ at′) (more-moves j bytes start table₀ path₀ opened g off-it a) (told-then _ _ (t .told) u));
-          moved-is = m ∙ ap (λ b. b || ltb 0 (r .moves)) (t .moved-is) ∙ moved-more j bytes start table₀ path₀ opened g off-it a ∙ ap (λ o. some (o .moves)) so;
+              (subst (λ l. Told out₀ from l out′ at′) (more-moves j bytes start table₀ path₀ opened g off-it laying) (told-then _ _ (t .told) u));
+          moved-is = m ∙ ap (λ b. b || ltb 0 n) (t .moved-is) ∙ moved-more j bytes start table₀ path₀ opened g off-it laying ∙ ap (λ o. some (o .moves)) so;
+          room = size ∙ t .room;
         }
 
 pub told-ride : {o o′ : Ride} {out out′ : List ℕ} {at at′ : ℕ} → o ≡ o′ → Told out at (moveDigits (o .moves)) out′ at′ → Told out at (moveDigits (o′ .moves)) out′ at′

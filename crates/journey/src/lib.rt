@@ -12,12 +12,14 @@ ghost use Rattle.model.specs.Opening.{openTrial};
 ghost use Rattle.model.specs.Ride.{ride, courseFrom};
 ghost use Rattle.model.specs.Line.{courseLines};
 ghost use Rattle.line.specs.Printing.{Printed, moveDigits, countFields};
+ghost use Rattle.decision.specs.Laying.{leastRoom};
 ghost use Rattle.run.specs.Trials.{Scratch};
 ghost use Rattle.journey.specs.Telling.{Front, Room, Spilt, Told, Ended, dash, Ways, Trips};
 ghost use Rattle.model.specs.Lookahead.{mostMoves};
 use answers::Job;
 use answers::Report;
 use answers::Verdict;
+use decision::LEAST_ROOM;
 use libc::STDOUT_FILENO;
 use line::print;
 
@@ -89,28 +91,29 @@ fn tell_moves(
     out: &mut [u8],
     from: usize,
 ) -> Way
-    requires { ⌜ openTrial job (now floor) start (now table) (now path) ≡ Verdict.Done ⌝ ∗ ⌜ Scratch (now moves) (now mark) (now cost) (now list) (now place) (now along) ⌝ ∗ ⌜ Room (now out) from ⌝ }
+    requires { ⌜ openTrial job (now floor) start (now table) (now path) ≡ Verdict.Done ⌝ ∗ ⌜ Scratch (now mark) (now cost) (now list) (now place) (now along) ⌝ ∗ ⌜ length (now moves) ≡ leastRoom ⌝ ∗ ⌜ Room (now out) from ⌝ }
     ensures { λ r. ⌜ Ways job (now (floor .entry)) (ride job (now (floor .entry)) start (now (table .entry)) (now (path .entry))) r (now (table .exit)) (now (path .exit)) (now (out .entry)) from (now (out .exit)) ⌝ }
 {
     let mut w = run::set_out(start);
     let mut moved = false;
     let mut at = from;
     while !run::arrived(job, w) {
-        w = run::onward(
+        let before = w.state;
+        w = run::onward(job, floor, w, table, path, mark, cost, list, place, along);
+        let answer = w.answer;
+        let n = decision::lay(
             job,
             floor,
-            w,
-            table,
-            path,
-            moves,
+            before.current,
+            answer,
+            w.base,
             mark,
             cost,
-            list,
-            place,
-            along,
+            moves,
+            0,
         );
-        at = say_moves(out, at, moves, w.moves);
-        moved = moves_yet(moved, w.moves);
+        at = say_moves(out, at, moves, n);
+        moved = moves_yet(moved, n);
     }
     let report = run::tally(w, along);
     Way {
@@ -164,7 +167,7 @@ fn tell_on(
     out: &mut [u8],
     at: usize,
 ) -> Trip
-    requires { ⌜ openTrial job (now floor) start (now table) (now path) ≡ Verdict.Done ⌝ ∗ ⌜ Scratch (now moves) (now mark) (now cost) (now list) (now place) (now along) ⌝ ∗ ⌜ Room (now out) at ⌝ }
+    requires { ⌜ openTrial job (now floor) start (now table) (now path) ≡ Verdict.Done ⌝ ∗ ⌜ Scratch (now mark) (now cost) (now list) (now place) (now along) ⌝ ∗ ⌜ length (now moves) ≡ leastRoom ⌝ ∗ ⌜ Room (now out) at ⌝ }
     ensures { λ r. ⌜ Trips job (now (floor .entry)) (ride job (now (floor .entry)) start (now (table .entry)) (now (path .entry))) r (now (table .exit)) (now (path .exit)) (now (out .entry)) at (now (out .exit)) ⌝ }
 {
     let w = tell_moves(
@@ -203,7 +206,7 @@ pub fn tell(
     requires { ⌜ openTrial job (now floor) start (now table) (now path) ≡ Verdict.Done ⌝ ∗ ⌜ Room (now out) at ⌝ }
     ensures { λ r. ⌜ Trips job (now (floor .entry)) (ride job (now (floor .entry)) start (now (table .entry)) (now (path .entry))) r (now (table .exit)) (now (path .exit)) (now (out .entry)) at (now (out .exit)) ⌝ }
 {
-    let mut moves = [0u8; 288];
+    let mut moves = [0u8; LEAST_ROOM];
     let mut mark = [0u32; 4096];
     let mut cost = [0u16; 4096];
     let mut list = [0u16; 8192];

@@ -6,7 +6,7 @@ use Prim.Native.Nat.{ℕ, zero, suc}
 use native.Mathlib.Omega.{arith}
 use lib.ListN.{getD, replicate, length-replicate}
 use Rattle.answers.specs.declared.Job.{Job}
-use Rattle.lookahead.specs.Contract.{Marks, Fresh, Used, Window}
+use Rattle.lookahead.specs.Contract.{Marks, Spent, Fresh, Used, Window}
 
 zeros : (n i : ℕ) → _≡_ {A = ℕ} (getD (replicate n 0) i 0) 0
 zeros zero i = refl
@@ -14,8 +14,8 @@ zeros (suc n) zero = refl
 zeros (suc n) (suc i) = zeros n i
 
 -- marks of zeros; n is a variable so that they are not written out
-pub marks-zeros : (n : ℕ) → n ≡ 4096 → Marks 1 (replicate n 0)
-marks-zeros n e = record { size = length-replicate {A = ℕ} n 0 ∙ e; room = omega arith; below = λ x. omega (arith, zeros n x) }
+pub spent-zeros : (n : ℕ) → n ≡ 4096 → Spent 1 (replicate n 0)
+spent-zeros n e = record { size = length-replicate {A = ℕ} n 0 ∙ e; room = omega arith; below = λ x. omega (arith, zeros n x) }
 
 -- what a lookahead leaves
 pub window-used : {j : Job} {bytes : List ℕ} {s base : ℕ} {mark cost list : List ℕ} {n last : ℕ}

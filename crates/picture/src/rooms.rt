@@ -3,6 +3,8 @@ ghost use mathlib.Core.Path.{_≡_};
 ghost use Prim.Native.Nat.{suc, _*_};
 ghost use lib.ListN.{length};
 ghost use Rattle.model.specs.Lookahead.{mostMoves};
+ghost use Rattle.decision.specs.Laying.{leastRoom};
+use decision::LEAST_ROOM;
 use lookahead::MOST_MOVES;
 
 // A byte for each cell of the largest floor: the floor's own, or its shade.
@@ -34,12 +36,12 @@ pub(crate) fn counts() -> Counts
 }
 
 // The places for moves that a decision asks for.
-pub type Moves = [u8; 288];
+pub type Moves = [u8; LEAST_ROOM];
 
 pub(crate) fn moves() -> Moves
-    ensures { λ r. ⌜ 288 ≡ length r ⌝ }
+    ensures { λ r. ⌜ leastRoom ≡ length r ⌝ }
 {
-    [0; 288]
+    [0; LEAST_ROOM]
 }
 
 // For each place of the path a byte for how many moves lead on from it, and then those moves.

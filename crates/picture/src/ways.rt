@@ -9,6 +9,7 @@ use crate::rooms::Moves;
 use crate::sheet;
 use crate::sheet::Sheet;
 use drawing::Page;
+use learner::Answer;
 use learner::Job;
 use learner::State;
 use lookahead::MOST_MOVES;
@@ -68,6 +69,25 @@ pub struct Under {
     pub at: usize,
 }
 
+// How many moves an answer tells of.
+fn moves_of(a: Answer) -> usize {
+    match a {
+        Answer::Arrived => 0,
+        Answer::Forward {
+            target: _,
+            rise: _,
+            moves,
+        } => moves,
+        Answer::BackedOut {
+            target: _,
+            rise: _,
+            moves,
+        } => moves,
+        Answer::Stayed { rise: _ } => 0,
+        Answer::Refused(_) => 0,
+    }
+}
+
 // One decision, and its moves drawn.
 fn go_on(
     job: Job,
@@ -83,7 +103,7 @@ fn go_on(
     let d = learner::decide(job, floor, before, table, path, &mut moves, 0);
     let answer = d.answer;
     let after = d.state;
-    let n = run::moves_of(answer);
+    let n = moves_of(answer);
     if MOST_MOVES < n {
         return under;
     }

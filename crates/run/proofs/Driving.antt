@@ -24,7 +24,7 @@ use Rattle.model.specs.Basics.{member}
 use Rattle.model.specs.Floor.{goalsOf}
 use Rattle.model.specs.Checks.{floorOf}
 use Rattle.model.specs.Opening.{openTrial}
-use Rattle.model.specs.Decision.{Deed, atGoal, onPath, judge, act, laid}
+use Rattle.model.specs.Decision.{Deed, atGoal, onPath, judge, act}
 use Rattle.model.specs.Ride as model
 use Rattle.model.specs.Ride.{Ride, begun, next, nextBy, learningJob, ride, trialOf, trial, trialBy}
 use Rattle.model.proofs.Held.{or-false}
@@ -36,12 +36,13 @@ use Rattle.model.proofs.Meaning.{goal-means, goal-is}
 use Rattle.model.proofs.Steps.{asState, short, size-high}
 use Rattle.model.proofs.Rides.{Riding, yet, rest, riding-begun, riding-next, does, falls, keeps, judges, room, rest-begun, rest-next, ride-there}
 use Rattle.model.proofs.Rides.{kept-low, counts-fit, mostLearned, mostDecisions, dearestKept}
+use Rattle.decision.specs.Laying.{leastRoom}
 use Rattle.decision.specs.Ready.{Ready, Places}
 use Rattle.decision.proofs.Judging.{ready}
-use Rattle.lookahead.specs.Contract.{Fresh}
-use Rattle.decision.proofs.Acting.{fresh-zeros}
+use Rattle.lookahead.specs.Contract.{Used}
+use Rattle.decision.proofs.Acting.{used-zeros}
 use Rattle.run.specs.declared.Stand.{Stand}
-use Rattle.run.specs.Stands.{movesOf, setOut, talliedOf, Onward, Went}
+use Rattle.run.specs.Stands.{setOut, talliedOf, Onward, Went, Left}
 use Rattle.run.specs.Trials.{noted, Scratch, Rode, IsTrial}
 use Rattle.run.proofs.Legs.{Sums, sums-none, sum-last, note-more, noted-size, noted-sums}
 use Rattle.model.specs.Lookahead.{dearestLeg}
@@ -153,13 +154,13 @@ module _ (j : Job) (bytes : List ℕ) (start : ℕ) (table₀ path₀ : List ℕ
       same i = act j bytes (g .state-is i) (g .table-is i) (g .path-is i)
 
       -- a decision can be made
-      may-act : (moves : ℕ) → 288 ≤ moves → Ready j bytes s table path moves 0
-      may-act moves h =
-          ready j bytes s table path moves 0
-          ((λ i. judge j bytes (sym (g .state-is) i) (sym (g .table-is) i) (sym (g .path-is) i) moves 0) ∙ judges j bytes start table₀ path₀ R (g .riding) moves 0 (omega arith))
+      may-act : Ready j bytes s table path
+      may-act =
+          ready j bytes s table path leastRoom 0
+          ((λ i. judge j bytes (sym (g .state-is) i) (sym (g .table-is) i) (sym (g .path-is) i) leastRoom 0) ∙ judges j bytes start table₀ path₀ R (g .riding) leastRoom 0 (omega arith))
 
       -- and one more is made
-      pub drives : {moves along moves′ table′ path′ along′ : List ℕ} {r : Stand} → Went (act j bytes s table path) w moves along r table′ path′ moves′ along′
+      pub drives : {along table′ path′ along′ : List ℕ} {r : Stand} → Went (act j bytes s table path) w along r table′ path′ along′
           → Driving j bytes start table₀ path₀ r table′ path′
       unfolding nextBy
       drives a = record {
@@ -174,7 +175,7 @@ module _ (j : Job) (bytes : List ℕ) (start : ℕ) (table₀ path₀ : List ℕ
         path-is = ap (λ d. d .path) same ∙ sym (a .path);
       }
 
-      pub lowers : {moves along moves′ table′ path′ along′ : List ℕ} {r : Stand} → Went (act j bytes s table path) w moves along r table′ path′ moves′ along′
+      pub lowers : {along table′ path′ along′ : List ℕ} {r : Stand} → Went (act j bytes s table path) w along r table′ path′ along′
           → yetTo j bytes (r .state) table′ path′ < yetTo j bytes s table path
       unfolding nextBy
       lowers a =
@@ -190,7 +191,7 @@ module _ (j : Job) (bytes : List ℕ) (start : ℕ) (table₀ path₀ : List ℕ
     abbrev d : Deed
     d = act j bytes (w .state) table path
 
-    module _ {moves moves′ table′ path′ along′ : List ℕ} {r : Stand} (a : Went d w moves along r table′ path′ moves′ along′) where
+    module _ {table′ path′ along′ : List ℕ} {r : Stand} (a : Went d w along r table′ path′ along′) where
       -- the decision as `learning` has it
       stepped : Step J (asState (w .state) table path) (d .rise) (d .cost) (asState (r .state) table′ path′)
       stepped =
@@ -211,15 +212,15 @@ module _ (j : Job) (bytes : List ℕ) (start : ℕ) (table₀ path₀ : List ℕ
           }
 
     -- a decision can be noted and counted
-    pub may-go : {moves : List ℕ} → length moves ≡ 288 → Onward j bytes w table path moves along
-    may-go {moves} size =
-        let r : Stand = record { state = d .state; decisions = w .decisions + 1; learned = w .learned + d .rise; travel = w .travel + d .cost; base = 0; moves = movesOf (d .answer) } in
-        let made : Went d w moves along r (d .table) (d .path) (laid moves 0 (d .way)) (noted along (w .state .length) (d .state .length) (d .cost)) =
-        record { state = refl; decisions = refl; learned = refl; travel = refl; many = refl; table = refl; path = refl; moves = refl; sums = refl } in
+    pub may-go : Onward j bytes w table path along
+    may-go =
+        let r : Stand = record { state = d .state; decisions = w .decisions + 1; learned = w .learned + d .rise; travel = w .travel + d .cost; base = 0; answer = d .answer } in
+        let made : Went d w along r (d .table) (d .path) (noted along (w .state .length) (d .state .length) (d .cost)) =
+        record { state = refl; decisions = refl; learned = refl; travel = refl; table = refl; path = refl; sums = refl } in
         let next = drives g aside made in
         let few = fits next in
         record {
-          ready = may-act g aside (length moves) (omega arith);
+          ready = may-act g aside;
           fits = record {
             size = S .size;
             place = λ h. path-fits next;
@@ -235,10 +236,9 @@ module _ (j : Job) (bytes : List ℕ) (start : ℕ) (table₀ path₀ : List ℕ
         }
 
 -- the scratch lists that a trial starts with
-pub scratched : Scratch (replicate 288 0) (replicate 4096 0) (replicate 4096 0) (replicate 8192 0) (replicate 4096 0) (replicate 4096 0)
+pub scratched : Scratch (replicate 4096 0) (replicate 4096 0) (replicate 8192 0) (replicate 4096 0) (replicate 4096 0)
 scratched = record {
-  room = length-replicate {A = ℕ} 288 0;
-  fresh = fresh-zeros;
+  used = used-zeros;
   places = length-replicate {A = ℕ} 4096 0;
   sums = length-replicate {A = ℕ} 4096 0;
   none-yet = getD-replicate {A = ℕ} 4096 0 0 0 (omega arith);
@@ -247,13 +247,12 @@ scratched = record {
 -- ---- the loop of a trial
 
 -- What a trial's loop keeps from one decision to the next.
-pub record Underway (j : Job) (bytes : List ℕ) (start : ℕ) (table₀ path₀ : List ℕ) (w : Stand) (table path moves mark cost list place along : List ℕ) : Type 0 where
+pub record Underway (j : Job) (bytes : List ℕ) (start : ℕ) (table₀ path₀ : List ℕ) (w : Stand) (table path mark cost list place along : List ℕ) : Type 0 where
   -- the ride so far
   pub drive : Driving j bytes start table₀ path₀ w table path
   -- the scratch lists that the next decision takes
-  pub fresh : Fresh (w .base) mark cost list
+  pub used : Used (w .base) mark cost list
   pub places : Places place path (w .state .length)
-  pub room : length moves ≡ 288
   -- the sums of the legs
   pub legs-so : Along j bytes (w .state) path along
 
@@ -275,21 +274,20 @@ so {b = true} e h = sym e
 so {b = false} e h = sym e ∙ sym h
 
 module _ (j : Job) (bytes : List ℕ) (start : ℕ) (table₀ path₀ : List ℕ) (opened : openTrial j bytes start table₀ path₀ ≡ Vd.Done) where
-  pub sets-out : {moves mark cost list place along : List ℕ} → Scratch moves mark cost list place along
-      → Underway j bytes start table₀ path₀ (setOut start) table₀ path₀ moves mark cost list place along
+  pub sets-out : {mark cost list place along : List ℕ} → Scratch mark cost list place along
+      → Underway j bytes start table₀ path₀ (setOut start) table₀ path₀ mark cost list place along
   sets-out l = record {
     drive = begins j bytes start table₀ path₀ opened;
-    fresh = l .fresh;
+    used = l .used;
     places = record { size = l .places; noted = λ k h. absurd (omega arith) };
-    room = l .room;
     legs-so = begins-along j bytes start table₀ path₀ opened (l .sums) (l .none-yet);
   }
 
-  pub sets-out-at : {moves mark cost list place along : List ℕ} (l : Scratch moves mark cost list place along) → sets-out l .drive .at ≡ begun start table₀ path₀
+  pub sets-out-at : {mark cost list place along : List ℕ} (l : Scratch mark cost list place along) → sets-out l .drive .at ≡ begun start table₀ path₀
   unfolding sets-out begins
   sets-out-at l = refl
 
-  module _ {w : Stand} {table path moves mark cost list place along : List ℕ} (u : Underway j bytes start table₀ path₀ w table path moves mark cost list place along) where
+  module _ {w : Stand} {table path mark cost list place along : List ℕ} (u : Underway j bytes start table₀ path₀ w table path mark cost list place along) where
     pub may-tally : (length along ≡ 4096) × (w .state .length < 4096)
     may-tally = (u .legs-so .size, path-fits j bytes start table₀ path₀ opened (u .drive))
 
@@ -305,24 +303,23 @@ module _ (j : Job) (bytes : List ℕ) (start : ℕ) (table₀ path₀ : List ℕ
       aside = off-goal (w .state .current) (j .goal) e
 
       -- off it one more decision can be made
-      pub may-go-on : Onward j bytes w table path moves along
-      may-go-on = may-go j bytes start table₀ path₀ opened (u .drive) aside (u .legs-so) (u .room)
+      pub may-go-on : Onward j bytes w table path along
+      may-go-on = may-go j bytes start table₀ path₀ opened (u .drive) aside (u .legs-so)
 
-      module _ {moves′ table′ path′ along′ : List ℕ} {r : Stand} (a : Went (act j bytes (w .state) table path) w moves along r table′ path′ moves′ along′) where
-        pub goes-on : {mark′ cost′ list′ place′ : List ℕ} → Fresh (r .base) mark′ cost′ list′ × Places place′ path′ (r .state .length) → length moves′ ≡ length moves
-            → Underway j bytes start table₀ path₀ r table′ path′ moves′ mark′ cost′ list′ place′ along′
-        goes-on f size = record {
+      module _ {table′ path′ along′ : List ℕ} {r : Stand} (a : Went (act j bytes (w .state) table path) w along r table′ path′ along′) where
+        pub goes-on : {mark′ cost′ list′ place′ : List ℕ} → Left j bytes (act j bytes (w .state) table path) w r mark′ cost′ list′ place′ path′
+            → Underway j bytes start table₀ path₀ r table′ path′ mark′ cost′ list′ place′ along′
+        goes-on f = record {
           drive = drives j bytes start table₀ path₀ opened (u .drive) aside a;
-          fresh = f .0;
-          places = f .1;
-          room = size ∙ u .room;
+          used = f .used;
+          places = f .places;
           legs-so = notes j bytes start table₀ path₀ opened (u .drive) aside (u .legs-so) a;
         }
 
-        pub goes-on-at : {mark′ cost′ list′ place′ : List ℕ} (f : Fresh (r .base) mark′ cost′ list′ × Places place′ path′ (r .state .length)) (size : length moves′ ≡ length moves)
-            → goes-on f size .drive .at ≡ next j bytes (u .drive .at)
+        pub goes-on-at : {mark′ cost′ list′ place′ : List ℕ} (f : Left j bytes (act j bytes (w .state) table path) w r mark′ cost′ list′ place′ path′)
+            → goes-on f .drive .at ≡ next j bytes (u .drive .at)
         unfolding goes-on drives
-        goes-on-at f size = refl
+        goes-on-at f = refl
 
         -- and it is nearer its end
         pub nearer : yetTo j bytes (r .state) table′ path′ < yetTo j bytes (w .state) table path

@@ -15,7 +15,7 @@ use Rattle.answers.specs.declared.Ran.the-variants as Rn
 use Rattle.answers.specs.Says.{saysTried, saysRan}
 use Rattle.model.specs.Basics.{choose}
 use Rattle.model.specs.Ride.{Ride, report, TrialOutcome, RunOutcome}
-use Rattle.lookahead.specs.Contract.{Fresh}
+use Rattle.lookahead.specs.Contract.{Used}
 
 -- the record of no trial
 abbrev pub none : Report
@@ -32,9 +32,8 @@ pub record Fits (along : List ℕ) (n m leg : ℕ) : Type 0 where
   pub sum : n < m → getD along n 0 + leg < 4294967296
 
 -- the scratch lists that a trial starts with
-pub record Scratch (moves mark cost list place along : List ℕ) : Type 0 where
-  pub room : length moves ≡ 288
-  pub fresh : Fresh 1 mark cost list
+pub record Scratch (mark cost list place along : List ℕ) : Type 0 where
+  pub used : Used 1 mark cost list
   pub places : length place ≡ 4096
   pub sums : length along ≡ 4096
   pub none-yet : getD along 0 0 ≡ 0

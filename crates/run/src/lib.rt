@@ -11,9 +11,9 @@ ghost use Rattle.model.specs.Ride.{ride, trial, run};
 ghost use Rattle.model.specs.Basics.{member};
 ghost use Rattle.model.specs.Floor.{goalsOf};
 ghost use Rattle.model.specs.Decision.{act};
-ghost use Rattle.lookahead.specs.Contract.{Fresh};
+ghost use Rattle.lookahead.specs.Contract.{Used};
 ghost use Rattle.decision.specs.Ready.{Places};
-ghost use Rattle.run.specs.Stands.{movesOf, setOut, talliedOf, Onward, Went};
+ghost use Rattle.run.specs.Stands.{setOut, talliedOf, Onward, Went, Left};
 ghost use Rattle.run.specs.Trials.{none, Fits, noted, Scratch, Rode, IsTrial, IsRun, allowedBy, limitAfter, answered};
 use answers::Answer;
 use answers::Job;
@@ -41,38 +41,18 @@ pub fn note_leg(along: &mut [u32], before: usize, after: usize, leg: usize)
     }
 }
 
-// How many moves an answer tells of.
-pub fn moves_of(a: Answer) -> usize
-    ensures { λ r. ⌜ r ≡ movesOf a ⌝ }
-{
-    match a {
-        Answer::Arrived => 0,
-        Answer::Forward {
-            target,
-            rise,
-            moves,
-        } => moves,
-        Answer::BackedOut {
-            target,
-            rise,
-            moves,
-        } => moves,
-        Answer::Stayed { rise } => 0,
-        Answer::Refused(_) => 0,
-    }
-}
-
-// What a trial carries from one decision to the next: its state and its counts, the marks' base, and how many moves its last decision tells of.
+// What a trial carries from one decision to the next: its state and its counts, the marks' base, and what its last decision answered, in which no move is
+// counted.
 pub struct Stand {
     pub state: State,
     pub decisions: u64,
     pub learned: u64,
     pub travel: u64,
     pub base: u32,
-    pub moves: usize,
+    pub answer: Answer,
 }
 
-// A trial before its first decision.
+// A trial before its first decision: as if it had stayed.
 pub fn set_out(start: usize) -> Stand
     ensures { λ r. ⌜ r ≡ setOut start ⌝ }
 {
@@ -86,7 +66,7 @@ pub fn set_out(start: usize) -> Stand
         learned: 0,
         travel: 0,
         base: 1,
-        moves: 0,
+        answer: Answer::Stayed { rise: 0 },
     }
 }
 
@@ -105,16 +85,15 @@ pub fn onward(
     w: Stand,
     table: &mut [u32],
     path: &mut [u16],
-    moves: &mut [u8],
     mark: &mut [u32],
     cost: &mut [u16],
     list: &mut [u16],
     place: &mut [u16],
     along: &mut [u32],
 ) -> Stand
-    requires { ⌜ Onward job (now floor) w (now table) (now path) (now moves) (now along) ⌝ ∗ ⌜ Fresh (w .base) (now mark) (now cost) (now list) ⌝ ∗ ⌜ Places (now place) (now path) (w .state .length) ⌝ }
-    ensures { λ r. ⌜ Went (act job (now (floor .entry)) (w .state) (now (table .entry)) (now (path .entry))) w (now (moves .entry)) (now (along .entry)) r (now (table .exit)) (now (path .exit)) (now (moves .exit)) (now (along .exit)) ⌝ }
-    ensures { λ r. ⌜ Fresh (r .base) (now (mark .exit)) (now (cost .exit)) (now (list .exit)) × Places (now (place .exit)) (now (path .exit)) (r .state .length) ⌝ }
+    requires { ⌜ Onward job (now floor) w (now table) (now path) (now along) ⌝ ∗ ⌜ Used (w .base) (now mark) (now cost) (now list) ⌝ ∗ ⌜ Places (now place) (now path) (w .state .length) ⌝ }
+    ensures { λ r. ⌜ Went (act job (now (floor .entry)) (w .state) (now (table .entry)) (now (path .entry))) w (now (along .entry)) r (now (table .exit)) (now (path .exit)) (now (along .exit)) ⌝ }
+    ensures { λ r. ⌜ Left job (now (floor .entry)) (act job (now (floor .entry)) (w .state) (now (table .entry)) (now (path .entry))) w r (now (mark .exit)) (now (cost .exit)) (now (list .exit)) (now (place .exit)) (now (path .exit)) ⌝ }
 {
     let before = w.state;
     let r = decision::act(
@@ -123,8 +102,6 @@ pub fn onward(
         before,
         table,
         path,
-        moves,
-        0,
         w.base,
         mark,
         cost,
@@ -134,14 +111,13 @@ pub fn onward(
     let after = r.state;
     note_leg(along, before.length, after.length, r.cost);
     let answer = r.answer;
-    let n = moves_of(answer);
     Stand {
         state: after,
         decisions: w.decisions + 1,
         learned: w.learned + r.rise as u64,
         travel: w.travel + r.cost as u64,
         base: r.base,
-        moves: n,
+        answer: answer,
     }
 }
 
@@ -167,31 +143,18 @@ fn drive(
     start: usize,
     table: &mut [u32],
     path: &mut [u16],
-    moves: &mut [u8],
     mark: &mut [u32],
     cost: &mut [u16],
     list: &mut [u16],
     place: &mut [u16],
     along: &mut [u32],
 ) -> Report
-    requires { ⌜ openTrial job (now floor) start (now table) (now path) ≡ Verdict.Done ⌝ ∗ ⌜ Scratch (now moves) (now mark) (now cost) (now list) (now place) (now along) ⌝ }
+    requires { ⌜ openTrial job (now floor) start (now table) (now path) ≡ Verdict.Done ⌝ ∗ ⌜ Scratch (now mark) (now cost) (now list) (now place) (now along) ⌝ }
     ensures { λ r. ⌜ Rode job (now (floor .entry)) (ride job (now (floor .entry)) start (now (table .entry)) (now (path .entry))) r (now (table .exit)) (now (path .exit)) ⌝ }
 {
     let mut w = set_out(start);
     while !arrived(job, w) {
-        w = onward(
-            job,
-            floor,
-            w,
-            table,
-            path,
-            moves,
-            mark,
-            cost,
-            list,
-            place,
-            along,
-        );
+        w = onward(job, floor, w, table, path, mark, cost, list, place, along);
     }
     tally(w, along)
 }
@@ -201,7 +164,6 @@ fn ride(job: Job, floor: &[u8], start: usize, table: &mut [u32], path: &mut [u16
     requires { ⌜ openTrial job (now floor) start (now table) (now path) ≡ Verdict.Done ⌝ }
     ensures { λ r. ⌜ Rode job (now (floor .entry)) (ride job (now (floor .entry)) start (now (table .entry)) (now (path .entry))) r (now (table .exit)) (now (path .exit)) ⌝ }
 {
-    let mut moves = [0u8; 288];
     let mut mark = [0u32; 4096];
     let mut cost = [0u16; 4096];
     let mut list = [0u16; 8192];
@@ -213,7 +175,6 @@ fn ride(job: Job, floor: &[u8], start: usize, table: &mut [u32], path: &mut [u16
         start,
         table,
         path,
-        &mut moves,
         &mut mark,
         &mut cost,
         &mut list,

@@ -3,7 +3,7 @@
 use mathlib.Core.Path.{sym, _∙_}
 use borrow.Author.Needs.{needs}
 use Rattle.decision.proofs.Acting.{decides-refused, decides-past}
-use Rattle.decision.proofs.Judging.{ready}
+use Rattle.decision.proofs.Judging.{ready, roomy}
 use Rattle.decision.proofs.decide.Statement.{statement}
 use Rattle.decision.proofs.decide.Tie as tie
 
@@ -12,7 +12,8 @@ decide-past-requires c κs =
     let at-enum-told = c .before .before .before .before in
     let at-judge = at-enum-told .before .before .before in
     let v = at-judge .judge .ensures in
-    (ready _ _ _ _ _ _ _ (sym (v .verdict) ∙ at-enum-told .enum-told .given .1), v .places (at-enum-told .enum-told .given .1))
+    let done = sym (v .verdict) ∙ at-enum-told .enum-told .given .1 in
+    (ready _ _ _ _ _ _ _ done, (roomy _ _ _ _ _ _ _ done, v .places (at-enum-told .enum-told .given .1)))
 
 returns : tie.Need-returns
 returns c = decides-refused _ _ _ _ _ _ _ _ (sym (c .before .before .before .before .judge .ensures .verdict) ∙ c .before .r .given .1)

@@ -7,7 +7,8 @@ use native.Mathlib.Omega.{arith}
 use borrow.Author.Needs.{needs}
 use lib.Dec.{lit<}
 use Rattle.lookahead.proofs.Fresh.{window-used}
-use Rattle.decision.proofs.Acting.{current-in, table-short, quota-low, weighed, used-at, leaves-refused, acts-as, acts-refused, learns-over, learns-forward, learns-back}
+use Rattle.decision.proofs.Acting.{current-in, aimed-near, table-short, quota-low, weighed, used-at, shown-at, serves-refused, acts-as, acts-refused, learns-over, learns-forward, learns-back}
+use Rattle.decision.proofs.Laying.{shown-as}
 use Rattle.decision.proofs.Noting.{places-down}
 use Rattle.decision.proofs.learn.Statement.{statement}
 use Rattle.decision.proofs.learn.Tie as tie
@@ -17,12 +18,12 @@ abbrev start-of : tie.After-aim → tie.Start
 start-of c =
     let half = c .before .before .before .before .before .before in
     let near = half .before .before .before in
-    near .before .before .before .before
+    near .before .before .before
 
 aim-requires : tie.Need-aim-requires
 aim-requires c κs =
     let half = c .before .before .before .before .before .before in
-    let start = half .before .before .before .before .before .before in
+    let start = half .before .before .before .before .before in
     (start .pre .1 .0, (start .pre .1 .1 .0, weighed (start .pre .0)))
 
 mul-wide32 : tie.Need-mul-wide32
@@ -32,9 +33,7 @@ mul-wide32 c =
 
 slice-read-wide32 : tie.Need-slice-read-wide32
 slice-read-wide32 c =
-    let after-slice-known7 = c .before .before .before .before .before .before in
-    let after-slice-known = after-slice-known7 .before .before .before .before .before .before in
-    let start = after-slice-known .before .before in
+    let start = start-of (c .before) in
     current-in (start .pre .0)
 
 returns : tie.Need-returns
@@ -45,8 +44,8 @@ returns c =
     let at-aim = at-wide32 .before .before in
     let start = start-of at-aim in
     let q = c .refuse .ensures in (
-      acts-as _ _ (learns-over _ _ _ _ _ _ (at-aim .aim .ensures) _ (at-wide32 .wide32 .ensures .0) (sym (at-too-high .too-high .ensures) ∙ at-if1 .if1 .taken)) (acts-refused _ _ _ _ q),
-      leaves-refused q (window-used (start .pre .1 .1 .0)) (start .pre .1 .1 .1),
+      acts-as (learns-over _ _ _ _ _ _ (at-aim .aim .ensures) _ (at-wide32 .wide32 .ensures .0) (sym (at-too-high .too-high .ensures) ∙ at-if1 .if1 .taken)) (acts-refused _ _ q),
+      serves-refused q (window-used (start .pre .1 .1 .0)) (start .pre .1 .1 .1),
     )
 
 add-if2 : tie.Need-add-if2
@@ -66,7 +65,7 @@ mul-if2 c =
 
 forward-requires : tie.Need-forward-requires
 forward-requires c κs =
-    let then2 = c .before .before .before .before .before .before in
+    let then2 = c .before .before .before in
     let at-rise-of = then2 .before .before .before in
     let at-wide32 = at-rise-of .before .before .before in
     let at-aim = at-wide32 .before .before in
@@ -75,21 +74,16 @@ forward-requires c κs =
       (
         start .pre .1 .0,
         (
-          start .pre .1 .1 .0 .view,
-          (
-            at-aim .aim .ensures,
-            ((at-rise-of .rise-of .ensures ∙ ap (λ x. at-aim .aim .result .figure - x) (at-wide32 .wide32 .ensures .0)), start .pre .1 .1 .1),
-          ),
+          at-aim .aim .ensures,
+          ((at-rise-of .rise-of .ensures ∙ ap (λ x. at-aim .aim .result .figure - x) (at-wide32 .wide32 .ensures .0)), start .pre .1 .1 .1),
         ),
       ),
     )
 
 returns-2 : tie.Need-returns-2
 returns-2 c =
-    let after-path = c .before .before .before .before .before in
-    let at-forward = after-path .before .before .before in
-    let after-forward-arg = at-forward .before .before .before .before .before .before in
-    let at-if2 = after-forward-arg .before in
+    let at-forward = c .before .before .before .before .before .before in
+    let at-if2 = at-forward .before .before .before .before in
     let at-rise-of = at-if2 .before .before .before in
     let at-if1 = at-rise-of .before in
     let at-too-high = at-if1 .before in
@@ -97,14 +91,19 @@ returns-2 c =
     let at-aim = at-wide32 .before .before in
     let start = start-of at-aim in
     let low = sym (at-too-high .too-high .ensures) ∙ at-if1 .if1 .left in
-    let risen = at-rise-of .rise-of .ensures ∙ ap (λ x. at-aim .aim .result .figure - x) (at-wide32 .wide32 .ensures .0) in (
-      acts-as _ _ (learns-forward _ _ _ _ _ _ (at-aim .aim .ensures) _ (at-wide32 .wide32 .ensures .0) low _ risen (at-if2 .if2 .taken)) (at-forward .forward .ensures .0),
-      record { used = used-at (at-forward .forward .ensures .1 .0) (window-used (start .pre .1 .1 .0)); places = at-forward .forward .ensures .1 .1 },
+    let risen = at-rise-of .rise-of .ensures ∙ ap (λ x. at-aim .aim .result .figure - x) (at-wide32 .wide32 .ensures .0) in
+    let left = at-forward .forward .ensures .1 in (
+      acts-as (learns-forward _ _ _ _ _ _ (at-aim .aim .ensures) _ (at-wide32 .wide32 .ensures .0) low _ risen (at-if2 .if2 .taken)) (at-forward .forward .ensures .0),
+      record {
+        used = used-at (left .0) (window-used (start .pre .1 .1 .0));
+        places = left .2;
+        shown = shown-at (left .0) (shown-as (sym (left .1)) (record { window = record { asked = start .pre .1 .0; seen = start .pre .1 .1 .0 .view; near = aimed-near (at-aim .aim .ensures) } }));
+      },
     )
 
 go-back-requires : tie.Need-go-back-requires
 go-back-requires c κs =
-    let else2 = c .before .before .before .before .before .before in
+    let else2 = c .before .before .before .before .before in
     let at-rise-of = else2 .before .before .before in
     let at-wide32 = at-rise-of .before .before .before in
     let at-aim = at-wide32 .before .before in
@@ -113,10 +112,9 @@ go-back-requires c κs =
 
 returns-3 : tie.Need-returns-3
 returns-3 c =
-    let after-mark = c .before .before .before .before .before in
-    let at-go-back = after-mark .before .before .before .before .before in
-    let after-go-back-arg = at-go-back .before .before .before .before .before .before in
-    let at-if2 = after-go-back-arg .before in
+    let after-mark = c .before .before .before .before in
+    let at-go-back = after-mark .before .before .before .before in
+    let at-if2 = at-go-back .before .before .before .before .before .before in
     let at-rise-of = at-if2 .before .before .before in
     let at-if1 = at-rise-of .before in
     let at-too-high = at-if1 .before in
@@ -124,9 +122,10 @@ returns-3 c =
     let at-aim = at-wide32 .before .before in
     let start = start-of at-aim in
     let low = sym (at-too-high .too-high .ensures) ∙ at-if1 .if1 .left in
-    let risen = at-rise-of .rise-of .ensures ∙ ap (λ x. at-aim .aim .result .figure - x) (at-wide32 .wide32 .ensures .0) in (
-      acts-as _ _ (learns-back _ _ _ _ _ _ (at-aim .aim .ensures) _ (at-wide32 .wide32 .ensures .0) low _ risen (at-if2 .if2 .left)) (at-go-back .go-back .ensures .0),
-      record { used = at-go-back .go-back .ensures .1 .0; places = places-down _ (at-go-back .go-back .ensures .1 .1) (start .pre .1 .1 .1) },
+    let risen = at-rise-of .rise-of .ensures ∙ ap (λ x. at-aim .aim .result .figure - x) (at-wide32 .wide32 .ensures .0) in
+    let left = at-go-back .go-back .ensures .1 in (
+      acts-as (learns-back _ _ _ _ _ _ (at-aim .aim .ensures) _ (at-wide32 .wide32 .ensures .0) low _ risen (at-if2 .if2 .left)) (at-go-back .go-back .ensures .0),
+      record { used = left .0; places = places-down _ (left .1) (start .pre .1 .1 .1); shown = left .2 },
     )
 
 pub learn-spec : {M : Type 1} → statement M
@@ -154,10 +153,8 @@ learn-spec =
     (λ c. search needs)
     (λ c. search needs)
     (λ c. search needs)
-    (λ c. search needs)
     returns-2
     go-back-requires
-    (λ c. search needs)
     (λ c. search needs)
     (λ c. search needs)
     (λ c. search needs)

@@ -1,6 +1,7 @@
 -- `journey::tell_moves` meets its contract: the loop is that of a trial, whose laws are `run`'s, and the moves told are those of the ride so far.
 -- The measure is the ride's potential. Assumes nothing.
 use mathlib.Core.Path.{sym, ap, _∙_}
+use native.Mathlib.Omega.{arith}
 use borrow.Author.Needs.{needs}
 use Rattle.run.proofs.Driving.{yetTo, long, sized, may-tally, done, rode-so, may-go-on, nearer, not-so, so}
 use Rattle.journey.specs.Telling.{some}
@@ -22,46 +23,56 @@ start e = let known = e .before .before .before .before .before .before in known
 abbrev opened : tie.After-arrived Inv-loop μ-loop → tie.Start Inv-loop μ-loop
 opened e = start (e .before .before)
 
--- one turn: the test, the decision, and the lists after it
-abbrev turn : tie.After-onward-arg8 Inv-loop μ-loop → tie.Then1 Inv-loop μ-loop
+-- one turn: the test, the decision, and its moves
+abbrev turn : tie.After-onward-arg7 Inv-loop μ-loop → tie.Then1 Inv-loop μ-loop
 turn e = let args = e .before .before .before .before in args .before .before .before .before
 
-abbrev moves-after : tie.After-slice-known17 Inv-loop μ-loop → tie.After-moves Inv-loop μ-loop
-moves-after e = let list = e .before .before .before .before .before .before in list .before .before .before .before .before
+abbrev went : tie.After-lay-arg3 Inv-loop μ-loop → tie.After-onward Inv-loop μ-loop
+went e =
+    let list = e .before .before .before .before .before .before in
+    let path = list .before .before .before .before .before .before in
+    path .before .before .before .before .before
 
-abbrev went : tie.After-slice-known17 Inv-loop μ-loop → tie.After-onward Inv-loop μ-loop
-went e = let m = moves-after e in m .before .before .before .before .before
-
-abbrev listed : tie.After-moves-yet Inv-loop μ-loop → tie.After-slice-known17 Inv-loop μ-loop
-listed e = e .before .before .before .before .before .before
+abbrev laid : tie.After-say-moves-arg2 Inv-loop μ-loop → tie.After-lay Inv-loop μ-loop
+laid e = e .before .before .before .before
 
 loop-holds : tie.Need-loop-holds Inv-loop μ-loop
-loop-holds c = let s = start c in rw (c .set-out .ensures) (tells-none _ _ _ _ _ (s .pre .0) _ _ (s .pre .1 .0) (s .pre .1 .1))
+loop-holds c = let s = start c in rw (c .set-out .ensures) (tells-none _ _ _ _ _ (s .pre .0) _ _ (s .pre .1 .0) (s .pre .1 .1 .0) (s .pre .1 .1 .1))
 
 onward-requires : tie.Need-onward-requires Inv-loop μ-loop
 onward-requires c κs =
     let t = turn c in
     let u = t .before .before .loop .inv .under in
-    (may-go-on _ _ _ _ _ (opened (t .before) .pre .0) u (not-so (t .before .arrived .ensures) (t .if1 .taken)), (u .fresh, u .places))
+    (may-go-on _ _ _ _ _ (opened (t .before) .pre .0) u (not-so (t .before .arrived .ensures) (t .if1 .taken)), (u .used, u .places))
+
+lay-requires : tie.Need-lay-requires Inv-loop μ-loop
+lay-requires c κs =
+    let o = went c in
+    let t = turn (o .before) in
+    (o .onward .ensures .1 .shown, omega (arith, t .before .before .loop .inv .room))
 
 say-moves-requires : tie.Need-say-moves-requires Inv-loop μ-loop
 say-moves-requires c κs =
-    let o = went (c .before .before) in
+    let l = laid c in
+    let o = went (l .before) in
     let t = turn (o .before) in
-    may-say _ _ _ _ _ (opened (t .before) .pre .0) _ _ (t .before .before .loop .inv) (not-so (t .before .arrived .ensures) (t .if1 .taken)) (o .onward .ensures .0)
+    may-say _ _ _ _ _ (opened (t .before) .pre .0) _ _ (t .before .before .loop .inv) (not-so (t .before .arrived .ensures) (t .if1 .taken)) (o .onward .ensures .0) (o .onward .ensures .1)
+    (l .lay .ensures)
 
 loop-less : tie.Need-loop-less Inv-loop μ-loop
 loop-less c =
-    let o = went (listed c) in
+    let o = went (laid (c .before .before .before .before) .before) in
     let t = turn (o .before) in
     nearer _ _ _ _ _ (opened (t .before) .pre .0) (t .before .before .loop .inv .under) (not-so (t .before .arrived .ensures) (t .if1 .taken)) (o .onward .ensures .0)
 
 loop-again : tie.Need-loop-again Inv-loop μ-loop
 loop-again c =
-    let o = went (listed c) in
+    let said = c .before .before .before in
+    let l = laid (said .before) in
+    let o = went (l .before) in
     let t = turn (o .before) in
-    tells _ _ _ _ _ (opened (t .before) .pre .0) _ _ (t .before .before .loop .inv) (not-so (t .before .arrived .ensures) (t .if1 .taken)) (o .onward .ensures .0)
-    (o .onward .ensures .1) (moves-after (listed c) .moves .given) (c .before .before .before .say-moves .ensures) (c .moves-yet .ensures)
+    tells _ _ _ _ _ (opened (t .before) .pre .0) _ _ (t .before .before .loop .inv) (not-so (t .before .arrived .ensures) (t .if1 .taken)) (o .onward .ensures .0) (o .onward .ensures .1)
+    (l .lay .ensures) (said .before .before .before .before .moves .given) (said .say-moves .ensures) (c .moves-yet .ensures)
 
 tally-requires : tie.Need-tally-requires Inv-loop μ-loop
 tally-requires c κs = let e = c .before .before in may-tally _ _ _ _ _ (opened e .pre .0) (e .before .loop .inv .under)
@@ -77,16 +88,16 @@ same-length-2 : tie.Need-same-length-2 Inv-loop μ-loop
 same-length-2 c = let e = over c in long _ _ _ _ _ (opened e .pre .0) (e .before .loop .inv .under .drive)
 
 same-length-3 : tie.Need-same-length-3 Inv-loop μ-loop
-same-length-3 c = let e = over c in e .before .loop .inv .under .room ∙ sym (opened e .pre .1 .0 .room)
+same-length-3 c = let e = over c in e .before .loop .inv .room ∙ sym (opened e .pre .1 .1 .0)
 
 same-length-4 : tie.Need-same-length-4 Inv-loop μ-loop
-same-length-4 c = let e = over c in e .before .loop .inv .under .fresh .marks .size ∙ sym (opened e .pre .1 .0 .fresh .marks .size)
+same-length-4 c = let e = over c in e .before .loop .inv .under .used .marks .size ∙ sym (opened e .pre .1 .0 .used .marks .size)
 
 same-length-5 : tie.Need-same-length-5 Inv-loop μ-loop
-same-length-5 c = let e = over c in e .before .loop .inv .under .fresh .costs ∙ sym (opened e .pre .1 .0 .fresh .costs)
+same-length-5 c = let e = over c in e .before .loop .inv .under .used .costs ∙ sym (opened e .pre .1 .0 .used .costs)
 
 same-length-6 : tie.Need-same-length-6 Inv-loop μ-loop
-same-length-6 c = let e = over c in e .before .loop .inv .under .fresh .cells ∙ sym (opened e .pre .1 .0 .fresh .cells)
+same-length-6 c = let e = over c in e .before .loop .inv .under .used .cells ∙ sym (opened e .pre .1 .0 .used .cells)
 
 same-length-7 : tie.Need-same-length-7 Inv-loop μ-loop
 same-length-7 c = let e = over c in e .before .loop .inv .under .places .size ∙ sym (opened e .pre .1 .0 .places)
@@ -95,7 +106,7 @@ same-length-8 : tie.Need-same-length-8 Inv-loop μ-loop
 same-length-8 c = let e = over c in e .before .loop .inv .under .legs-so .size ∙ sym (opened e .pre .1 .0 .sums)
 
 same-length-9 : tie.Need-same-length-9 Inv-loop μ-loop
-same-length-9 c = let e = over c in e .before .loop .inv .told .room .size ∙ sym (opened e .pre .1 .1 .size)
+same-length-9 c = let e = over c in e .before .loop .inv .told .room .size ∙ sym (opened e .pre .1 .1 .1 .size)
 
 returns : tie.Need-returns Inv-loop μ-loop
 returns c =
@@ -119,6 +130,7 @@ tell-moves-spec =
     loop-holds
     (λ c κs. search needs)
     onward-requires
+    lay-requires
     say-moves-requires
     (λ c κs. search needs)
     loop-less

@@ -7,27 +7,27 @@ use Rattle.run.proofs.drive.Statement.{statement}
 use Rattle.run.proofs.drive.Tie as tie
 
 abbrev Inv-loop : tie.InvT-loop
-Inv-loop job floor start table₀ path₀ moves₀ mark₀ cost₀ list₀ place₀ along₀ w₀ table path moves mark cost list place along w =
-    Underway job floor start table₀ path₀ w table path moves mark cost list place along
+Inv-loop job floor start table₀ path₀ mark₀ cost₀ list₀ place₀ along₀ w₀ table path mark cost list place along w =
+    Underway job floor start table₀ path₀ w table path mark cost list place along
 
 abbrev μ-loop : tie.MeasureT-loop
-μ-loop job floor start table₀ path₀ moves₀ mark₀ cost₀ list₀ place₀ along₀ w₀ table path moves mark cost list place along w = yetTo job floor (w .state) table path
+μ-loop job floor start table₀ path₀ mark₀ cost₀ list₀ place₀ along₀ w₀ table path mark cost list place along w = yetTo job floor (w .state) table path
 
 abbrev start : tie.After-set-out Inv-loop μ-loop → tie.Start Inv-loop μ-loop
-start e = let known = e .before .before .before .before .before .before in known .before .before .before .before
+start e = let known = e .before .before .before .before .before in known .before .before .before .before
 
 abbrev opened : tie.After-arrived Inv-loop μ-loop → tie.Start Inv-loop μ-loop
 opened e = start (e .before .before)
 
 -- one turn: the test, and the decision
-abbrev turn : tie.After-onward-arg8 Inv-loop μ-loop → tie.Then1 Inv-loop μ-loop
-turn e = let args = e .before .before .before .before in args .before .before .before .before
+abbrev turn : tie.After-onward-arg7 Inv-loop μ-loop → tie.Then1 Inv-loop μ-loop
+turn e = let args = e .before .before .before .before in args .before .before .before
 
-abbrev moves-after : tie.After-slice-known16 Inv-loop μ-loop → tie.After-moves Inv-loop μ-loop
-moves-after e = let list = e .before .before .before .before .before .before in list .before .before .before .before .before
-
-abbrev went : tie.After-slice-known16 Inv-loop μ-loop → tie.After-onward Inv-loop μ-loop
-went e = let m = moves-after e in m .before .before .before .before .before
+abbrev went : tie.After-slice-known14 Inv-loop μ-loop → tie.After-onward Inv-loop μ-loop
+went e =
+    let list = e .before .before .before .before .before .before in
+    let path = list .before .before .before .before .before .before in
+    path .before .before
 
 loop-holds : tie.Need-loop-holds Inv-loop μ-loop
 loop-holds c = let s = start c in rw (c .set-out .ensures) (sets-out _ _ _ _ _ (s .pre .0) (s .pre .1))
@@ -36,7 +36,7 @@ onward-requires : tie.Need-onward-requires Inv-loop μ-loop
 onward-requires c κs =
     let t = turn c in
     let u = t .before .before .loop .inv in
-    (may-go-on _ _ _ _ _ (opened (t .before) .pre .0) u (not-so (t .before .arrived .ensures) (t .if1 .taken)), (u .fresh, u .places))
+    (may-go-on _ _ _ _ _ (opened (t .before) .pre .0) u (not-so (t .before .arrived .ensures) (t .if1 .taken)), (u .used, u .places))
 
 loop-less : tie.Need-loop-less Inv-loop μ-loop
 loop-less c =
@@ -49,7 +49,7 @@ loop-again c =
     let o = went c in
     let t = turn (o .before) in
     goes-on _ _ _ _ _ (opened (t .before) .pre .0) (t .before .before .loop .inv) (not-so (t .before .arrived .ensures) (t .if1 .taken)) (o .onward .ensures .0)
-    (o .onward .ensures .1) (moves-after c .moves .given)
+    (o .onward .ensures .1)
 
 tally-requires : tie.Need-tally-requires Inv-loop μ-loop
 tally-requires c κs = let e = c .before .before in may-tally _ _ _ _ _ (opened e .pre .0) (e .before .loop .inv)
@@ -65,22 +65,19 @@ same-length-2 : tie.Need-same-length-2 Inv-loop μ-loop
 same-length-2 c = let e = over c in long _ _ _ _ _ (opened e .pre .0) (e .before .loop .inv .drive)
 
 same-length-3 : tie.Need-same-length-3 Inv-loop μ-loop
-same-length-3 c = let e = over c in e .before .loop .inv .room ∙ sym (opened e .pre .1 .room)
+same-length-3 c = let e = over c in e .before .loop .inv .used .marks .size ∙ sym (opened e .pre .1 .used .marks .size)
 
 same-length-4 : tie.Need-same-length-4 Inv-loop μ-loop
-same-length-4 c = let e = over c in e .before .loop .inv .fresh .marks .size ∙ sym (opened e .pre .1 .fresh .marks .size)
+same-length-4 c = let e = over c in e .before .loop .inv .used .costs ∙ sym (opened e .pre .1 .used .costs)
 
 same-length-5 : tie.Need-same-length-5 Inv-loop μ-loop
-same-length-5 c = let e = over c in e .before .loop .inv .fresh .costs ∙ sym (opened e .pre .1 .fresh .costs)
+same-length-5 c = let e = over c in e .before .loop .inv .used .cells ∙ sym (opened e .pre .1 .used .cells)
 
 same-length-6 : tie.Need-same-length-6 Inv-loop μ-loop
-same-length-6 c = let e = over c in e .before .loop .inv .fresh .cells ∙ sym (opened e .pre .1 .fresh .cells)
+same-length-6 c = let e = over c in e .before .loop .inv .places .size ∙ sym (opened e .pre .1 .places)
 
 same-length-7 : tie.Need-same-length-7 Inv-loop μ-loop
-same-length-7 c = let e = over c in e .before .loop .inv .places .size ∙ sym (opened e .pre .1 .places)
-
-same-length-8 : tie.Need-same-length-8 Inv-loop μ-loop
-same-length-8 c = let e = over c in e .before .loop .inv .legs-so .size ∙ sym (opened e .pre .1 .sums)
+same-length-7 c = let e = over c in e .before .loop .inv .legs-so .size ∙ sym (opened e .pre .1 .sums)
 
 returns : tie.Need-returns Inv-loop μ-loop
 returns c =
@@ -107,5 +104,4 @@ drive-spec =
     same-length-5
     same-length-6
     same-length-7
-    same-length-8
     returns)

@@ -5,24 +5,23 @@ use mathlib.Core.Path.{refl, ap, _∙_}
 use native.Mathlib.Omega.{arith}
 use borrow.Author.Needs.{needs}
 use Rattle.run.specs.Trials.{Fits, noted}
-use Rattle.run.specs.Stands.{movesOf}
 use Rattle.run.proofs.onward.Statement.{statement}
 use Rattle.run.proofs.onward.Tie as tie
 
 abbrev start : tie.After-act → tie.Start
 start e =
     let args = e .before .before .before .before .before .before in
-    let known = args .before .before .before .before .before .before in
-    known .before .before .before .before .before .before
+    let known = args .before .before .before .before .before in
+    known .before .before .before .before .before
 
 abbrev acted : tie.After-note-leg-arg → tie.After-act
 acted e =
     let list = e .before .before .before .before .before in
-    let moves = list .before .before .before .before .before .before in
-    moves .before .before .before .before .before
+    let mark = list .before .before .before .before .before in
+    mark .before .before .before .before
 
 abbrev noting : tie.After-struct-known → tie.After-note-leg
-noting e = e .before .before .before .before
+noting e = e .before .before .before
 
 note-leg-requires : tie.Need-note-leg-requires
 note-leg-requires c κs =
@@ -42,33 +41,32 @@ low e =
     let did = a .act .ensures .0 in
     omega (arith, may .decisions, may .learned, may .travel, may .rise, may .leg, did .rise, did .cost)
 
+add-t30 : tie.Need-add-t30
+add-t30 c = omega (arith, low c)
+
+add-t32 : tie.Need-add-t32
+add-t32 c = omega (arith, low (c .before))
+
 add-t34 : tie.Need-add-t34
-add-t34 c = omega (arith, low c)
-
-add-t36 : tie.Need-add-t36
-add-t36 c = omega (arith, low (c .before))
-
-add-t38 : tie.Need-add-t38
-add-t38 c = omega (arith, low (c .before .before))
+add-t34 c = omega (arith, low (c .before .before))
 
 returns : tie.Need-returns
 returns c =
     let n = noting (c .before .before) in
     let a = acted (n .before) in
     let did = a .act .ensures .0 in
+    let serves = a .act .ensures .1 in
     let s = start a .args in (
       record {
         state = did .state;
         decisions = refl;
         learned = ap (λ (k : ℕ). s .w .learned + k) (did .rise);
         travel = ap (λ (k : ℕ). s .w .travel + k) (did .cost);
-        many = c .before .before .before .moves-of .ensures ∙ ap movesOf (did .answer);
         table = did .table;
         path = did .path;
-        moves = did .moves;
         sums = n .note-leg .ensures ∙ (λ i. noted (s .along .now) (s .w .state .length) (did .state i .length) (did .cost i));
       },
-      (a .act .ensures .1 .fresh, a .act .ensures .1 .places),
+      record { used = serves .used; places = serves .places; shown = serves .shown; way = did .way },
     )
 
 pub onward-spec : {M : Type 1} → statement M
@@ -77,11 +75,9 @@ onward-spec =
     (tie.spec
     (λ c κs. search needs)
     note-leg-requires
-    (λ c κs. search needs)
+    add-t30
+    add-t32
     add-t34
-    add-t36
-    add-t38
-    (λ c. search needs)
     (λ c. search needs)
     (λ c. search needs)
     (λ c. search needs)

@@ -8,13 +8,12 @@ use Rattle.run.proofs.ride.Tie as tie
 drive-requires : tie.Need-drive-requires
 drive-requires c κs =
     let lists = c .before .before .before .before .before .before in
-    (lists .before .before .before .before .before .pre, scratched)
+    (lists .before .before .before .before .pre, scratched)
 
 pub ride-spec : {M : Type 1} → statement M
 ride-spec =
     tie.close
     (tie.spec
-    (λ c. search needs)
     (λ c. search needs)
     (λ c. search needs)
     (λ c. search needs)

@@ -1,11 +1,11 @@
 -- `decision::back::go_back` meets its contract: no path, an empty ring on the way, which means that the cart is lost, or a window.
 -- Assumes nothing.
-use mathlib.Core.Path.{refl, ap, _∙_}
+use mathlib.Core.Path.{refl, ap}
 use native.Mathlib.Omega.{arith}
 use borrow.Author.Needs.{needs}
 use Rattle.lookahead.proofs.Fresh.{window-used, renewed}
 use Rattle.decision.specs.declared.Acted.{Acted}
-use Rattle.decision.proofs.Acting.{current-in, table-short, asked-last, looked-window, looked-empty, used-at, lost, acts-stays, acts-lost}
+use Rattle.decision.proofs.Acting.{current-in, table-short, asked-last, looked-window, looked-empty, used-at, shown-at, shown-refused, lost, acts-stays, acts-lost}
 use Rattle.decision.proofs.back.go_back.Statement.{statement}
 use Rattle.decision.proofs.back.go_back.Tie as tie
 
@@ -13,7 +13,7 @@ use Rattle.decision.proofs.back.go_back.Tie as tie
 abbrev start-of : tie.After-wide16 → tie.Start
 start-of c =
     let half = c .before .before .before .before .before .before in
-    half .before .before .before .before
+    half .before .before .before
 
 -- the lookahead; and the path's last cell
 abbrev looked : tie.After-last → tie.After-look
@@ -29,7 +29,7 @@ last c =
 store-requires : tie.Need-store-requires
 store-requires c κs =
     let after-shared-slice-known2 = c .before .before .before .before .before .before in
-    let start = after-shared-slice-known2 .before .before .before in
+    let start = after-shared-slice-known2 .before .before in
     (current-in (start .pre .0), start .pre .1 .1 .0)
 
 returns : tie.Need-returns
@@ -37,8 +37,8 @@ returns c =
     let at-store = c .before .before in
     let at-if1 = at-store .before .before in
     let half = at-if1 .before .before .before .before in
-    let start = half .before .before .before .before in
-    (acts-stays _ _ _ _ _ _ _ _ _ (start .pre .1 .1 .1) _ (at-store .store .ensures) _ (at-if1 .if1 .taken), (start .pre .1 .0, omega arith))
+    let start = half .before .before .before in
+    (acts-stays _ _ _ _ _ _ _ (start .pre .1 .1 .1) _ (at-store .store .ensures) _ (at-if1 .if1 .taken), (start .pre .1 .0, omega arith, record { window = tt }))
 
 look-requires : tie.Need-look-requires
 look-requires c κs =
@@ -49,33 +49,25 @@ look-requires c κs =
 
 back-to-requires : tie.Need-back-to-requires
 back-to-requires c κs =
-    let at-last = c .before .before .before .before .before in
+    let at-last = c .before .before .before .before in
     let at-look = looked at-last in
     let at-wide16 = last at-look in
     let start = start-of at-wide16 in
     let r = start .pre .0 in
     let v = looked-window _ _ _ _ _ _ _ (at-look .look .ensures) (at-last .last .given .1) in (
       asked-last (start .pre .0) (at-wide16 .wide16 .ensures .0) (omega arith),
-      (v .view, (v .last-is, (omega (arith, v .depth, r .settings .shallow), omega arith, current-in r, table-short r, r .room, start .pre .1 .1 .0, start .pre .1 .1 .1))),
+      (v .view, (v .last-is, (omega (arith, v .depth, r .settings .shallow), omega arith, current-in r, table-short r, start .pre .1 .1 .0, start .pre .1 .1 .1))),
     )
-
-same-length-4 : tie.Need-same-length-4
-same-length-4 c =
-    let after-back-to = c .before .before .before .before in
-    let after-last = after-back-to .before .before .before .before .before .before in
-    let after-cost = after-last .before .before .before .before .before in
-    let at-mark2 = after-cost .before .before in
-    let at-mark = at-mark2 .before .before .before .before .before .before in
-    at-mark2 .mark2 .given ∙ at-mark .mark .given
 
 returns-2 : tie.Need-returns-2
 returns-2 c =
-    let at-back-to = c .before .before .before .before in
-    let at-last = at-back-to .before .before .before .before .before .before in
+    let at-back-to = c .before .before in
+    let at-last = at-back-to .before .before .before .before .before in
     let at-look = looked at-last in
     let at-wide16 = last at-look in
     let v = looked-window _ _ _ _ _ _ _ (at-look .look .ensures) (at-last .last .given .1) in
-    (at-back-to .back-to .ensures .0 _ (at-wide16 .wide16 .ensures .0), (used-at (at-back-to .back-to .ensures .1 .0) (window-used v), at-back-to .back-to .ensures .1 .1))
+    let left = at-back-to .back-to .ensures .1 in
+    (at-back-to .back-to .ensures .0 _ (at-wide16 .wide16 .ensures .0), (used-at (left .0) (window-used v), left .1, shown-at (left .0) (left .2)))
 
 returns-3 : tie.Need-returns-3
 returns-3 c =
@@ -86,9 +78,9 @@ returns-3 c =
     let start = start-of at-wide16 in
     let v = looked-empty _ _ _ _ _ _ _ (at-look .look .ensures) (at-enum-told .enum-told .given .1) in
     let q = c .refuse .ensures in (
-      acts-lost _ _ _ _ _ _ _ _ _ (start .pre .1 .1 .1) _ refl 0 _ (at-wide16 .wide16 .ensures .0)
+      acts-lost _ _ _ _ _ _ _ (start .pre .1 .1 .1) _ refl 0 _ (at-wide16 .wide16 .ensures .0)
           (omega arith) (lost _ (asked-last (start .pre .0) (at-wide16 .wide16 .ensures .0) (omega arith)) (v .1)) q,
-      (used-at (ap (λ (r : Acted). r .base) q) (v .0), omega (arith, ap (λ (r : Acted). r .state .length) q)),
+      (used-at (ap (λ (r : Acted). r .base) q) (v .0), omega (arith, ap (λ (r : Acted). r .state .length) q), shown-refused q),
     )
 
 pub go-back-spec : {M : Type 1} → statement M
@@ -110,7 +102,6 @@ go-back-spec =
     (λ c κs. search needs)
     (λ c. search needs)
     (λ c. search needs)
-    same-length-4
     (λ c. search needs)
     (λ c. search needs)
     returns-2

@@ -1,12 +1,12 @@
--- `decision::steps::lay` meets its contract: the route stands at the front of the part that is lent on.
+-- `decision::moves::lay_there` meets its contract: the route stands at the front of the part that is lent on.
 -- Assumes nothing.
 use Prim.Native.Nat.{_+_, _-_}
 use native.Mathlib.Omega.{arith}
 use borrow.Author.Needs.{needs}
 use Rattle.decision.proofs.Laying.{part-long, lays}
-use Rattle.decision.specs.Ready.{leastRoom}
-use Rattle.decision.proofs.steps.lay.Statement.{statement}
-use Rattle.decision.proofs.steps.lay.Tie as tie
+use Rattle.decision.specs.Laying.{leastRoom}
+use Rattle.decision.proofs.moves.lay_there.Statement.{statement}
+use Rattle.decision.proofs.moves.lay_there.Tie as tie
 
 trace-requires : tie.Need-trace-requires
 trace-requires c κs =
@@ -19,7 +19,7 @@ returns c =
     let start = at-trace .before .before .before .before .before .before in
     lays (start .args .moves .now) (start .args .from) (start .args .from + leastRoom - start .args .from) (at-trace .trace .ensures) (omega arith) (omega arith)
 
-pub lay-spec : {M : Type 1} → statement M
-lay-spec =
+pub lay-there-spec : {M : Type 1} → statement M
+lay-there-spec =
     tie.close
     (tie.spec (λ c. search needs) (λ c. search needs) (λ c. search needs) (λ c. search needs) trace-requires (λ c. search needs) returns)

@@ -1,12 +1,12 @@
--- `decision::back::lay_back` meets its contract: the route is traced apart, and stands turned round at the front of the part that is lent on.
+-- `decision::moves::lay_back` meets its contract: the route is traced apart, and stands turned round at the front of the part that is lent on.
 -- Assumes nothing.
 use Prim.Native.Nat.{_+_, _-_}
 use native.Mathlib.Omega.{arith}
 use borrow.Author.Needs.{needs}
 use Rattle.decision.proofs.Laying.{part-long, traced-moves, lays-back}
-use Rattle.decision.specs.Ready.{leastRoom}
-use Rattle.decision.proofs.back.lay_back.Statement.{statement}
-use Rattle.decision.proofs.back.lay_back.Tie as tie
+use Rattle.decision.specs.Laying.{leastRoom}
+use Rattle.decision.proofs.moves.lay_back.Statement.{statement}
+use Rattle.decision.proofs.moves.lay_back.Tie as tie
 
 trace-requires : tie.Need-trace-requires
 trace-requires c κs =

@@ -1,4 +1,4 @@
--- `decision::back::turn` meets its contract. The invariant: the last k moves stand turned round at the front, and the rest of the part is as lent.
+-- `decision::moves::turn` meets its contract. The invariant: the last k moves stand turned round at the front, and the rest of the part is as lent.
 -- Assumes nothing.
 use Prim.Native.Nat.{_-_, _≤_}
 use mathlib.Core.List.{_++_}
@@ -7,8 +7,8 @@ use native.Mathlib.Omega.{arith}
 use borrow.Author.Needs.{needs}
 use lib.ListN.{length, set, drop}
 use Rattle.decision.proofs.Laying.{turned, turn-none, turn-length, turn-more, turn-all}
-use Rattle.decision.proofs.back.turn.Statement.{statement}
-use Rattle.decision.proofs.back.turn.Tie as tie
+use Rattle.decision.proofs.moves.turn.Statement.{statement}
+use Rattle.decision.proofs.moves.turn.Tie as tie
 
 abbrev Inv-loop : tie.InvT-loop
 Inv-loop there n part₀ k₀ part k = (k ≤ n) × (part ≡ turned there n k ++ drop k part₀)
