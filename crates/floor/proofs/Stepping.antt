@@ -47,6 +47,9 @@ pub byte-tells : (f : Floor) (c : ℕ) → c < size f → free f c ≡ freeByte 
 unfolding free
 byte-tells f c l = ap (λ t. t && freeByte (getD (f .bytes) c 0)) (lt-ltb c (size f) l)
 
+pub here-free : {f : Floor} {x : ℕ} {at : Spot} → Placed f x at → freeByte (at .here) ≡ true
+here-free {f} {x} p = ap freeByte (p .here) ∙ sym (byte-tells f x (free-below f x (p .free))) ∙ p .free
+
 -- ---- the ways out of a cell: past the edge it is as blocked, and else it is the floor's byte
 
 chosen : (t : Bool) (b : ℕ) → t ≡ true → b ≡ choose t b blockedByte

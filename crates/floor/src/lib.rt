@@ -7,7 +7,7 @@ ghost use lib.Dec.{eqb};
 ghost use lib.ListN.{length, getD};
 ghost use Rattle.model.specs.Basics.{choose, member};
 ghost use Rattle.model.specs.Checks.{finest};
-ghost use Rattle.model.specs.Floor.{Sized, slowByte, freeByte, free, apart, doubled, dearestPrice, goalsOf};
+ghost use Rattle.model.specs.Floor.{Sized, plainByte, slowByte, freeByte, free, apart, doubled, dearestPrice, goalsOf};
 ghost use Rattle.model.specs.Floor as model;
 ghost use Rattle.model.proofs.Moves.{toll};
 ghost use Rattle.floor.specs.Moves.{flat, allKinds, kinds, cost, canCost, northByte, westByte, eastByte, southByte, Placed, RowClear, ColumnClear, Unless, aheadByte, stepOf};
@@ -270,18 +270,22 @@ fn byte_ahead(floor: &[u8], at: Spot, to: usize, m: usize) -> u8
     floor[to]
 }
 
-// What the move m costs between cells of these bytes.
+// Of the bytes of two free cells that of the slower one: 2 where one of them is slow, else 0.
+fn slower(here: u8, there: u8) -> u16
+    requires { ⌜ (freeByte here ≡ true) × (freeByte there ≡ true) ⌝ }
+    ensures { λ r. ⌜ r ≡ choose (eqb here slowByte || eqb there slowByte) slowByte plainByte ⌝ }
+{
+    (here | there) as u16
+}
+
+// What the move m costs between free cells of these bytes: its toll, and half of it for each unit of the slower byte, so double where one is slow.
+// (By a product, since a choice of two prices takes longer.)
 fn price(here: u8, there: u8, m: usize) -> u16
-    requires { ⌜ m < 8 ⌝ }
+    requires { ⌜ m < 8 ⌝ ∗ ⌜ (freeByte here ≡ true) × (freeByte there ≡ true) ⌝ }
     ensures { λ r. ⌜ r ≡ doubled (eqb here slowByte || eqb there slowByte) (toll m) ⌝ }
 {
-    if here == SLOW {
-        return 2 * toll(m);
-    }
-    if there == SLOW {
-        return 2 * toll(m);
-    }
-    toll(m)
+    let once = toll(m);
+    once + once / 2 * slower(here, there)
 }
 
 // The move m from a free cell, by the ways out of it.

@@ -8,6 +8,7 @@ mod Weighing
 mod Seeing
 pub mod Meaning
 mod Aiming
+mod Rising
 mod Linking
 mod Copying
 mod Tracing

@@ -1,74 +1,103 @@
--- The lowest cell before another: one move more is considered at a time.
+-- The lowest cell before another: the first that a move leads to, the moves to the lowest cells being tried first.
 -- Assumes nothing.
 use mathlib.Core.Path.{_≡_, ap, sym, _∙_, subst}
 use mathlib.Core.List.{List}
 use Prim.Native.Nat.{ℕ, _+_, _≤_, _<_}
+use native.Mathlib.Decide.{decLe}
 use native.Mathlib.Omega.{arith}
 use borrow.Author.Count.{below-more}
 use lib.ListN.{getD}
-use Rattle.model.specs.Floor.{Floor, Sized, price, heading, opposite}
+use Rattle.model.specs.Floor.{Floor, Sized, price, opposite}
 use Rattle.model.specs.Grounds.{price-same}
 use Rattle.model.specs.Lookahead.{fine}
-use Rattle.model.proofs.Moves.{opposite-lt, free-few}
+use Rattle.model.proofs.Moves.{opposite-lt}
 use Rattle.floor.specs.declared.Step.the-variants.{To, Wall}
 use Rattle.floor.specs.Moves.{stepOf}
 use Rattle.floor.proofs.Steps.{step-heading, price-step, wall≢to, same-to}
 use Rattle.lookahead.specs.declared.Link.{Link}
 use Rattle.lookahead.specs.Marks.{In}
-use Rattle.lookahead.specs.Costs.{Costs, at}
-use Rattle.lookahead.specs.Way.{Before, Linked, Prior}
+use Rattle.lookahead.specs.Costs.{at}
+use Rattle.lookahead.specs.Way.{risingMove, Before, Led, Unled, Prior}
 use Rattle.lookahead.proofs.Grow.{price-back}
+use Rattle.lookahead.proofs.Rising.{rising-all, rising-higher}
 
 module _ (f : Floor) (z : Sized f) (base : ℕ) (mark cost : List ℕ) (x : ℕ) where
-  pub linked-none : (b : Link) → b .cell ≡ 4096 → Linked f base mark cost x 0 b
-  linked-none b e = record { some = λ l. absurd (omega arith); all = λ j l. absurd (omega arith) }
+  -- ---- one move
 
-  -- the link stays: what the move leads to is no lower
-  linked-keep : (j : ℕ) (b : Link) → Linked f base mark cost x j b
-      → ((y v : ℕ) → stepOf f x j ≡ To y v → Before f base mark cost x y → b .cell ≤ y) → Linked f base mark cost x (j + 1) b
-  linked-keep j b L k =
-      record { some = L .some; all = below-more (λ i. (y v : ℕ) → stepOf f x i ≡ To y v → Before f base mark cost x y → b .cell ≤ y) j (L .all) k }
+  module _ (j : ℕ) (b : Link) (e : b .cell ≡ 4096) where
+    led-nowhere : ((y v : ℕ) → stepOf f x j ≡ To y v → Before f base mark cost x y → ⊥) → Led f base mark cost x j b
+    led-nowhere n = record { some = λ l. absurd (omega arith); none = λ l. n }
 
-  pub linked-wall : (j : ℕ) (b : Link) → Linked f base mark cost x j b → stepOf f x j ≡ Wall → Linked f base mark cost x (j + 1) b
-  linked-wall j b L s = linked-keep j b L (λ y v t. absurd (wall≢to y v (sym s ∙ t)))
+    pub led-wall : stepOf f x j ≡ Wall → Led f base mark cost x j b
+    led-wall s = led-nowhere (λ y v t. absurd (wall≢to y v (sym s ∙ t)))
 
-  module _ (j y v : ℕ) (b : Link) (L : Linked f base mark cost x j b) (s : stepOf f x j ≡ To y v) where
-    -- what the move leads to is y
-    only : (P : ℕ → Type 0) → P y → (y′ v′ : ℕ) → stepOf f x j ≡ To y′ v′ → P y′
-    only P p y′ v′ t = subst P (same-to (sym s ∙ t) .0) p
+    module _ (y v : ℕ) (s : stepOf f x j ≡ To y v) where
+      pub led-out : getD mark y 0 < base → Led f base mark cost x j b
+      led-out h = led-nowhere (λ y′ v′ t B. omega (arith, subst (λ k. getD mark k 0 < base) (same-to (sym s ∙ t) .0) h, B .inside))
 
-    price-y : price f y x ≡ v
-    price-y = price-back f z x j y v s .1
+      pub led-slack : (at cost y + fine v ≡ at cost x → ⊥) → Led f base mark cost x j b
+      led-slack n = led-nowhere (λ y′ v′ t B.
+          let here = subst (Before f base mark cost x) (sym (same-to (sym s ∙ t) .0)) B in
+          n (ap (λ k. at cost y + fine k) (sym (price-back f z x j y v s .1)) ∙ here .exact))
 
-    pub linked-out : getD mark y 0 < base → Linked f base mark cost x (j + 1) b
-    linked-out e = linked-keep j b L (only (λ k. Before f base mark cost x k → b .cell ≤ k) (λ B. absurd (omega (arith, e, B .inside))))
-
-    pub linked-slack : (at cost y + fine v ≡ at cost x → ⊥) → Linked f base mark cost x (j + 1) b
-    linked-slack n = linked-keep j b L (only (λ k. Before f base mark cost x k → b .cell ≤ k) (λ B. absurd (n (ap (λ k. at cost y + fine k) (sym price-y) ∙ B .exact))))
-
-    pub linked-high : b .cell ≤ y → Linked f base mark cost x (j + 1) b
-    linked-high l = linked-keep j b L (only (λ k. Before f base mark cost x k → b .cell ≤ k) (λ B. l))
-
-    -- the link is y
-    pub linked-new : j < 8 → In base mark y → at cost y + fine v ≡ at cost x → y < b .cell → Linked f base mark cost x (j + 1) (record { cell = y; m = opposite j })
-    linked-new l i t low =
-        linked-keep j (record { cell = y; m = opposite j })
-        (record {
-          some = λ q. record {
-            before = record { inside = i; move = omega (arith, price-y, price-back f z x j y v s .0); exact = ap (λ k. at cost y + fine k) price-y ∙ t };
+  pub led-new : (j y v : ℕ) → j < 8 → stepOf f x j ≡ To y v → In base mark y → at cost y + fine v ≡ at cost x → y < 4096
+      → Led f base mark cost x j (record { cell = y; m = opposite j })
+  led-new j y v l s i t few =
+      let (some, same) = price-back f z x j y v s in
+      record {
+        some = λ q. (
+          record {
+            before = record { inside = i; move = omega (arith, same, some); exact = ap (λ k. at cost y + fine k) same ∙ t };
             heading = step-heading f z x j y v l s;
             one = opposite-lt j l;
-          };
-          all = λ k lk y′ v′ sz B. omega (arith, L .all k lk y′ v′ sz B);
-        })
-        (only (λ k. Before f base mark cost x k → y ≤ k) (λ B. omega arith))
+          },
+          (v, s),
+        );
+        none = λ h. absurd (omega arith);
+      }
 
-  -- after all eight moves
-  pub linked-prior : (b : Link) → Costs f base mark cost → Linked f base mark cost x 8 b → (y : ℕ) → Before f base mark cost x y → Prior f base mark cost x b
-  linked-prior b C L y B =
-      record { from = L .some (omega (arith, lowest y B, free-few f y z (C .free y (B .inside)))); lowest = lowest }
-    where
-      lowest : (y : ℕ) → Before f base mark cost x y → b .cell ≤ y
-      lowest y B =
-          let (m, l, s) = price-step f z x y (omega (arith, B .move, price-same f x y)) in
-          L .all m l y (price f x y) s B
+  -- ---- one after another
+
+  pub unled-none : Unled f base mark cost x 0
+  unled-none = record { within = omega arith; none = λ k l. absurd (omega arith) }
+
+  module _ (i : ℕ) (few : i < 8) (U : Unled f base mark cost x i) (b : Link) (L : Led f base mark cost x (risingMove i) b) where
+    pub unled-more : 4096 ≤ b .cell → Unled f base mark cost x (i + 1)
+    unled-more h = record {
+      within = omega arith;
+      none = below-more (λ k. (y v : ℕ) → stepOf f x (risingMove k) ≡ To y v → Before f base mark cost x y → ⊥) i (U .none) (L .none h);
+    }
+
+    -- the first that is found is the lowest
+    pub led-prior : b .cell < 4096 → Prior f base mark cost x b
+    led-prior h = record { from = L .some h .0; lowest = lowest }
+      where
+        lowest : (y : ℕ) → Before f base mark cost x y → b .cell ≤ y
+        lowest y B = by (decLe i k) (decLe k i)
+          where
+            step : (m : ℕ) × (m < 8) × (stepOf f x m ≡ To y (price f x y))
+            step = price-step f z x y (omega (arith, B .move, price-same f x y))
+
+            found : (k : ℕ) × (k < 8) × (risingMove k ≡ step .0)
+            found = rising-all (step .0) (step .1)
+
+            k : ℕ
+            k = found .0
+
+            there : stepOf f x (risingMove k) ≡ To y (price f x y)
+            there = ap (stepOf f x) (found .2) ∙ step .2
+
+            by : Dec (i ≤ k) → Dec (k ≤ i) → b .cell ≤ y
+            by (no n) t = absurd (U .none k (omega arith) y (price f x y) there B)
+            by (yes l) (no n) = let (v, s) = L .some h .1 in omega (arith, rising-higher f z x i k (omega arith) (found .1) (b .cell) v y (price f x y) s there)
+            by (yes l) (yes g) =
+                let (v, s) = L .some h .1 in
+                let e : i ≡ k = omega arith in
+                omega (arith, same-to (sym s ∙ ap (λ n. stepOf f x (risingMove n)) e ∙ there) .0)
+
+  -- and some move leads to a cell before x, if there is one
+  pub unled-all : (i : ℕ) → 8 ≤ i → Unled f base mark cost x i → (y : ℕ) → Before f base mark cost x y → ⊥
+  unled-all i h U y B =
+      let (m, l, s) = price-step f z x y (omega (arith, B .move, price-same f x y)) in
+      let (k, few, e) = rising-all m l in
+      U .none k (omega arith) y (price f x y) (ap (stepOf f x) e ∙ s) B

@@ -1,6 +1,6 @@
 -- The route to a cell of the window, found backward.
 use mathlib.Core.Path.{_≡_}
-use mathlib.Core.List.{List, _++_}
+use mathlib.Core.List.{List, [], _∷_, _++_}
 use Prim.Native.Nat.{ℕ, _+_, _*_, _≤_, _<_}
 use lib.ListN.{length, getD, drop}
 use Rattle.answers.specs.declared.Job.{Job}
@@ -25,10 +25,19 @@ pub record From (f : Floor) (base : ℕ) (mark cost : List ℕ) (x : ℕ) (b : L
   pub heading : b .m ≡ heading f (b .cell) x
   pub one : b .m < 8
 
--- the lowest cell before x among those that the first i moves from x lead to; 4096 if there is none
-pub record Linked (f : Floor) (base : ℕ) (mark cost : List ℕ) (x i : ℕ) (b : Link) : Type 0 where
-  pub some : b .cell < 4096 → From f base mark cost x b
-  pub all : (j : ℕ) → j < i → (y v : ℕ) → stepOf f x j ≡ To y v → Before f base mark cost x y → b .cell ≤ y
+-- the k-th of the eight moves, by the cells that they lead to, the lowest first
+abbrev pub risingMove : ℕ → ℕ
+risingMove k = getD (7 ∷ 0 ∷ 1 ∷ 6 ∷ 2 ∷ 5 ∷ 4 ∷ 3 ∷ []) k 0
+
+-- b is the cell before x that the move j leads to from x, and the move from there; 4096 if that is none
+pub record Led (f : Floor) (base : ℕ) (mark cost : List ℕ) (x j : ℕ) (b : Link) : Type 0 where
+  pub some : b .cell < 4096 → From f base mark cost x b × ((v : ℕ) × (stepOf f x j ≡ To (b .cell) v))
+  pub none : 4096 ≤ b .cell → (y v : ℕ) → stepOf f x j ≡ To y v → Before f base mark cost x y → ⊥
+
+-- the first i moves, those to the lowest cells, lead to no cell before x
+pub record Unled (f : Floor) (base : ℕ) (mark cost : List ℕ) (x i : ℕ) : Type 0 where
+  pub within : i ≤ 8
+  pub none : (k : ℕ) → k < i → (y v : ℕ) → stepOf f x (risingMove k) ≡ To y v → Before f base mark cost x y → ⊥
 
 -- the lowest cell before x
 pub record Prior (f : Floor) (base : ℕ) (mark cost : List ℕ) (x : ℕ) (b : Link) : Type 0 where

@@ -10,7 +10,7 @@ ghost use Rattle.floor.specs.Moves.{flat};
 ghost use Rattle.lookahead.specs.Contract.{Asked, Near, Seen};
 ghost use Rattle.lookahead.specs.Marks.{In};
 ghost use Rattle.lookahead.specs.Costs.{Costs, Cell};
-ghost use Rattle.lookahead.specs.Way.{Before, Linked, Prior, Collected};
+ghost use Rattle.lookahead.specs.Way.{risingMove, Before, Led, Prior, Collected};
 use super::Link;
 use super::MOST_MOVES;
 use super::fine;
@@ -18,8 +18,28 @@ use answers::Job;
 use floor::Spot;
 use floor::Step;
 
-// The cell that the move j leads to from x, if it is a cell before x and lower.
-fn consider(
+// No cell.
+const NOWHERE: usize = 4096;
+
+// The k-th of the eight moves, by the cells that they lead to, the lowest first.
+fn rising(k: usize) -> usize
+    requires { ⌜ k < 8 ⌝ }
+    ensures { λ r. ⌜ r ≡ risingMove k ⌝ }
+{
+    match k {
+        0 => 7,
+        1 => 0,
+        2 => 1,
+        3 => 6,
+        4 => 2,
+        5 => 5,
+        6 => 4,
+        _ => 3,
+    }
+}
+
+// The cell before x that the move j leads to from x, and the move from there; or nowhere.
+fn led(
     width: usize,
     height: usize,
     floor: &[u8],
@@ -29,34 +49,34 @@ fn consider(
     x: usize,
     spot: Spot,
     j: usize,
-    b: Link,
 ) -> Link
     requires { ⌜ Sized (flat width height (now floor)) ⌝ ∗ ⌜ Costs (flat width height (now floor)) base (now mark) (now cost) ⌝
-        ∗ ⌜ Cell (flat width height (now floor)) base x spot (now mark) ⌝ ∗ ⌜ j < 8 ⌝ ∗ ⌜ Linked (flat width height (now floor)) base (now mark) (now cost) x j b ⌝ }
-    ensures { λ r. ⌜ Linked (flat width height (now (floor .entry))) base (now (mark .entry)) (now (cost .entry)) x (j + 1) r ⌝ }
+        ∗ ⌜ Cell (flat width height (now floor)) base x spot (now mark) ⌝ ∗ ⌜ j < 8 ⌝ }
+    ensures { λ r. ⌜ Led (flat width height (now (floor .entry))) base (now (mark .entry)) (now (cost .entry)) x j r ⌝ }
 {
+    let nowhere = Link {
+        cell: NOWHERE,
+        m: 0,
+    };
     match floor::step_from(width, height, floor, x, spot, j) {
         Step::To { cell, cost: v } => {
             if mark[cell] < base {
-                return b;
+                return nowhere;
             }
             let sum = cost[cell] + fine(v);
             if sum != cost[x] {
-                return b;
-            }
-            if b.cell <= cell {
-                return b;
+                return nowhere;
             }
             Link {
                 cell: cell,
                 m: (j + 4) % 8,
             }
         }
-        Step::Wall => b,
+        Step::Wall => nowhere,
     }
 }
 
-// The lowest cell before x, and the move from it.
+// The lowest cell before x, and the move from it: the first that a move leads to, the moves to the lowest cells being tried first.
 fn back(
     width: usize,
     height: usize,
@@ -71,13 +91,18 @@ fn back(
     ensures { λ r. ⌜ Prior (flat width height (now (floor .entry))) base (now (mark .entry)) (now (cost .entry)) x r ⌝ }
 {
     let spot = floor::spot_of(width, height, floor, x);
-    let mut b = Link { cell: 4096, m: 0 };
-    let mut j = 0;
-    while j < 8 {
-        b = consider(width, height, floor, base, mark, cost, x, spot, j, b);
-        j += 1;
+    let mut k = 0;
+    while k < 8 {
+        let b = led(width, height, floor, base, mark, cost, x, spot, rising(k));
+        if b.cell < NOWHERE {
+            return b;
+        }
+        k += 1;
     }
-    b
+    Link {
+        cell: NOWHERE,
+        m: 0,
+    }
 }
 
 // The moves of the route from s to x, found backward, are written at the end of way; where the first of them stands.

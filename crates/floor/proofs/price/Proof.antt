@@ -1,46 +1,44 @@
--- `floor::price` meets its contract.
+-- `floor::price` meets its contract: the toll is even, so its half times 2 is the toll once more.
 -- Assumes nothing.
-use Prim.Native.Nat.{ℕ}
-use mathlib.Core.Path.{_≡_, sym, ap, ap₂, _∙_}
+use Prim.Native.Nat.{ℕ, _+_, _*_, _/_, _≤_, _<_}
+use mathlib.Core.Path.{_≡_, refl, ap₂, _∙_}
 use mathlib.Core.Bool.{Bool, true, false, _||_}
 use native.Mathlib.Omega.{arith}
-use borrow.Author.Tests.{eq-eqb, ne-eqb}
 use borrow.Author.Needs.{needs}
-use lib.Dec.{eqb}
-use Rattle.model.specs.Floor.{slowByte, doubled}
-use Rattle.model.proofs.Moves.{toll}
+use lib.Dec.{eqb, lit≤}
+use Rattle.model.specs.Basics.{choose}
+use Rattle.model.specs.Floor.{plainByte, slowByte, diagonal, doubled}
+use Rattle.model.proofs.Moves.{all8, toll}
 use Rattle.floor.proofs.Stepping.{toll-high}
 use Rattle.floor.proofs.price.Statement.{statement}
 use Rattle.floor.proofs.price.Tie as tie
 
--- by whether one of the bytes is slow
-pays : (here there m : ℕ) (s : Bool) → (eqb here slowByte || eqb there slowByte) ≡ s → doubled (eqb here slowByte || eqb there slowByte) (toll m) ≡ doubled s (toll m)
-pays here there m s e = ap (λ t. doubled t (toll m)) e
+abbrev once-more : Bool → ℕ → ℕ
+once-more s m = toll m / 2 * choose s slowByte plainByte
+
+pays : (s : Bool) (m : ℕ) → m < 8 → toll m + once-more s m ≡ doubled s (toll m)
+pays true = all8 (λ m. toll m + once-more true m ≡ doubled true (toll m)) refl refl refl refl refl refl refl refl
+pays false = all8 (λ m. toll m + once-more false m ≡ doubled false (toll m)) refl refl refl refl refl refl refl refl
+
+few : (s : Bool) (m : ℕ) → m < 8 → once-more s m ≤ diagonal
+few true = all8 (λ m. once-more true m ≤ diagonal) (lit≤ tt) (lit≤ tt) (lit≤ tt) (lit≤ tt) (lit≤ tt) (lit≤ tt) (lit≤ tt) (lit≤ tt)
+few false = all8 (λ m. once-more false m ≤ diagonal) (lit≤ tt) (lit≤ tt) (lit≤ tt) (lit≤ tt) (lit≤ tt) (lit≤ tt) (lit≤ tt) (lit≤ tt)
+
+-- the toll and the slower byte are worked out
+abbrev is-slow : tie.After-slower → Bool
+is-slow c = let a = c .before .before .args in eqb (a .here) slowByte || eqb (a .there) slowByte
+
+more : (c : tie.After-slower) → c .before .toll .result / 2 * c .slower .result ≡ once-more (is-slow c) (c .before .before .args .m)
+more c = ap₂ (λ t k. t / 2 * k) (c .before .toll .ensures) (c .slower .ensures)
 
 mul-result : tie.Need-mul-result
-mul-result c = record { fits = omega (arith, c .toll .ensures, toll-high _ (c .before .before .pre)) }
+mul-result c = record { fits = omega (arith, more c, few (is-slow c) _ (c .before .before .pre .0)) }
+
+add-result : tie.Need-add-result
+add-result c = record { fits = omega (arith, more c, few (is-slow c) _ (c .before .before .pre .0), c .before .toll .ensures, toll-high _ (c .before .before .pre .0)) }
 
 returns : tie.Need-returns
-returns c =
-    let a = c .before .before .args in
-    ap (doubled true) (c .toll .ensures) ∙ sym (pays (a .here) (a .there) (a .m) true (ap (λ t. t || eqb (a .there) slowByte) (eq-eqb (a .here) slowByte (c .before .if1 .taken))))
-
-mul-result-2 : tie.Need-mul-result-2
-mul-result-2 c = record { fits = omega (arith, c .toll2 .ensures, toll-high _ (c .before .before .before .pre)) }
-
-returns-2 : tie.Need-returns-2
-returns-2 c =
-    let a = c .before .before .before .args in
-    ap (doubled true) (c .toll2 .ensures)
-    ∙ sym (pays (a .here) (a .there) (a .m) true (ap₂ _||_ (ne-eqb (a .here) slowByte (c .before .before .if1 .left)) (eq-eqb (a .there) slowByte (c .before .if2 .taken))))
-
-returns-3 : tie.Need-returns-3
-returns-3 c =
-    let a = c .before .before .before .args in
-    c .toll3 .ensures
-    ∙ sym (pays (a .here) (a .there) (a .m) false (ap₂ _||_ (ne-eqb (a .here) slowByte (c .before .before .if1 .left)) (ne-eqb (a .there) slowByte (c .before .if2 .left))))
+returns c = ap₂ (λ t k. t + k) (c .before .toll .ensures) (more c) ∙ pays (is-slow c) _ (c .before .before .pre .0)
 
 pub price-spec : {M : Type 1} → statement M
-price-spec =
-    tie.close
-    (tie.spec (λ c κs. search needs) mul-result returns (λ c κs. search needs) mul-result-2 returns-2 (λ c κs. search needs) returns-3)
+price-spec = tie.close (tie.spec (λ c κs. search needs) (λ c κs. search needs) mul-result add-result returns)

@@ -7,7 +7,7 @@ use borrow.Author.Needs.{needs}
 use borrow.Author.Tests.{not-true, not-false}
 use lib.ListN.{getD}
 use Rattle.model.specs.Floor.{east, south}
-use Rattle.floor.proofs.Stepping.{Sided, inside, room, reached, byte-ahead, wall-row, wall-column, wall-ahead, step-to}
+use Rattle.floor.proofs.Stepping.{Sided, here-free, inside, room, reached, byte-ahead, wall-row, wall-column, wall-ahead, step-to}
 use Rattle.floor.proofs.step_from.Statement.{statement}
 use Rattle.floor.proofs.step_from.Tie as tie
 
@@ -67,6 +67,11 @@ returns-3 c =
     let s = start off in
     wall-ahead (s .pre .0) (s .pre .1 .0) _ (s .pre .1 .1) (sided off) _ (led (at-byte .before)) _ (there at-byte) (sym (c .before .free-byte .ensures) ∙ not-true _ (c .if3 .taken))
 
+price-requires : tie.Need-price-requires
+price-requires c κs =
+    let s = start (c .before .before .before .before .before) in
+    (s .pre .1 .1, (here-free (s .pre .1 .0), sym (c .before .free-byte .ensures) ∙ not-false _ (c .if3 .left)))
+
 returns-4 : tie.Need-returns-4
 returns-4 c =
     let at-else = c .before in
@@ -94,5 +99,5 @@ step-from-spec =
     byte-ahead-requires
     (λ c κs. search needs)
     returns-3
-    (λ c κs. search needs)
+    price-requires
     returns-4)

@@ -1,45 +1,70 @@
--- `lookahead::route::back` meets its contract. The loop's invariant: b is the lowest cell before x that the first j moves lead to.
+-- `lookahead::route::back` meets its contract. The loop's invariant: the first k moves, those to the lowest cells, lead to no cell before x.
 -- Assumes nothing.
-use Prim.Native.Nat.{_-_, _≤_}
-use mathlib.Core.Path.{_≡_, refl, subst}
+use Prim.Native.Nat.{_-_}
+use mathlib.Core.Path.{subst}
 use native.Mathlib.Omega.{arith}
 use Rattle.floor.specs.Moves.{flat}
-use Rattle.lookahead.proofs.Linking.{linked-none, linked-prior}
-use Rattle.lookahead.specs.Way.{Linked}
+use Rattle.lookahead.specs.Way.{risingMove, Led, Unled}
+use Rattle.lookahead.proofs.Rising.{rising-lt}
+use Rattle.lookahead.proofs.Linking.{unled-none, unled-more, led-prior, unled-all}
 use Rattle.lookahead.proofs.route.back.Statement.{statement}
 use Rattle.lookahead.proofs.route.back.Tie as tie
 
 abbrev Inv-loop : tie.InvT-loop
-Inv-loop width height floor base mark cost x spot b₀ j₀ b j = (j ≤ 8) × Linked (flat width height floor) base mark cost x j b
+Inv-loop width height floor base mark cost x spot k₀ k = Unled (flat width height floor) base mark cost x k
 
 abbrev μ-loop : tie.MeasureT-loop
-μ-loop width height floor base mark cost x spot b₀ j₀ b j = 8 - j
+μ-loop width height floor base mark cost x spot k₀ k = 8 - k
 
 spot-of-requires : tie.Need-spot-of-requires Inv-loop μ-loop
 spot-of-requires c κs = let a = c .before .before .before in (a .pre .0, a .pre .1 .0 .free (a .args .x) (a .pre .1 .1 .0))
 
 loop-holds : tie.Need-loop-holds Inv-loop μ-loop
-loop-holds c =
-    let a = c .before .before .before .before in
-    (omega arith, linked-none _ (a .pre .0) _ _ _ _ _ refl)
+loop-holds c = unled-none _ (c .before .before .before .before .pre .0) _ _ _ _
 
-consider-requires : tie.Need-consider-requires Inv-loop μ-loop
-consider-requires c κs =
-    let p = c .before .before .before .before .before .before .pre in
-    (p .0, (p .1 .0, (record { marked = p .1 .1 .0; placed = c .before .before .spot-of .ensures }, (omega arith, c .before .loop .inv .1))))
+rising-requires : tie.Need-rising-requires Inv-loop μ-loop
+rising-requires c κs = omega arith
 
-loop-again : tie.Need-loop-again Inv-loop μ-loop
-loop-again c = (omega arith, c .consider .ensures)
+led-requires : tie.Need-led-requires Inv-loop μ-loop
+led-requires c κs =
+    let l = c .before .before in
+    let p = l .before .before .before .before .before .pre in
+    (p .0, (p .1 .0, (record { marked = p .1 .1 .0; placed = l .before .spot-of .ensures }, omega (arith, c .rising .ensures, rising-lt (l .loop .k) (omega arith)))))
+
+-- the call's start, and what the k-th move leads to
+abbrev start : tie.After-led Inv-loop μ-loop → tie.Start Inv-loop μ-loop
+start c = let l = c .before .before .before in l .before .before .before .before .before
+
+leads : (c : tie.After-led Inv-loop μ-loop) →
+    let a = start c .args in
+    Led (flat (a .width) (a .height) (a .floor .now)) (a .base) (a .mark .now) (a .cost .now) (a .x) (risingMove (c .before .before .before .loop .k)) (c .led .result)
+leads c =
+    let a = start c .args in
+    subst (λ m. Led (flat (a .width) (a .height) (a .floor .now)) (a .base) (a .mark .now) (a .cost .now) (a .x) m (c .led .result)) (c .before .rising .ensures) (c .led .ensures)
 
 returns : tie.Need-returns Inv-loop μ-loop
 returns c =
-    let a = c .before .before .before .before .before .before in
-    let l = c .before .loop in
-    let e : l .j ≡ 8 = omega arith in
-    let B = a .pre .1 .1 .1 in
-    let g = flat (a .args .width) (a .args .height) (a .args .floor .now) in
-    let L = subst (λ k. Linked g (a .args .base) (a .args .mark .now) (a .args .cost .now) (a .args .x) k (l .b)) e (l .inv .1) in
-    linked-prior _ (a .pre .0) _ _ _ _ _ (a .pre .1 .0) L (B .0) (B .1)
+    let l = c .before .before in
+    let at-loop = l .before .before .before in
+    led-prior _ (start l .pre .0) _ _ _ _ (at-loop .loop .k) (omega arith) (at-loop .loop .inv) _ (leads l) (c .if1 .taken)
+
+add-k : tie.Need-add-k Inv-loop μ-loop
+add-k c = omega arith
+
+loop-less : tie.Need-loop-less Inv-loop μ-loop
+loop-less c = omega arith
+
+loop-again : tie.Need-loop-again Inv-loop μ-loop
+loop-again c =
+    let l = c .before .before in
+    let at-loop = l .before .before .before in
+    unled-more _ (start l .pre .0) _ _ _ _ (at-loop .loop .k) (omega arith) (at-loop .loop .inv) _ (leads l) (omega (arith, c .if1 .left))
+
+returns-2 : tie.Need-returns-2 Inv-loop μ-loop
+returns-2 c =
+    let p = c .before .before .before .before .before .before .pre in
+    let at-loop = c .before in
+    absurd (unled-all _ (p .0) _ _ _ _ (at-loop .loop .k) (omega arith) (at-loop .loop .inv) (p .1 .1 .1 .0) (p .1 .1 .1 .1))
 
 pub back-spec : {M : Type 1} → statement M
 back-spec =
@@ -49,8 +74,10 @@ back-spec =
     μ-loop
     spot-of-requires
     loop-holds
-    consider-requires
-    (λ c. omega arith)
-    (λ c. omega arith)
+    rising-requires
+    led-requires
+    returns
+    add-k
+    loop-less
     loop-again
-    returns)
+    returns-2)

@@ -1,16 +1,16 @@
--- `lookahead::route::consider` meets its contract: each test that fails leaves the link.
+-- `lookahead::route::led` meets its contract: each test that fails leads nowhere.
 -- Assumes nothing.
 use Prim.Native.Nat.{_<_}
-use mathlib.Core.Path.{_≡_, sym, _∙_}
+use mathlib.Core.Path.{_≡_, refl, sym, _∙_}
 use native.Mathlib.Omega.{arith}
 use borrow.Author.Needs.{needs}
 use Rattle.model.proofs.Moves.{free-few}
 use Rattle.floor.proofs.Steps.{Stepped, stepped}
 use Rattle.floor.specs.Moves.{flat, stepOf}
 use Rattle.floor.specs.declared.Step.the-variants.{To}
-use Rattle.lookahead.proofs.Linking.{linked-out, linked-wall, linked-slack, linked-high, linked-new}
-use Rattle.lookahead.proofs.route.consider.Statement.{statement}
-use Rattle.lookahead.proofs.route.consider.Tie as tie
+use Rattle.lookahead.proofs.Linking.{led-out, led-wall, led-slack, led-new}
+use Rattle.lookahead.proofs.route.led.Statement.{statement}
+use Rattle.lookahead.proofs.route.led.Tie as tie
 
 few : (c : tie.Start) → c .args .x < 4096
 few c = free-few _ _ (c .pre .0) (c .pre .1 .1 .0 .placed .free)
@@ -40,9 +40,7 @@ shared-slice-read-if1 c =
     omega (arith, at-cell (c .before .before) .few, start .pre .1 .0 .marks)
 
 returns : tie.Need-returns
-returns c =
-    let a = to-start (c .before .before .before) in
-    linked-out _ (a .pre .0) _ _ _ _ _ _ _ _ (a .pre .1 .1 .1 .1) (to-cell (c .before .before .before)) (c .if1 .taken)
+returns c = led-out _ (to-start (c .before .before .before) .pre .0) _ _ _ _ _ _ refl _ _ (to-cell (c .before .before .before)) (c .if1 .taken)
 
 mul-sum : tie.Need-mul-sum
 mul-sum c = omega (arith, at-cell (c .before .before .before) .few)
@@ -82,29 +80,23 @@ returns-2 : tie.Need-returns-2
 returns-2 c =
     let after-fine = c .before .before in
     let a = to-start (from-fine after-fine) in
-    linked-slack _ (a .pre .0) _ _ _ _ _ _ _ _ (a .pre .1 .1 .1 .1) (to-cell (from-fine after-fine)) (rw (sym (after-fine .fine .ensures)) (c .if2 .taken))
+    led-slack _ (a .pre .0) _ _ _ _ _ _ refl _ _ (to-cell (from-fine after-fine)) (rw (sym (after-fine .fine .ensures)) (c .if2 .taken))
 
 returns-3 : tie.Need-returns-3
 returns-3 c =
-    let after-cell = from-fine (c .before .before .before .before) in
+    let after-fine = c .before .before in
+    let after-cell = from-fine after-fine in
     let a = to-start after-cell in
-    linked-high _ (a .pre .0) _ _ _ _ _ _ _ _ (a .pre .1 .1 .1 .1) (to-cell after-cell) (c .if3 .taken)
+    led-new _ (a .pre .0) _ _ _ _ _ _ _ (a .pre .1 .1 .1) (to-cell after-cell) (omega (arith, after-fine .before .before .if1 .left)) (rw (sym (after-fine .fine .ensures)) (c .if2 .left))
+    (at-cell after-cell .few)
 
 returns-4 : tie.Need-returns-4
 returns-4 c =
-    let after-fine = c .before .before .before .before in
-    let after-cell = from-fine after-fine in
-    let a = to-start after-cell in
-    linked-new _ (a .pre .0) _ _ _ _ _ _ _ _ (a .pre .1 .1 .1 .1) (to-cell after-cell) (a .pre .1 .1 .1 .0)
-    (omega (arith, after-fine .before .before .if1 .left)) (rw (sym (after-fine .fine .ensures)) (c .before .before .if2 .left)) (omega (arith, c .if3 .left))
+    let start = c .before .before .before .before .before .before in
+    led-wall _ (start .pre .0) _ _ _ _ _ _ refl (sym (c .before .before .step-from .ensures) ∙ c .enum-told .given .1)
 
-returns-5 : tie.Need-returns-5
-returns-5 c =
-    let a = c .before .before .before .before .before .before in
-    linked-wall _ (a .pre .0) _ _ _ _ _ _ (a .pre .1 .1 .1 .1) (sym (c .before .before .step-from .ensures) ∙ c .enum-told .given .1)
-
-pub consider-spec : {M : Type 1} → statement M
-consider-spec =
+pub led-spec : {M : Type 1} → statement M
+led-spec =
     tie.close
     (tie.spec
     (λ c κs. search needs)
@@ -119,8 +111,7 @@ consider-spec =
     mul-if2
     shared-slice-read-if2
     returns-2
+    (λ c. search needs)
+    (λ c. search needs)
     returns-3
-    (λ c. search needs)
-    (λ c. search needs)
-    returns-4
-    returns-5)
+    returns-4)
