@@ -14,6 +14,10 @@ use Rattle.floor.specs.Moves.{stepOf}
 use Rattle.floor.proofs.Steps.{stepped}
 use Rattle.lookahead.specs.Way.{risingMove}
 
+-- a move has its place in the order by its row, and in a row by its column, the current cell left out
+rank : (k : ℕ) → k < 8 → 3 * south (risingMove k) + east (risingMove k) ≡ k + k / 4
+rank = all8 (λ k. 3 * south (risingMove k) + east (risingMove k) ≡ k + k / 4) refl refl refl refl refl refl refl refl
+
 pub rising-lt : (k : ℕ) → k < 8 → risingMove k < 8
 rising-lt = all8 (λ k. risingMove k < 8) (lit< tt) (lit< tt) (lit< tt) (lit< tt) (lit< tt) (lit< tt) (lit< tt) (lit< tt)
 
@@ -21,10 +25,6 @@ rising-lt = all8 (λ k. risingMove k < 8) (lit< tt) (lit< tt) (lit< tt) (lit< tt
 pub rising-all : (m : ℕ) → m < 8 → (k : ℕ) × (k < 8) × (risingMove k ≡ m)
 rising-all = all8 (λ m. (k : ℕ) × (k < 8) × (risingMove k ≡ m))
     (1, lit< tt, refl) (2, lit< tt, refl) (4, lit< tt, refl) (7, lit< tt, refl) (6, lit< tt, refl) (5, lit< tt, refl) (3, lit< tt, refl) (0, lit< tt, refl)
-
--- by its row, and in a row by its column, the current cell left out
-rank : (k : ℕ) → k < 8 → 3 * south (risingMove k) + east (risingMove k) ≡ k + k / 4
-rank = all8 (λ k. 3 * south (risingMove k) + east (risingMove k) ≡ k + k / 4) refl refl refl refl refl refl refl refl
 
 -- a cell of a higher row is higher
 row-higher : (w x y x′ y′ : ℕ) → x < w → y < y′ → y * w + x < y′ * w + x′

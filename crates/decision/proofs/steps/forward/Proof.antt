@@ -19,7 +19,7 @@ extend-requires c κs =
 store-requires : tie.Need-store-requires
 store-requires c κs =
     let start = start-of (c .before .before .before .before .before) in
-    (current-in (start .pre .0), start .pre .1 .1 .0 .high)
+    (current-in (start .pre .0), omega (arith, start .pre .1 .1 .0 .high))
 
 add-t22 : tie.Need-add-t22
 add-t22 c =
