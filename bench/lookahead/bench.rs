@@ -25,6 +25,10 @@ extern "C" {
 const PLACES: usize = 4096;
 const LISTED: usize = 2 * PLACES;
 
+// The bytes of cells that are no ordinary free ones.
+const BLOCKED: u8 = 1;
+const SLOW: u8 = 2;
+
 struct Job<'a> {
     side: usize,
     goal: usize,
@@ -104,12 +108,15 @@ fn main() {
     let open = vec![0u8; 4096];
     let racks: Vec<u8> = (0..4096).map(|c| (c % 64 % 3 == 1 && c / 64 % 8 != 0) as u8).collect();
     let mixed: Vec<u8> = (0..4096).map(|_| (random() % 3 == 0) as u8).collect();
+    // the same racks with every other aisle across a charging lane
+    let lanes: Vec<u8> = (0..4096).map(|c| if c / 64 % 16 == 0 { SLOW } else { racks[c] }).collect();
     println!("{:31} {:>5} {:>10} {:>10} {:>6}", "floor", "depth", "proved ns", "plain ns", "ratio");
     for (name, side, bytes, depths) in [
         ("open 8 x 8", 8, &small, &[1][..]),
         ("open 64 x 64", 64, &open, &[1, 4, 8]),
         ("racks 64 x 64", 64, &racks, &[1, 4, 8]),
         ("random 64 x 64, a third blocked", 64, &mixed, &[1, 4, 8]),
+        ("lanes 64 x 64", 64, &lanes, &[1, 4, 8]),
     ] {
         let cells = side * side;
         let goal = (0..cells).rev().find(|&c| bytes[c] == 0).unwrap();
@@ -125,7 +132,7 @@ fn main() {
                 Proved { base: 1, mark: vec![0; PLACES], cost: vec![0; PLACES], list: vec![0; LISTED], out: [0; MOST_MOVES] };
             let mut plain = Plain { floor: &floor, window: Window::new(), out: [0; MOST_MOVES] };
             let mut starts = vec![];
-            for s in (0..cells).filter(|&s| bytes[s] == 0 && s != goal) {
+            for s in (0..cells).filter(|&s| bytes[s] != BLOCKED && s != goal) {
                 let (x, y) = (ours.look(&j, s), plain.look(&j, s));
                 let moves = x % 256;
                 assert!(x == y && ours.out[..moves] == plain.out[..moves], "{name} {depth} {s}: {x} {y}");

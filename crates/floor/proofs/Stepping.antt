@@ -4,7 +4,8 @@ use mathlib.Core.Path.{_≡_, refl, sym, ap, ap₂, _∙_, subst}
 use mathlib.Core.Bool.{Bool, true, false, true≢false, cond, not, _&&_, _||_}
 use Prim.Native.Nat.{ℕ, zero, suc, _+_, _-_, _*_, _%_, _≤_, _<_}
 use native.Mathlib.Omega.{arith}
-use native.Mathlib.Nat.{add-mul, suc-mul, mul-le-mul-right, mod-lt}
+use native.Mathlib.Decide.{decLe}
+use native.Mathlib.Nat.{add-mul, suc-mul, mul-le-mul-right, mul-comm, mod-lt}
 use borrow.Author.Tests.{lt-ltb, le-ltb, ltb-true, not-true, not-false}
 use lib.Dec.{eqb, ltb, lit≤}
 use lib.ListN.{length, getD}
@@ -67,11 +68,11 @@ module _ (f : Floor) (z : Sized f) (x : ℕ) (on : x < size f) where
   pub in-row : column f x < f .width
   in-row = mod-lt x (z .wide)
 
-  pub in-column : row f x < f .height
+  in-column : row f x < f .height
   in-column = row-lt (f .width) (f .height) x (z .wide) on
 
   -- the cell beside it, where there is one, is on the floor
-  pub north-on : 1 ≤ row f x → f .width ≤ x
+  north-on : 1 ≤ row f x → f .width ≤ x
   north-on h = omega (arith, cell-at (f .width) x, mul-le-mul-right (f .width) h)
 
   pub west-on : 1 ≤ column f x → 1 ≤ x
@@ -80,8 +81,39 @@ module _ (f : Floor) (z : Sized f) (x : ℕ) (on : x < size f) where
   pub east-on : column f x + 1 < f .width → x + 1 < size f
   east-on h = omega (arith, cell-at (f .width) x, cell-lt (f .width) (f .height) (column f x + 1) (row f x) h in-column)
 
-  pub south-on : row f x + 1 < f .height → x + f .width < size f
+  south-on : row f x + 1 < f .height → x + f .width < size f
   south-on h = omega (arith, cell-at (f .width) x, suc-mul (row f x) (f .width), cell-lt (f .width) (f .height) (column f x) (suc (row f x)) in-row (omega (arith, h)))
+
+  -- the first row is that of the first cells, and the last that of the last
+  pub first-row : x < f .width → row f x ≤ 0
+  first-row h = by (decLe 1 (row f x))
+    where
+      by : Dec (1 ≤ row f x) → row f x ≤ 0
+      by (yes l) = absurd (omega (arith, north-on l))
+      by (no l) = omega arith
+
+  pub past-first : f .width ≤ x → 1 ≤ row f x
+  past-first h = by (decLe 1 (row f x))
+    where
+      by : Dec (1 ≤ row f x) → 1 ≤ row f x
+      by (yes l) = l
+      by (no l) =
+          let none : row f x ≡ 0 = omega arith in
+          absurd (omega (arith, cell-at (f .width) x, ap (λ r. r * f .width) none, in-row))
+
+  pub last-row : size f ≤ x + f .width → f .height ≤ row f x + 1
+  last-row h = by (decLe (f .height) (row f x + 1))
+    where
+      by : Dec (f .height ≤ row f x + 1) → f .height ≤ row f x + 1
+      by (yes l) = l
+      by (no l) = absurd (omega (arith, south-on (omega arith)))
+
+  pub before-last : x + f .width < size f → row f x + 1 < f .height
+  before-last h = by (decLe (f .height) (suc (row f x)))
+    where
+      by : Dec (f .height ≤ suc (row f x)) → row f x + 1 < f .height
+      by (yes l) = absurd (omega (arith, cell-at (f .width) x, suc-mul (row f x) (f .width), mul-le-mul-right (f .width) l, mul-comm (f .width) (f .height)))
+      by (no l) = omega arith
 
 -- past the edge
 pub north-off : (f : Floor) (x : ℕ) → row f x ≤ 0 → blockedByte ≡ northByte f x

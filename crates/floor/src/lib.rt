@@ -164,12 +164,12 @@ pub fn can_cost(m: usize, k: usize) -> bool
     m % 2 == k % 2
 }
 
-// The byte of the cell to the north of a cell of this row, blocked past the edge; and so to the west, the east and the south.
-fn north_byte(width: usize, height: usize, floor: &[u8], cell: usize, row: usize) -> u8
-    requires { ⌜ Sized (flat width height (now floor)) ⌝ ∗ ⌜ (cell < width * height) × (row ≡ model.row (flat width height (now floor)) cell) ⌝ }
+// The byte of the cell to the north of a cell, blocked past the edge; and so to the west, the east and the south.
+fn north_byte(width: usize, height: usize, floor: &[u8], cell: usize) -> u8
+    requires { ⌜ Sized (flat width height (now floor)) ⌝ ∗ ⌜ cell < width * height ⌝ }
     ensures { λ r. ⌜ r ≡ northByte (flat width height (now (floor .entry))) cell ⌝ }
 {
-    if row == 0 {
+    if cell < width {
         return BLOCKED;
     }
     floor[cell - width]
@@ -195,11 +195,11 @@ fn east_byte(width: usize, height: usize, floor: &[u8], cell: usize, col: usize)
     floor[cell + 1]
 }
 
-fn south_byte(width: usize, height: usize, floor: &[u8], cell: usize, row: usize) -> u8
-    requires { ⌜ Sized (flat width height (now floor)) ⌝ ∗ ⌜ (cell < width * height) × (row ≡ model.row (flat width height (now floor)) cell) ⌝ }
+fn south_byte(width: usize, height: usize, floor: &[u8], cell: usize) -> u8
+    requires { ⌜ Sized (flat width height (now floor)) ⌝ ∗ ⌜ cell < width * height ⌝ }
     ensures { λ r. ⌜ r ≡ southByte (flat width height (now (floor .entry))) cell ⌝ }
 {
-    if height <= row + 1 {
+    if floor.len() <= cell + width {
         return BLOCKED;
     }
     floor[cell + width]
@@ -211,13 +211,12 @@ pub fn spot_of(width: usize, height: usize, floor: &[u8], cell: usize) -> Spot
     ensures { λ r. ⌜ Placed (flat width height (now (floor .entry))) cell r ⌝ }
 {
     let col = cell % width;
-    let row = cell / width;
     Spot {
         here: floor[cell],
-        north: north_byte(width, height, floor, cell, row),
+        north: north_byte(width, height, floor, cell),
         west: west_byte(width, height, floor, cell, col),
         east: east_byte(width, height, floor, cell, col),
-        south: south_byte(width, height, floor, cell, row),
+        south: south_byte(width, height, floor, cell),
     }
 }
 

@@ -1,4 +1,4 @@
--- `floor::spot_of` meets its contract: the column and the row are the model's own, by division.
+-- `floor::spot_of` meets its contract: the column is the model's own, by division.
 -- Assumes nothing.
 use mathlib.Core.Path.{refl}
 use native.Mathlib.Omega.{arith}
@@ -12,10 +12,9 @@ spot-of-spec =
     tie.close
     (tie.spec
     (λ c. search needs)
-    (λ c. search needs)
     (λ c. let s = c .before .before in omega (arith, free-below _ _ (s .pre .1), s .pre .0 .cells))
-    (λ c κs. let s = c .before .before in (s .pre .0, (free-below _ _ (s .pre .1), refl)))
+    (λ c κs. let s = c .before .before in (s .pre .0, free-below _ _ (s .pre .1)))
     (λ c κs. let s = c .before .before .before in (s .pre .0, (free-below _ _ (s .pre .1), refl)))
     (λ c κs. let s = c .before .before .before .before in (s .pre .0, (free-below _ _ (s .pre .1), refl)))
-    (λ c κs. let s = c .before .before .before .before .before in (s .pre .0, (free-below _ _ (s .pre .1), refl)))
+    (λ c κs. let s = c .before .before .before .before .before in (s .pre .0, free-below _ _ (s .pre .1)))
     (λ c. search needs))
