@@ -14,7 +14,7 @@ use lookahead::{Window, MOST_MOVES};
 
 extern "C" {
     fn probe_plan(
-        width: usize, height: usize, goal: usize, depth: usize, p: usize,
+        width: usize, height: usize, count: usize, goal: usize, other: usize, depth: usize, p: usize,
         floor: *const u8, floor_len: usize, s: usize, table: *const u32, table_len: usize,
         base: u32, mark: *mut u32, mark_len: usize, cost: *mut u16, cost_len: usize,
         list: *mut u16, list_len: usize, out: *mut u8, out_len: usize,
@@ -31,7 +31,7 @@ const SLOW: u8 = 2;
 
 struct Job<'a> {
     side: usize,
-    goal: usize,
+    goals: &'a [usize],
     depth: usize,
     p: usize,
     bytes: &'a [u8],
@@ -52,7 +52,7 @@ struct Plain<'a> {
 
 impl Plain<'_> {
     fn look(&mut self, j: &Job, s: usize) -> usize {
-        if !self.window.look(self.floor, s, j.goal, j.depth) {
+        if !self.window.look(self.floor, s, j.goals, j.depth) {
             return 0;
         }
         let best = self.window.best(j.table, j.p as u32);
@@ -74,7 +74,7 @@ impl Proved {
     fn look(&mut self, j: &Job, s: usize) -> usize {
         let answer = unsafe {
             probe_plan(
-                j.side, j.side, j.goal, j.depth, j.p, j.bytes.as_ptr(), j.bytes.len(), s, j.table.as_ptr(), j.table.len(),
+                j.side, j.side, j.goals.len(), j.goals[0], *j.goals.last().unwrap(), j.depth, j.p, j.bytes.as_ptr(), j.bytes.len(), s, j.table.as_ptr(), j.table.len(),
                 self.base, self.mark.as_mut_ptr(), self.mark.len(), self.cost.as_mut_ptr(), self.cost.len(),
                 self.list.as_mut_ptr(), self.list.len(), self.out.as_mut_ptr(), self.out.len(),
             )
@@ -111,28 +111,32 @@ fn main() {
     // the same racks with every other aisle across a charging lane
     let lanes: Vec<u8> = (0..4096).map(|c| if c / 64 % 16 == 0 { SLOW } else { racks[c] }).collect();
     println!("{:31} {:>5} {:>10} {:>10} {:>6}", "floor", "depth", "proved ns", "plain ns", "ratio");
-    for (name, side, bytes, depths) in [
-        ("open 8 x 8", 8, &small, &[1][..]),
-        ("open 64 x 64", 64, &open, &[1, 4, 8]),
-        ("racks 64 x 64", 64, &racks, &[1, 4, 8]),
-        ("random 64 x 64, a third blocked", 64, &mixed, &[1, 4, 8]),
-        ("lanes 64 x 64", 64, &lanes, &[1, 4, 8]),
+    for (name, side, bytes, benches, depths) in [
+        ("open 8 x 8", 8, &small, 1, &[1][..]),
+        ("open 64 x 64", 64, &open, 1, &[1, 4, 8]),
+        ("racks 64 x 64", 64, &racks, 1, &[1, 4, 8]),
+        ("random 64 x 64, a third blocked", 64, &mixed, 1, &[1, 4, 8]),
+        ("lanes 64 x 64", 64, &lanes, 1, &[1, 4, 8]),
+        ("racks 64 x 64, two benches", 64, &racks, 2, &[1, 4, 8]),
     ] {
         let cells = side * side;
-        let goal = (0..cells).rev().find(|&c| bytes[c] == 0).unwrap();
-        let table: Vec<u32> = (0..cells).map(|c: usize| {
+        // the last free cell is a bench, and where there are two the first free one too
+        let plain = |c: &usize| bytes[*c] == 0;
+        let both = [(0..cells).find(plain).unwrap(), (0..cells).rev().find(plain).unwrap()];
+        let goals = &both[2 - benches..];
+        let table: Vec<u32> = (0..cells).map(|c: usize| goals.iter().map(|goal| {
             let (dx, dy) = ((c % side).abs_diff(goal % side), (c / side).abs_diff(goal / side));
             (16 * (14 * dx.min(dy) + 10 * dx.abs_diff(dy))) as u32
-        }).collect();
+        }).min().unwrap()).collect();
         // The list of exits is made once for a floor, as the second program does.
         let floor = Floor::new(side, side, bytes);
         for &depth in depths {
-            let j = Job { side, goal, depth, p: 16, bytes, table: &table };
+            let j = Job { side, goals, depth, p: 16, bytes, table: &table };
             let mut ours =
                 Proved { base: 1, mark: vec![0; PLACES], cost: vec![0; PLACES], list: vec![0; LISTED], out: [0; MOST_MOVES] };
             let mut plain = Plain { floor: &floor, window: Window::new(), out: [0; MOST_MOVES] };
             let mut starts = vec![];
-            for s in (0..cells).filter(|&s| bytes[s] != BLOCKED && s != goal) {
+            for s in (0..cells).filter(|&s| bytes[s] != BLOCKED && !goals.contains(&s)) {
                 let (x, y) = (ours.look(&j, s), plain.look(&j, s));
                 let moves = x % 256;
                 assert!(x == y && ours.out[..moves] == plain.out[..moves], "{name} {depth} {s}: {x} {y}");

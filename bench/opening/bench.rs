@@ -5,8 +5,8 @@ use std::time::Instant;
 
 // The exports of crates/probe and crates/probe_search; a slice is its first entry and its length.
 extern "C" {
-    fn probe_open(width: usize, height: usize, start: usize, goal: usize, q: usize, floor: *const u8, floor_len: usize, table: *const u32, table_len: usize) -> usize;
-    fn probe_distances(width: usize, height: usize, goal: usize, floor: *const u8, floor_len: usize, dist: *mut u32, dist_len: usize) -> usize;
+    fn probe_open(width: usize, height: usize, start: usize, count: usize, goal: usize, q: usize, floor: *const u8, floor_len: usize, table: *const u32, table_len: usize) -> usize;
+    fn probe_distances(width: usize, height: usize, count: usize, goal: usize, other: usize, floor: *const u8, floor_len: usize, dist: *mut u32, dist_len: usize) -> usize;
 }
 
 const SIDE: usize = 64;
@@ -327,7 +327,7 @@ fn main() {
         heap(SIDE, SIDE, &floor, 0, &mut dist);
         let goal = (0..=far).rev().find(|&cell| dist[cell] < FAR).unwrap();
         let (mut a, mut b) = (vec![0u32; CELLS], vec![0u32; CELLS]);
-        unsafe { probe_distances(SIDE, SIDE, goal, floor.as_ptr(), CELLS, a.as_mut_ptr(), CELLS) };
+        unsafe { probe_distances(SIDE, SIDE, 1, goal, goal, floor.as_ptr(), CELLS, a.as_mut_ptr(), CELLS) };
         // where there is none, the proved search writes a number of its own, above every distance
         a.iter_mut().filter(|d| **d > FARTHEST).for_each(|d| *d = FAR);
         rising(SIDE, SIDE, &floor, goal, &mut b);
@@ -336,7 +336,7 @@ fn main() {
         // a table that every check passes: each figure at the truth, and the ceiling where there is none
         let table: Vec<u32> = dist.iter().map(|&d| if d < FAR { Q as u32 * d } else { CEILING }).collect();
         let (side, floor) = std::hint::black_box((SIDE, &floor));
-        let proved = || unsafe { probe_open(side, side, 0, goal, Q, floor.as_ptr(), CELLS, table.as_ptr(), CELLS) };
+        let proved = || unsafe { probe_open(side, side, 0, 1, goal, Q, floor.as_ptr(), CELLS, table.as_ptr(), CELLS) };
         let plain = |search| plain_open(search, side, side, floor, 0, goal, &table);
         assert!(proved() == 0 && plain(rising) == 0 && plain(heap) == 0, "{name}: refused");
         let (ours, same, other) = (micros(proved), micros(|| plain(rising)), micros(|| plain(heap)));

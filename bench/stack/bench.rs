@@ -4,29 +4,29 @@ use std::ffi::c_void;
 // The exports of crates/probe and crates/probe_search; a slice is its first entry and its length.
 extern "C" {
     fn probe_nothing() -> usize;
-    fn probe_open(width: usize, height: usize, start: usize, goal: usize, q: usize, floor: *const u8, floor_len: usize, table: *const u32, table_len: usize) -> usize;
-    fn probe_distances(width: usize, height: usize, goal: usize, floor: *const u8, floor_len: usize, dist: *mut u32, dist_len: usize) -> usize;
+    fn probe_open(width: usize, height: usize, start: usize, count: usize, goal: usize, q: usize, floor: *const u8, floor_len: usize, table: *const u32, table_len: usize) -> usize;
+    fn probe_distances(width: usize, height: usize, count: usize, goal: usize, other: usize, floor: *const u8, floor_len: usize, dist: *mut u32, dist_len: usize) -> usize;
     fn probe_decide(
-        width: usize, height: usize, current: usize, learned: usize, length: usize, goal: usize, depth: usize, p: usize, q: usize, quota: usize,
+        width: usize, height: usize, current: usize, learned: usize, length: usize, count: usize, goal: usize, depth: usize, p: usize, q: usize, quota: usize,
         floor: *const u8, floor_len: usize, table: *mut u32, table_len: usize, path: *mut u16, path_len: usize, moves: *mut u8, moves_len: usize,
     ) -> usize;
     fn probe_trial(
-        width: usize, height: usize, start: usize, goal: usize, depth: usize, p: usize, q: usize, quota: usize,
+        width: usize, height: usize, start: usize, count: usize, goal: usize, depth: usize, p: usize, q: usize, quota: usize,
         floor: *const u8, floor_len: usize, table: *mut u32, table_len: usize, path: *mut u16, path_len: usize,
     ) -> usize;
     fn probe_run(
-        width: usize, height: usize, start: usize, goal: usize, depth: usize, p: usize, q: usize, quota: usize, trials: usize,
+        width: usize, height: usize, start: usize, count: usize, goal: usize, depth: usize, p: usize, q: usize, quota: usize, trials: usize,
         floor: *const u8, floor_len: usize, table: *mut u32, table_len: usize, path: *mut u16, path_len: usize, counts: *mut u64, counts_len: usize, n: usize,
     ) -> usize;
     fn probe_floor(text: *const u8, text_len: usize, buffer: *mut u8, buffer_len: usize) -> usize;
     fn probe_write_floor(width: usize, height: usize, floor: *const u8, floor_len: usize, buffer: *mut u8, buffer_len: usize) -> usize;
-    fn probe_fill(width: usize, height: usize, goal: usize, q: usize, floor: *const u8, floor_len: usize, table: *mut u32, table_len: usize) -> usize;
+    fn probe_fill(width: usize, height: usize, count: usize, goal: usize, q: usize, floor: *const u8, floor_len: usize, table: *mut u32, table_len: usize) -> usize;
     fn probe_read(
-        width: usize, height: usize, goal: usize, q: usize, floor: *const u8, floor_len: usize,
+        width: usize, height: usize, count: usize, goal: usize, q: usize, floor: *const u8, floor_len: usize,
         file: *const u8, file_len: usize, table: *mut u32, table_len: usize,
     ) -> usize;
     fn probe_write(
-        width: usize, height: usize, goal: usize, q: usize, floor: *const u8, floor_len: usize,
+        width: usize, height: usize, count: usize, goal: usize, q: usize, floor: *const u8, floor_len: usize,
         table: *const u32, table_len: usize, buffer: *mut u8, buffer_len: usize,
     ) -> usize;
     fn probe_find(file: *const u8, file_len: usize) -> usize;
@@ -84,23 +84,23 @@ fn map(blocked: impl Fn(usize, usize) -> bool) -> Map {
     let floor: Vec<u8> = (0..CELLS).map(|c| blocked(c % SIDE, c / SIDE) as u8).collect();
     let goal = floor.iter().rposition(|&byte| byte == 0).unwrap();
     let mut table = vec![0; CELLS];
-    assert!(unsafe { probe_fill(SIDE, SIDE, goal, Q, floor.as_ptr(), CELLS, table.as_mut_ptr(), CELLS) } == 0);
+    assert!(unsafe { probe_fill(SIDE, SIDE, 1, goal, Q, floor.as_ptr(), CELLS, table.as_mut_ptr(), CELLS) } == 0);
     Map { floor, goal, table }
 }
 
 fn fill(map: &Map) -> usize {
     let mut table = vec![0; CELLS];
-    need(|| assert!(unsafe { probe_fill(SIDE, SIDE, map.goal, Q, map.floor.as_ptr(), CELLS, table.as_mut_ptr(), CELLS) } == 0))
+    need(|| assert!(unsafe { probe_fill(SIDE, SIDE, 1, map.goal, Q, map.floor.as_ptr(), CELLS, table.as_mut_ptr(), CELLS) } == 0))
 }
 
 fn open(map: &Map) -> usize {
-    need(|| assert!(unsafe { probe_open(SIDE, SIDE, 0, map.goal, Q, map.floor.as_ptr(), CELLS, map.table.as_ptr(), CELLS) } == 0))
+    need(|| assert!(unsafe { probe_open(SIDE, SIDE, 0, 1, map.goal, Q, map.floor.as_ptr(), CELLS, map.table.as_ptr(), CELLS) } == 0))
 }
 
 // The search for true distances alone, its list lent.
 fn distances(map: &Map) -> usize {
     let mut dist = vec![0; CELLS];
-    need(|| assert!(unsafe { probe_distances(SIDE, SIDE, map.goal, map.floor.as_ptr(), CELLS, dist.as_mut_ptr(), CELLS) } > 0))
+    need(|| assert!(unsafe { probe_distances(SIDE, SIDE, 1, map.goal, map.goal, map.floor.as_ptr(), CELLS, dist.as_mut_ptr(), CELLS) } > 0))
 }
 
 // The first decision of a trial and, with a path of one cell behind it, a second one: the quota decides whether that goes forward or backs out.
@@ -111,7 +111,7 @@ fn decide(map: &Map, quota: usize) -> usize {
         need(|| {
             current = unsafe {
                 probe_decide(
-                    SIDE, SIDE, current, 0, length, map.goal, DEPTH, Q, Q, quota, map.floor.as_ptr(), CELLS,
+                    SIDE, SIDE, current, 0, length, 1, map.goal, DEPTH, Q, Q, quota, map.floor.as_ptr(), CELLS,
                     table.as_mut_ptr(), CELLS, path.as_mut_ptr(), CELLS, moves.as_mut_ptr(), moves.len(),
                 )
             }
@@ -125,7 +125,7 @@ fn trial(map: &Map, width: usize, quota: usize) -> usize {
     let (mut table, mut path) = (map.table.clone(), vec![0; CELLS]);
     need(|| {
         let floor = map.floor.as_ptr();
-        let made = unsafe { probe_trial(width, SIDE, 0, map.goal, DEPTH, Q, Q, quota, floor, CELLS, table.as_mut_ptr(), CELLS, path.as_mut_ptr(), CELLS) };
+        let made = unsafe { probe_trial(width, SIDE, 0, 1, map.goal, DEPTH, Q, Q, quota, floor, CELLS, table.as_mut_ptr(), CELLS, path.as_mut_ptr(), CELLS) };
         assert!((made > 0) == (width > 0));
     })
 }
@@ -136,7 +136,7 @@ fn counted(map: &Map, width: usize, quota: usize) -> usize {
     need(|| {
         let (floor, counts) = (map.floor.as_ptr(), counts.as_mut_ptr());
         let made = unsafe {
-            probe_run(width, SIDE, 0, map.goal, DEPTH, Q, Q, quota, 16, floor, CELLS, table.as_mut_ptr(), CELLS, path.as_mut_ptr(), CELLS, counts, 64, 16)
+            probe_run(width, SIDE, 0, 1, map.goal, DEPTH, Q, Q, quota, 16, floor, CELLS, table.as_mut_ptr(), CELLS, path.as_mut_ptr(), CELLS, counts, 64, 16)
         };
         assert!((made > 0) == (width > 0));
     })
@@ -165,25 +165,25 @@ fn write_floor(map: &Map) -> usize {
 // A table whose every figure is learned, 4,096 records as a file.
 fn file(map: &Map) -> (Vec<u32>, Vec<u8>) {
     let learned: Vec<u32> = map.table.iter().map(|figure| figure + 1).collect();
-    let mut buffer = vec![0; 16 + 6 * CELLS];
+    let mut buffer = vec![0; 24 + 6 * CELLS];
     assert!(write(map, &learned, &mut buffer) == buffer.len());
     (learned, buffer)
 }
 
 fn write(map: &Map, learned: &[u32], buffer: &mut [u8]) -> usize {
     let (floor, room) = (map.floor.as_ptr(), buffer.len());
-    unsafe { probe_write(SIDE, SIDE, map.goal, Q, floor, CELLS, learned.as_ptr(), CELLS, buffer.as_mut_ptr(), room) }
+    unsafe { probe_write(SIDE, SIDE, 1, map.goal, Q, floor, CELLS, learned.as_ptr(), CELLS, buffer.as_mut_ptr(), room) }
 }
 
 fn write_table(map: &Map) -> usize {
     let (learned, mut buffer) = file(map);
-    need(|| assert!(write(map, &learned, &mut buffer) > 16))
+    need(|| assert!(write(map, &learned, &mut buffer) > 24))
 }
 
 fn read_table(map: &Map) -> usize {
     let (_, file) = file(map);
     let mut table = vec![0; CELLS];
-    need(|| assert!(unsafe { probe_read(SIDE, SIDE, map.goal, Q, map.floor.as_ptr(), CELLS, file.as_ptr(), file.len(), table.as_mut_ptr(), CELLS) } == 0))
+    need(|| assert!(unsafe { probe_read(SIDE, SIDE, 1, map.goal, Q, map.floor.as_ptr(), CELLS, file.as_ptr(), file.len(), table.as_mut_ptr(), CELLS) } == 0))
 }
 
 fn main() {

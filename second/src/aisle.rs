@@ -1,6 +1,6 @@
 //! The program `aisle`: a line of numbers and a floor text in, a line for each trial out.
 
-use crate::checks::{self, Job};
+use crate::checks::{self, Goals, Job};
 use crate::floor::MOST_CELLS;
 use crate::floor_text;
 use crate::opening::{self, opening_table};
@@ -66,7 +66,7 @@ impl Run {
         let job = Job {
             width: width as u64,
             height: height as u64,
-            goal: line.goal,
+            goals: Goals::named(&[line.goal]),
             depth: line.depth,
             p: line.p,
             q: line.q,
@@ -75,7 +75,7 @@ impl Run {
         };
         // A start off the floor and a goal off the floor are the same number, so the order of the two doesn't show.
         let mut table = vec![0u32; width * height];
-        opening_table(job.width, job.height, job.goal, job.q, job.floor, &mut table)?;
+        opening_table(job.width, job.height, &job.goals, job.q, job.floor, &mut table)?;
         let cart = Cart::new(opening::open(&job, line.start, &table)?);
         let path = vec![0u16; width * height];
         Ok(Run { cart, table, path, trials: line.trials, made: 0, settled: false })

@@ -1,6 +1,6 @@
 //! The program `calls`: one public call told in decimal numbers, and everything it answered and left behind.
 
-use crate::checks::Job;
+use crate::checks::{Goals, Job};
 use crate::decision::{decide, Answer, State};
 use crate::floor_text;
 use crate::opening;
@@ -18,6 +18,8 @@ const MOST_NUMBER: u64 = u32::MAX as u64;
 pub const CELL_ROOM: usize = 4_096 + 64;
 pub const MOVE_ROOM: usize = 1_024;
 pub const REPORT_ROOM: usize = 1_001;
+/// Room for the goals that are told, more than a job may name.
+pub const GOAL_ROOM: usize = 8;
 /// Room for files and texts, and for every buffer of bytes.
 pub const BYTE_ROOM: usize = 32_768;
 
@@ -87,6 +89,10 @@ impl Arguments {
     fn list<T: TryFrom<u64>>(&mut self, room: usize) -> Result<Vec<T>, NoLine> {
         let length = self.length(room)?;
         (0..length).map(|_| T::try_from(self.scalar()?).map_err(|_| NoLine::Malformed)).collect()
+    }
+
+    fn goals(&mut self) -> Result<Goals, NoLine> {
+        Ok(Goals::named(&self.list(GOAL_ROOM)?))
     }
 
     fn reports(&mut self) -> Result<Vec<Counts>, NoLine> {
@@ -198,7 +204,7 @@ struct JobNumbers {
     width: u64,
     height: u64,
     start: u64,
-    goal: u64,
+    goals: Goals,
     depth: u64,
     p: u64,
     q: u64,
@@ -211,7 +217,7 @@ impl JobNumbers {
             width: arguments.scalar()?,
             height: arguments.scalar()?,
             start: arguments.scalar()?,
-            goal: arguments.scalar()?,
+            goals: arguments.goals()?,
             depth: arguments.scalar()?,
             p: arguments.scalar()?,
             q: arguments.scalar()?,
@@ -220,8 +226,8 @@ impl JobNumbers {
     }
 
     fn job<'a>(&self, floor: &'a [u8]) -> Job<'a> {
-        let JobNumbers { width, height, goal, depth, p, q, quota, .. } = *self;
-        Job { width, height, goal, depth, p, q, quota, floor }
+        let JobNumbers { width, height, goals, depth, p, q, quota, .. } = *self;
+        Job { width, height, goals, depth, p, q, quota, floor }
     }
 }
 
@@ -241,7 +247,7 @@ fn call_decide(mut arguments: Arguments) -> Result<Line, NoLine> {
     let (width, height) = (arguments.scalar()?, arguments.scalar()?);
     let mut state =
         State { current: arguments.scalar()?, u: arguments.scalar()?, length: arguments.scalar()? };
-    let (goal, depth) = (arguments.scalar()?, arguments.scalar()?);
+    let (goals, depth) = (arguments.goals()?, arguments.scalar()?);
     let (p, q, quota) = (arguments.scalar()?, arguments.scalar()?, arguments.scalar()?);
     let from = arguments.scalar()?;
     let floor: Vec<u8> = arguments.list(CELL_ROOM)?;
@@ -250,7 +256,7 @@ fn call_decide(mut arguments: Arguments) -> Result<Line, NoLine> {
     let mut moves: Vec<u8> = arguments.list(MOVE_ROOM)?;
     arguments.end()?;
 
-    let job = Job { width, height, goal, depth, p, q, quota, floor: &floor };
+    let job = Job { width, height, goals, depth, p, q, quota, floor: &floor };
     let answer = decide(&job, &mut state, &mut table, &mut path, &mut moves, from);
     let (kind, refusal, target, rise, count) = match answer {
         Answer::Arrived => (0, None, 0, 0, 0),
@@ -329,13 +335,13 @@ fn call_read_floor_text(mut arguments: Arguments) -> Result<Line, NoLine> {
 
 fn call_write_table_file(mut arguments: Arguments) -> Result<Line, NoLine> {
     let (width, height) = (arguments.scalar()?, arguments.scalar()?);
-    let (goal, q) = (arguments.scalar()?, arguments.scalar()?);
+    let (goals, q) = (arguments.goals()?, arguments.scalar()?);
     let floor: Vec<u8> = arguments.list(CELL_ROOM)?;
     let table: Vec<u32> = arguments.list(CELL_ROOM)?;
     let mut buffer: Vec<u8> = arguments.list(BYTE_ROOM)?;
     arguments.end()?;
 
-    let (refusal, length) = split(table_file::write(width, height, goal, q, &floor, &table, &mut buffer));
+    let (refusal, length) = split(table_file::write(width, height, &goals, q, &floor, &table, &mut buffer));
     let mut line = Line::default();
     line.refusal(refusal);
     line.number(length as u64);
@@ -345,13 +351,13 @@ fn call_write_table_file(mut arguments: Arguments) -> Result<Line, NoLine> {
 
 fn call_read_table_file(mut arguments: Arguments) -> Result<Line, NoLine> {
     let (width, height) = (arguments.scalar()?, arguments.scalar()?);
-    let (goal, q) = (arguments.scalar()?, arguments.scalar()?);
+    let (goals, q) = (arguments.goals()?, arguments.scalar()?);
     let floor: Vec<u8> = arguments.list(CELL_ROOM)?;
     let file: Vec<u8> = arguments.list(BYTE_ROOM)?;
     let mut table: Vec<u32> = arguments.list(CELL_ROOM)?;
     arguments.end()?;
 
-    let refusal = table_file::read(width, height, goal, q, &floor, &file, &mut table).err();
+    let refusal = table_file::read(width, height, &goals, q, &floor, &file, &mut table).err();
     let mut line = Line::default();
     line.refusal(refusal);
     line.list(&table);
@@ -378,12 +384,12 @@ fn call_check_trailer(mut arguments: Arguments) -> Result<Line, NoLine> {
 
 fn call_opening_table(mut arguments: Arguments) -> Result<Line, NoLine> {
     let (width, height) = (arguments.scalar()?, arguments.scalar()?);
-    let (goal, q) = (arguments.scalar()?, arguments.scalar()?);
+    let (goals, q) = (arguments.goals()?, arguments.scalar()?);
     let floor: Vec<u8> = arguments.list(CELL_ROOM)?;
     let mut table: Vec<u32> = arguments.list(CELL_ROOM)?;
     arguments.end()?;
 
-    let refusal = opening::opening_table(width, height, goal, q, &floor, &mut table).err();
+    let refusal = opening::opening_table(width, height, &goals, q, &floor, &mut table).err();
     let mut line = Line::default();
     line.refusal(refusal);
     line.list(&table);

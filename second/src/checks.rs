@@ -1,4 +1,4 @@
-//! The checks that several calls share, each for one number of document 01's table, and the job they judge.
+//! The checks that several calls share, each for one number of the papers, and the job they judge.
 
 use crate::floor::{is_free_byte, MOST_SIDE};
 use crate::lookahead::MOST_DEPTH;
@@ -10,13 +10,32 @@ pub const CEILING: u32 = 1_834_560;
 pub const MOST_QUOTA: u64 = 1_000_000;
 pub const MOST_TRIALS: u64 = 1_000;
 pub const MOST_Q: u64 = 16;
+pub const MOST_GOALS: usize = 4;
+
+/// The goals that a job names, as they are told: how many, and the first four of them.
+#[derive(Clone, Copy, Debug)]
+pub struct Goals {
+    pub count: u64,
+    /// Places past the count mean nothing.
+    pub places: [u64; MOST_GOALS],
+}
+
+impl Goals {
+    pub fn named(goals: &[u64]) -> Goals {
+        let mut places = [0; MOST_GOALS];
+        for (place, &goal) in places.iter_mut().zip(goals) {
+            *place = goal;
+        }
+        Goals { count: goals.len() as u64, places }
+    }
+}
 
 /// A job as it is told, before anything of it has been judged.
 #[derive(Clone, Copy, Debug)]
 pub struct Job<'a> {
     pub width: u64,
     pub height: u64,
-    pub goal: u64,
+    pub goals: Goals,
     pub depth: u64,
     pub p: u64,
     pub q: u64,
@@ -84,18 +103,31 @@ pub fn free_cell(floor: &[u8], cell: u64) -> Result<usize, Refusal> {
     }
 }
 
-/// 1, 3 and 4 as the table calls judge them. Answers the goal's cell.
+/// 4 for the goals, of which the first four are judged, then 27: there are 1 to 4, and they rise. Answers their cells.
+pub fn goal_cells(floor: &[u8], goals: &Goals) -> Result<Vec<usize>, Refusal> {
+    let held = goals.count.min(MOST_GOALS as u64) as usize;
+    let cells: Vec<usize> =
+        goals.places[..held].iter().map(|&goal| free_cell(floor, goal)).collect::<Result<_, _>>()?;
+    let rising = cells.windows(2).all(|pair| pair[0] < pair[1]);
+    if (1..=MOST_GOALS as u64).contains(&goals.count) && rising {
+        Ok(cells)
+    } else {
+        Err(Refusal::plain(27))
+    }
+}
+
+/// 1, 3, 4 and 27 as the table calls judge them. Answers the goals' cells.
 pub fn table_job(
     width: u64,
     height: u64,
-    goal: u64,
+    goals: &Goals,
     q: u64,
     floor: &[u8],
     table: &[u32],
-) -> Result<usize, Refusal> {
+) -> Result<Vec<usize>, Refusal> {
     sizes(width, height, floor, table)?;
     q_alone(q)?;
-    free_cell(floor, goal)
+    goal_cells(floor, goals)
 }
 
 /// 5: no figure is above the ceiling.

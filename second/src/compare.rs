@@ -131,13 +131,14 @@ fn shown(bytes: &[u8]) -> String {
     }
 }
 
-/// The one number from 0 to 22 that nothing answers.
-const UNUSED: usize = 15;
+/// The greatest number that is answered, and those below it that nothing answers.
+const LAST_NUMBER: usize = 27;
+const UNUSED: [usize; 5] = [15, 23, 24, 25, 26];
 
 /// How often each number, call and kind of decision occurred.
 #[derive(Default)]
 pub struct Tally {
-    numbers: [u64; 23],
+    numbers: [u64; LAST_NUMBER + 1],
     calls: [u64; CALLS],
     malformed: u64,
     aisle: u64,
@@ -145,6 +146,13 @@ pub struct Tally {
     pub slow: u64,
     slow_calls: [u64; CALLS],
     slow_aisle: u64,
+    /// How many calls named several goals, and how many of these were accepted.
+    pub several: u64,
+    several_calls: [u64; CALLS],
+    /// How many calls were refused by 27.
+    by_27: [u64; CALLS],
+    /// How many table files of each edition were read.
+    editions: [u64; 2],
     /// How many had a leg where the lowest cells alone would weave, gone forward and gone back.
     pub woven_decisions: [u64; 2],
     pub woven_aisle: [u64; 2],
@@ -172,22 +180,36 @@ const CALL_NAMES: [&str; CALLS] = [
     "write floor text",
 ];
 
-/// How many numbers stand ahead of a call's floor; none where a call takes no floor.
-fn numbers_ahead_of_floor(call: usize) -> Option<usize> {
+/// How many numbers stand ahead of a call's goals, its own number included, and how many between them and the floor; none
+/// where it takes no goals.
+fn numbers_around_goals(call: usize) -> Option<(usize, usize)> {
     match call {
-        1 | 3 => Some(9),
-        2 => Some(12),
-        4 => Some(10),
-        6 | 7 | 10 => Some(5),
-        11 => Some(3),
+        1 | 3 => Some((4, 4)),
+        2 => Some((6, 5)),
+        4 => Some((4, 5)),
+        6 | 7 | 10 => Some((3, 1)),
         _ => None,
     }
 }
 
-/// The floor's bytes among a call's numbers; none where it takes no floor.
-fn floor_bytes(asked: &[u64]) -> Option<&[u64]> {
-    let ahead = numbers_ahead_of_floor(asked[0] as usize)?;
-    Some(&asked[ahead + 1..][..asked[ahead] as usize])
+/// The list that begins at a place, and what comes after it.
+fn list_at(asked: &[u64], place: usize) -> (&[u64], &[u64]) {
+    asked[place + 1..].split_at(asked[place] as usize)
+}
+
+/// The goals among a call's numbers and what comes after them; none where it takes no goals.
+fn goals(asked: &[u64]) -> Option<(&[u64], &[u64])> {
+    let (ahead, _) = numbers_around_goals(asked[0] as usize)?;
+    Some(list_at(asked, ahead))
+}
+
+/// The floor's bytes among a call's numbers and what comes after them; none where it takes no floor.
+fn floor_bytes(asked: &[u64]) -> Option<(&[u64], &[u64])> {
+    if asked[0] == 11 {
+        return Some(list_at(asked, 3));
+    }
+    let (_, between) = numbers_around_goals(asked[0] as usize)?;
+    Some(list_at(goals(asked)?.1, between))
 }
 
 impl Tally {
@@ -241,11 +263,19 @@ impl Tally {
             self.add_decision(&asked, &answered);
         }
         let slow = match floor_bytes(&asked) {
-            Some(bytes) => bytes.contains(&u64::from(SLOW)),
-            None => call == 5 && asked[2..][..asked[1] as usize].contains(&u64::from(b'S')),
+            Some((bytes, _)) => bytes.contains(&u64::from(SLOW)),
+            None => call == 5 && list_at(&asked, 1).0.contains(&u64::from(b'S')),
         };
         self.slow += u64::from(slow);
         self.slow_calls[call] += u64::from(slow && number == 0);
+        let several = goals(&asked).is_some_and(|(goals, _)| goals.len() > 1);
+        self.several += u64::from(several);
+        self.several_calls[call] += u64::from(several && number == 0);
+        self.by_27[call] += u64::from(number == 27);
+        if let (7, 0, Some((_, rest))) = (call, number, floor_bytes(&asked)) {
+            let (file, _) = list_at(rest, 0);
+            self.editions[file[file.len() - 11] as usize - 1] += 1;
+        }
     }
 
     fn add_decision(&mut self, asked: &[u64], answered: &[u64]) {
@@ -261,26 +291,36 @@ impl Tally {
             2 => self.woven_decisions[1] += u64::from(leg_weaves(asked, target, current)),
             _ => {}
         }
-        let (u, q, quota) = (asked[4], asked[9], asked[10]);
+        // Behind the goals come depth, p, q and quota.
+        let quota_at = 6 + asked[6] as usize + 4;
+        let (u, q, quota) = (asked[4], asked[quota_at - 1], asked[quota_at]);
         if answered[1] == 8 && u <= q * quota {
             // With the largest quota nothing backs out: if the same call is then accepted, only that part was at fault.
             let mut words: Vec<String> = asked.iter().map(u64::to_string).collect();
-            words[10] = "1000000".into();
+            words[quota_at] = "1000000".into();
             let output = calls::answer(words.join(" ").as_bytes());
             self.refused_on_backing_out += u64::from(!output.starts_with(b"4 "));
         }
     }
 
-    /// What did not occur of numbers and calls, of calls with slow cells that are accepted, and of legs that the lowest
-    /// cells alone would make longer.
+    /// What did not occur of numbers and calls, of calls with slow cells or several goals that are accepted, of calls with
+    /// goals that are refused by 27, of editions read, and of legs that the lowest cells alone would make longer.
     pub fn missing(&self) -> Vec<String> {
-        let numbers = (0..self.numbers.len()).filter(|&number| number != UNUSED && self.numbers[number] == 0);
+        let used = |number: &usize| !UNUSED.contains(number);
+        let numbers = (0..self.numbers.len()).filter(used).filter(|&number| self.numbers[number] == 0);
         let calls = (1..CALLS).filter(|&call| self.calls[call] == 0);
-        let has_floor = |&call: &usize| call == 5 || numbers_ahead_of_floor(call).is_some();
+        let has_goals = |&call: &usize| numbers_around_goals(call).is_some();
+        let has_floor = |&call: &usize| call == 5 || call == 11 || has_goals(&call);
+        let several_calls = (1..CALLS).filter(has_goals).filter(|&call| self.several_calls[call] == 0);
+        let by_27 = (1..CALLS).filter(has_goals).filter(|&call| self.by_27[call] == 0);
         let slow_calls = (1..CALLS).filter(has_floor).filter(|&call| self.slow_calls[call] == 0);
         let mut missing: Vec<String> = numbers.map(|number| format!("number {number}")).collect();
         missing.extend(calls.map(|call| format!("call {call}")));
         missing.extend(slow_calls.map(|call| format!("call {call} with slow cells")));
+        missing.extend(several_calls.map(|call| format!("call {call} with several goals")));
+        missing.extend(by_27.map(|call| format!("call {call} refused by 27")));
+        let editions = (0..2).filter(|&at| self.editions[at] == 0);
+        missing.extend(editions.map(|at| format!("a file of edition {} read", at + 1)));
         if self.slow_aisle == 0 {
             missing.push("aisle with slow cells".into());
         }
@@ -293,16 +333,19 @@ impl Tally {
 
     pub fn print(&self) {
         println!("number  answered");
-        for (number, count) in self.numbers.iter().enumerate().filter(|&(number, _)| number != UNUSED) {
+        for (number, count) in self.numbers.iter().enumerate().filter(|(number, _)| !UNUSED.contains(number))
+        {
             println!("{number:6}  {count}");
         }
-        println!("call                   made  accepted with slow cells");
+        println!("call                   made  accepted with slow cells  with several goals  refused by 27");
         for (call, count) in self.calls.iter().enumerate().skip(1) {
-            println!("{call:2} {:16}  {count:6}  {}", CALL_NAMES[call], self.slow_calls[call]);
+            let [slow, several, by_27] = [self.slow_calls, self.several_calls, self.by_27].map(|of| of[call]);
+            println!("{call:2} {:16}  {count:6}  {slow:24}  {several:18}  {by_27:13}", CALL_NAMES[call]);
         }
         println!("   {:16}  {:6}", "malformed", self.malformed);
-        println!("   {:16}  {:6}  {}", "aisle", self.aisle, self.slow_aisle);
-        println!("slow cells in {} of all", self.slow);
+        println!("   {:16}  {:6}  {:24}", "aisle", self.aisle, self.slow_aisle);
+        println!("slow cells in {} of all, several goals in {}", self.slow, self.several);
+        println!("table files read: {} of edition 1, {} of edition 2", self.editions[0], self.editions[1]);
         let [arrived, forward, backed_out, stayed, refused] = self.decisions;
         let (cuts, by_8) = (self.cuts, self.refused_on_backing_out);
         print!("decisions: {arrived} arrived, {forward} forward ({cuts} cut the path), {backed_out} backed out, ");
@@ -315,11 +358,14 @@ impl Tally {
 
 /// Whether the lowest cells alone would weave on a leg of an accepted decision.
 fn leg_weaves(asked: &[u64], from: usize, end: usize) -> bool {
-    let [width, height, goal, depth] = [1, 2, 6, 7].map(|at| asked[at] as usize);
-    let bytes: Vec<u8> = floor_bytes(asked).unwrap_or_default().iter().map(|&byte| byte as u8).collect();
-    let floor = Floor::new(width, height, &bytes);
+    let (Some((goals, settings)), Some((bytes, _))) = (goals(asked), floor_bytes(asked)) else {
+        return false;
+    };
+    let goals: Vec<usize> = goals.iter().map(|&goal| goal as usize).collect();
+    let bytes: Vec<u8> = bytes.iter().map(|&byte| byte as u8).collect();
+    let floor = Floor::new(asked[1] as usize, asked[2] as usize, &bytes);
     let mut window = Window::new();
-    window.look(&floor, from, goal, depth) && weaves(&floor, &mut window, end)
+    window.look(&floor, from, &goals, settings[0] as usize) && weaves(&floor, &mut window, end)
 }
 
 /// The numbers that an output begins with. Outputs may be longer than inputs, so `calls::numbers` doesn't do.

@@ -1,4 +1,4 @@
-//! One decision: its checks 1 to 5 and 8 to 10, and what it does to state, table, path and moves.
+//! One decision: its checks 1 to 5, 27 and 8 to 10, and what it does to state, table, path and moves.
 
 use crate::checks::{self, Job, CEILING};
 use crate::floor::{is_free_byte, opposite, Floor};
@@ -52,17 +52,17 @@ fn judge_and_decide(
     }
     checks::settings(job.depth, job.p, job.q, job.quota)?;
     let current = checks::free_cell(job.floor, state.current)?;
-    let goal = checks::free_cell(job.floor, job.goal)?;
+    let goals = checks::goal_cells(job.floor, &job.goals)?;
     checks::ceiling(table)?;
-    let length = judge_state(job, state, current, goal, path, cells)?;
-    if current == goal {
+    let length = judge_state(job, state, current, &goals, path, cells)?;
+    if goals.contains(&current) {
         return Ok(Answer::Arrived);
     }
 
     let floor = Floor::new(job.width as usize, job.height as usize, job.floor);
     let depth = job.depth as usize;
     let mut window = Window::new();
-    if !window.look(&floor, current, goal, depth) {
+    if !window.look(&floor, current, &goals, depth) {
         return Err(Refusal::plain(9));
     }
     let best = window.best(table, job.p as u32);
@@ -89,7 +89,7 @@ fn judge_and_decide(
         return Ok(Answer::Stayed { rise });
     }
     let taken_off = usize::from(path[length - 1]);
-    if !window.look(&floor, taken_off, goal, depth) || !window.on_last_ring(current) {
+    if !window.look(&floor, taken_off, &goals, depth) || !window.on_last_ring(current) {
         return Err(Refusal::plain(8));
     }
     store(table, current, rise);
@@ -106,7 +106,7 @@ fn judge_state(
     job: &Job,
     state: &State,
     current: usize,
-    goal: usize,
+    goals: &[usize],
     path: &[u16],
     cells: usize,
 ) -> Result<usize, Refusal> {
@@ -116,8 +116,9 @@ fn judge_state(
     }
     let length = state.length as usize;
     let mut seen = vec![false; cells];
-    seen[current] = true;
-    seen[goal] = true;
+    for &cell in goals.iter().chain([&current]) {
+        seen[cell] = true;
+    }
     for &cell in &path[..length] {
         let cell = usize::from(cell);
         if !job.floor.get(cell).is_some_and(|&byte| is_free_byte(byte)) || seen[cell] {

@@ -56,13 +56,13 @@ impl Window {
         }
     }
 
-    /// Works out rings and w from `from`, which is free and isn't the goal.
-    /// Answers false when a ring up to the depth is empty and the goal is in none before it.
-    pub fn look(&mut self, floor: &Floor, from: usize, goal: usize, depth: usize) -> bool {
+    /// Works out rings and w from `from`, which is free and no goal.
+    /// Answers false when a ring up to the depth is empty and no goal is in one before it.
+    pub fn look(&mut self, floor: &Floor, from: usize, goals: &[usize], depth: usize) -> bool {
         if floor.has_slow() {
-            self.look_by::<true>(floor, from, goal, depth)
+            self.look_by::<true>(floor, from, goals, depth)
         } else {
-            self.look_by::<false>(floor, from, goal, depth)
+            self.look_by::<false>(floor, from, goals, depth)
         }
     }
 
@@ -70,7 +70,7 @@ impl Window {
         &mut self,
         floor: &Floor,
         from: usize,
-        goal: usize,
+        goals: &[usize],
         depth: usize,
     ) -> bool {
         for &cell in &self.cells {
@@ -113,9 +113,6 @@ impl Window {
                             self.ring[y & CELL_MASK] = k as u8 + 1;
                             self.cost[y & CELL_MASK] = new;
                             self.cells.push(y as u16);
-                            if y == goal {
-                                last_ring = k + 1;
-                            }
                         }
                     } else if new < self.cost[y & CELL_MASK] {
                         self.cost[y & CELL_MASK] = new;
@@ -129,6 +126,10 @@ impl Window {
                 break;
             }
             k += 1;
+            // The ring that has just grown is the first that can hold a goal, and then it is the last.
+            if goals.iter().any(|&goal| self.ring[goal & CELL_MASK] != OUTSIDE) {
+                last_ring = k;
+            }
         }
         self.last_ring = last_ring;
         self.settle::<HAS_SLOW>(floor);
@@ -308,7 +309,7 @@ pub(crate) mod tests {
     const MOST_MOVES_OF_W: usize = 22;
 
     impl Plain {
-        fn new(width: usize, bytes: &[u8], from: usize, goal: usize, depth: usize) -> Plain {
+        fn new(width: usize, bytes: &[u8], from: usize, goals: &[usize], depth: usize) -> Plain {
             let cells = bytes.len();
             let mut pairs = Vec::new();
             for (x, y) in (0..cells).flat_map(|x| (0..cells).map(move |y| (x, y))) {
@@ -325,7 +326,7 @@ pub(crate) mod tests {
                     }
                 }
             }
-            let last = depth.min(ring[goal]);
+            let last = goals.iter().map(|&goal| ring[goal]).fold(depth, usize::min);
             let mut plain =
                 Plain { from, pairs, ring, last, by_moves: Vec::new(), w: Vec::new(), n: Vec::new() };
             plain.find_walks();
@@ -407,12 +408,12 @@ pub(crate) mod tests {
         }
     }
 
-    /// A floor with a place to look from, a goal and a depth.
+    /// A floor with a place to look from, goals and a depth.
     struct Case {
         width: usize,
         bytes: Vec<u8>,
         from: usize,
-        goal: usize,
+        goals: Vec<usize>,
         depth: usize,
     }
 
@@ -430,13 +431,17 @@ pub(crate) mod tests {
             if seed / 2 % 2 == 0 {
                 slow::lay(&mut bytes, width, &mut dice);
             }
-            let (from, goal) = (dice.index(bytes.len()), dice.index(bytes.len()));
+            let from = dice.index(bytes.len());
+            // In any order, since a lookahead doesn't ask for one.
+            let mut goals: Vec<usize> =
+                (0..dice.pick(&[1, 1, 2, 3, 4])).map(|_| dice.index(bytes.len())).collect();
+            goals.retain(|&goal| is_free_byte(bytes[goal]));
             if seed % 5 == 0 {
                 let bend = bends::bend(&mut dice);
-                let (from, goal, depth) = (bend.start, bend.end, bend.depth as usize);
-                return Case { width: bend.width, bytes: bend.floor, from, goal, depth };
+                let (from, goals, depth) = (bend.start, vec![bend.end], bend.depth as usize);
+                return Case { width: bend.width, bytes: bend.floor, from, goals, depth };
             }
-            Case { width, bytes, from, goal, depth }
+            Case { width, bytes, from, goals, depth }
         }
 
         /// Floors where cheapest walks of more and of fewer moves are common.
@@ -444,12 +449,13 @@ pub(crate) mod tests {
             let mut dice = Dice::new(seed);
             let kit = weaving::littered_kit(false, &mut dice);
             let from = dice.index(kit.cells());
-            Case { width: kit.width, bytes: kit.floor, from, goal: kit.goal, depth: kit.depth as usize }
+            Case { width: kit.width, bytes: kit.floor, from, goals: kit.goals, depth: kit.depth as usize }
         }
 
         fn is_good(&self) -> bool {
-            self.from != self.goal
-                && [self.from, self.goal].iter().all(|&cell| is_free_byte(self.bytes[cell]))
+            !self.goals.is_empty()
+                && !self.goals.contains(&self.from)
+                && self.goals.iter().chain([&self.from]).all(|&cell| is_free_byte(self.bytes[cell]))
         }
 
         fn floor(&self) -> Floor {
@@ -457,7 +463,7 @@ pub(crate) mod tests {
         }
 
         fn plain(&self) -> Plain {
-            Plain::new(self.width, &self.bytes, self.from, self.goal, self.depth)
+            Plain::new(self.width, &self.bytes, self.from, &self.goals, self.depth)
         }
     }
 
@@ -469,7 +475,7 @@ pub(crate) mod tests {
 
     #[test]
     fn lookahead_is_the_one_of_the_papers() {
-        let (mut looks, mut slows, mut longer, mut empty) = (0, 0, 0, 0);
+        let (mut looks, mut slows, mut longer, mut empty, mut by_another) = (0, 0, 0, 0, 0);
         let mut window = Window::new();
         for seed in 0..1_500 {
             let case = Case::any(seed);
@@ -477,9 +483,10 @@ pub(crate) mod tests {
                 continue;
             }
             let (floor, plain) = (case.floor(), case.plain());
-            let looked = window.look(&floor, case.from, case.goal, case.depth);
-            let ring_of_goal = plain.ring[case.goal];
-            let some_empty = (1..=case.depth).any(|k| plain.on_ring(k).is_empty() && ring_of_goal >= k);
+            let looked = window.look(&floor, case.from, &case.goals, case.depth);
+            let nearest = case.goals.iter().map(|&goal| plain.ring[goal]).min().unwrap();
+            by_another += usize::from(plain.ring[case.goals[0]] > nearest && nearest < case.depth);
+            let some_empty = (1..=case.depth).any(|k| plain.on_ring(k).is_empty() && nearest >= k);
             assert_eq!(looked, !some_empty);
             if !looked {
                 empty += 1;
@@ -503,6 +510,8 @@ pub(crate) mod tests {
         }
         // Doc 01's "errors that look right": some w needs more moves than the ring.
         assert!(looks > 300 && slows > 150 && longer > 50 && empty > 20, "{looks} {slows} {longer} {empty}");
+        // And some last ring is a nearer goal's than the first one's.
+        assert!(by_another > 50, "{by_another}");
     }
 
     #[test]
@@ -511,7 +520,7 @@ pub(crate) mod tests {
         let mut window = Window::new();
         for case in (0..3_000).map(Case::littered).filter(Case::is_good) {
             let (floor, plain) = (case.floor(), case.plain());
-            if !window.look(&floor, case.from, case.goal, case.depth) {
+            if !window.look(&floor, case.from, &case.goals, case.depth) {
                 continue;
             }
             for target in plain.on_ring(plain.last) {
@@ -540,7 +549,7 @@ pub(crate) mod tests {
         for mut case in (0..1_000).map(Case::any).filter(Case::is_good) {
             case.bytes.iter_mut().filter(|byte| **byte == SLOW).for_each(|byte| *byte = FREE);
             let (floor, plain) = (case.floor(), case.plain());
-            if !window.look(&floor, case.from, case.goal, case.depth) {
+            if !window.look(&floor, case.from, &case.goals, case.depth) {
                 continue;
             }
             for target in plain.on_ring(plain.last) {

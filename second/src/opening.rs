@@ -1,58 +1,64 @@
-//! Opening a job: the opening figures, the true distances, and the checks 1 to 7.
+//! Opening a job: the opening figures, the true distances, and the checks 1 to 7 and 27.
 
-use crate::checks::{self, Job};
+use crate::checks::{self, Goals, Job};
 use crate::floor::Floor;
 use crate::refusal::Refusal;
 
-/// The distance of a cell from which no walk leads to the goal.
+/// The distance of a cell from which no walk leads to a goal.
 pub const NO_WAY: u32 = u32::MAX;
 
-/// The opening figure of a cell, blocked or free.
-pub fn opening_figure(width: usize, cell: usize, goal: usize, q: u32) -> u32 {
-    let dx = (cell % width).abs_diff(goal % width) as u32;
-    let dy = (cell / width).abs_diff(goal / width) as u32;
-    q * (14 * dx.min(dy) + 10 * dx.abs_diff(dy))
+/// The opening figure of a cell, blocked or free: the least over the goals.
+pub fn opening_figure(width: usize, cell: usize, goals: &[usize], q: u32) -> u32 {
+    let figure = |&goal: &usize| {
+        let dx = (cell % width).abs_diff(goal % width) as u32;
+        let dy = (cell / width).abs_diff(goal / width) as u32;
+        q * (14 * dx.min(dy) + 10 * dx.abs_diff(dy))
+    };
+    goals.iter().map(figure).min().unwrap_or(0)
 }
 
 /// The opening figures of all cells, into a table as long as the floor.
-pub fn fill(width: usize, goal: usize, q: u32, table: &mut [u32]) {
+pub fn fill(width: usize, goals: &[usize], q: u32, table: &mut [u32]) {
     for (cell, figure) in table.iter_mut().enumerate() {
-        *figure = opening_figure(width, cell, goal, q);
+        *figure = opening_figure(width, cell, goals, q);
     }
 }
 
-/// The public call that fills a table with opening figures; judges 1, 3 and 4.
+/// The public call that fills a table with opening figures; judges 1, 3, 4 and 27.
 pub fn opening_table(
     width: u64,
     height: u64,
-    goal: u64,
+    goals: &Goals,
     q: u64,
     floor: &[u8],
     table: &mut [u32],
 ) -> Result<(), Refusal> {
-    let goal = checks::table_job(width, height, goal, q, floor, table)?;
-    fill(width as usize, goal, q as u32, table);
+    let goals = checks::table_job(width, height, goals, q, floor, table)?;
+    fill(width as usize, &goals, q as u32, table);
     Ok(())
 }
 
-/// The true distance of every cell, by Dijkstra from the goal; `NO_WAY` where there is none.
-pub fn distances(floor: &Floor, goal: usize) -> Vec<u32> {
+/// The true distance of every cell, which is to the nearest goal: by Dijkstra from all goals at once. `NO_WAY` where there
+/// is none.
+pub fn distances(floor: &Floor, goals: &[usize]) -> Vec<u32> {
     if floor.has_slow() {
-        distances_by::<true>(floor, goal)
+        distances_by::<true>(floor, goals)
     } else {
-        distances_by::<false>(floor, goal)
+        distances_by::<false>(floor, goals)
     }
 }
 
-fn distances_by<const HAS_SLOW: bool>(floor: &Floor, goal: usize) -> Vec<u32> {
+fn distances_by<const HAS_SLOW: bool>(floor: &Floor, goals: &[usize]) -> Vec<u32> {
     let mut distance = vec![NO_WAY; floor.cells()];
     // Every move costs an even number and at most 28, so all waiting cells lie within 14 steps of two from the cost in
     // hand, and 16 buckets used in turn do.
     let mut buckets: [Vec<u16>; 16] = Default::default();
-    let mut waiting = 1usize;
+    let mut waiting = goals.len();
     let mut cost = 0u32;
-    distance[goal] = 0;
-    buckets[0].push(goal as u16);
+    for &goal in goals {
+        distance[goal] = 0;
+        buckets[0].push(goal as u16);
+    }
     while waiting > 0 {
         let bucket = cost as usize / 2 % 16;
         let mut cells = std::mem::take(&mut buckets[bucket]);
@@ -67,7 +73,7 @@ fn distances_by<const HAS_SLOW: bool>(floor: &Floor, goal: usize) -> Vec<u32> {
             while exits != 0 {
                 let way = exits.trailing_zeros() as usize;
                 exits &= exits - 1;
-                // Moves between free cells go both ways at one cost, so walking from the goal measures walks to it.
+                // Moves between free cells go both ways at one cost, so walking from the goals measures walks to them.
                 let y = floor.after(x, way);
                 let new = cost + prices[way & 7];
                 if new < distance[y] {
@@ -83,9 +89,9 @@ fn distances_by<const HAS_SLOW: bool>(floor: &Floor, goal: usize) -> Vec<u32> {
     distance
 }
 
-/// 6 and 7: a walk from start to goal exists, and no cell that can reach the goal is above its true figure.
-fn judge_ways(floor: &Floor, start: usize, goal: usize, q: u32, table: &[u32]) -> Result<(), Refusal> {
-    let distance = distances(floor, goal);
+/// 6 and 7: a walk from start to some goal exists, and no cell that can reach one is above its true figure.
+fn judge_ways(floor: &Floor, start: usize, goals: &[usize], q: u32, table: &[u32]) -> Result<(), Refusal> {
+    let distance = distances(floor, goals);
     if distance[start] == NO_WAY {
         return Err(Refusal::plain(6));
     }
@@ -100,14 +106,14 @@ fn judge_ways(floor: &Floor, start: usize, goal: usize, q: u32, table: &[u32]) -
 pub struct Opened {
     pub floor: Floor,
     pub start: usize,
-    pub goal: usize,
+    pub goals: Vec<usize>,
     pub depth: usize,
     pub p: u32,
     pub q: u32,
     pub quota: u64,
 }
 
-/// Judges 1 to 7 in order. `lists` is the caller's number 2 (path list, reports), `trials` its own part of 3.
+/// Judges 1 to 4, 27 and 5 to 7, in this order. `lists` is the caller's number 2 (path list, reports), `trials` its own part of 3.
 pub fn open_with(
     job: &Job,
     start: u64,
@@ -124,14 +130,14 @@ pub fn open_with(
         checks::trials(trials)?;
     }
     let start = checks::free_cell(job.floor, start)?;
-    let goal = checks::free_cell(job.floor, job.goal)?;
+    let goals = checks::goal_cells(job.floor, &job.goals)?;
     checks::ceiling(table)?;
     let floor = Floor::new(job.width as usize, job.height as usize, job.floor);
-    judge_ways(&floor, start, goal, job.q as u32, table)?;
+    judge_ways(&floor, start, &goals, job.q as u32, table)?;
     Ok(Opened {
         floor,
         start,
-        goal,
+        goals,
         depth: job.depth as usize,
         p: job.p as u32,
         q: job.q as u32,
@@ -155,7 +161,7 @@ mod tests {
     /// True distances by the papers' words, lowered move by move until none falls, on many small floors, half of them with slow cells.
     #[test]
     fn distances_are_the_ones_of_the_papers() {
-        let (mut tried, mut doubled) = (0, 0);
+        let (mut tried, mut several, mut doubled) = (0, 0, 0);
         for seed in 0..600u64 {
             let mut dice = Dice::new(seed);
             let (width, height) = (dice.from_to(1, 10) as usize, dice.from_to(1, 10) as usize);
@@ -164,8 +170,11 @@ mod tests {
                 slow::lay(&mut bytes, width, &mut dice);
             }
             let cells = bytes.len();
-            let goal = dice.index(cells);
-            if !is_free_byte(bytes[goal]) {
+            let mut goals: Vec<usize> = (0..dice.from_to(1, 4)).map(|_| dice.index(cells)).collect();
+            goals.retain(|&goal| is_free_byte(bytes[goal]));
+            goals.sort_unstable();
+            goals.dedup();
+            if goals.is_empty() {
                 continue;
             }
             let pairs: Vec<(usize, usize, u32)> = (0..cells * cells)
@@ -175,7 +184,7 @@ mod tests {
                 })
                 .collect();
             let mut plain = vec![NO_WAY; cells];
-            plain[goal] = 0;
+            goals.iter().for_each(|&goal| plain[goal] = 0);
             let mut falls = true;
             while falls {
                 falls = false;
@@ -186,7 +195,7 @@ mod tests {
                 }
             }
             let floor = Floor::new(width, height, &bytes);
-            assert_eq!(distances(&floor, goal), plain);
+            assert_eq!(distances(&floor, &goals), plain);
             assert!(pairs.iter().all(|&(x, y, cost)| {
                 (0..8).any(|way| {
                     floor.exits(x) & (1 << way) != 0
@@ -195,8 +204,9 @@ mod tests {
                 })
             }));
             tried += 1;
+            several += usize::from(goals.len() > 1);
             doubled += usize::from(pairs.iter().any(|&(_, _, cost)| cost >= 20));
         }
-        assert!(tried > 300 && doubled > 150, "{tried} {doubled}");
+        assert!(tried > 300 && several > 150 && doubled > 150, "{tried} {several} {doubled}");
     }
 }

@@ -1,12 +1,14 @@
-//! The self-check of demand 3: its promises of figures, decisions, kept cost and travel, tried on random jobs.
+//! The self-check of demand 3: its promises of figures, decisions, kept cost and travel, tried on random jobs of one goal
+//! and of several; and what is promised of distances, of goals that close and of table files.
 
-use crate::checks::Job;
+use crate::checks::{Goals, Job};
 use crate::decision::{decide, Answer, State};
 use crate::floor::{is_free_byte, Floor, FREE, SLOW};
 use crate::lookahead::MOST_MOVES;
 use crate::make::dice::Dice;
 use crate::make::jobs::{self, Kit};
 use crate::opening::{self, distances, NO_WAY};
+use crate::refusal::Refusal;
 use crate::table_file;
 use crate::trial::{Cart, Counts};
 
@@ -49,7 +51,7 @@ pub fn check_job(kit: &Kit) -> Result<(), String> {
             break;
         }
     }
-    Ok(())
+    check_closing(kit, &table)
 }
 
 /// One trial; none when it was too long for a self-check.
@@ -103,11 +105,11 @@ fn check_trial(kit: &Kit, job: &Job, table: &mut [u32], path: &mut [u16]) -> Res
     holds(table == whole_table, "a trial's table isn't that of its decisions")?;
     holds(path == whole_path, "a trial's path isn't that of its decisions")?;
     holds(all_moves == whole_moves, "a trial's moves aren't those of its decisions")?;
-    holds(state.current == kit.goal as u64, "the moves don't lead to the goal")?;
+    holds(kit.goals.contains(&(state.current as usize)), "the moves don't lead to a goal")?;
 
     let distance = u64::from(kit.distance[kit.start]);
     holds(kit.p * counts.kept <= kit.q * (distance + kit.quota), "the kept way costs too much")?;
-    holds(counts.kept >= distance || kit.start == kit.goal, "the kept way is cheaper than any way")?;
+    holds(counts.kept >= distance, "the kept way is cheaper than any way")?;
     holds(
         counts.learned > 0 || kit.p * counts.travel <= kit.q * distance,
         "a trial that learned nothing travels too far",
@@ -137,10 +139,31 @@ fn walk(kit: &Kit, from: usize, moves: &[u8]) -> Option<(usize, u64)> {
     Some((y as usize * kit.width + x as usize, cost))
 }
 
-/// Slow cells close no way; they make a distance no less, and at most twice, what it is with them as ordinary free cells.
+/// A table that is sound for some goals is sound where one of them closes, since no distance falls by that.
+fn check_closing(kit: &Kit, table: &[u32]) -> Result<(), String> {
+    for &closed in kit.goals.iter().filter(|_| kit.goals.len() > 1) {
+        let left: Vec<u64> =
+            kit.goals.iter().filter(|&&goal| goal != closed).map(|&goal| goal as u64).collect();
+        let job = Job { goals: Goals::named(&left), ..kit.job() };
+        match opening::open(&job, kit.start as u64, table) {
+            Ok(_) | Err(Refusal { number: 6, .. }) => {}
+            Err(refusal) => return Err(format!("refused where a goal closes: {refusal:?}")),
+        }
+    }
+    Ok(())
+}
+
+/// A distance is the least of those to each goal. Slow cells close no way; they make a distance no less, and at most twice, what it is with them as ordinary free cells.
 fn check_distances(kit: &Kit) -> Result<(), String> {
+    let floor = Floor::new(kit.width, kit.height, &kit.floor);
+    let to_each: Vec<Vec<u32>> = kit.goals.iter().map(|&goal| distances(&floor, &[goal])).collect();
+    let nearest = |cell: usize| to_each.iter().map(|distance| distance[cell]).min();
+    holds(
+        (0..kit.cells()).all(|cell| nearest(cell) == Some(kit.distance[cell])),
+        "a distance isn't to the nearest goal",
+    )?;
     let ordinary: Vec<u8> = kit.floor.iter().map(|&byte| if byte == SLOW { FREE } else { byte }).collect();
-    let ordinary = distances(&Floor::new(kit.width, kit.height, &ordinary), kit.goal);
+    let ordinary = distances(&Floor::new(kit.width, kit.height, &ordinary), &kit.goals);
     let fits = |(&slow, &plain): (&u32, &u32)| match plain {
         NO_WAY => slow == NO_WAY,
         _ => (plain..=2 * plain).contains(&slow),
@@ -150,19 +173,40 @@ fn check_distances(kit: &Kit) -> Result<(), String> {
 
 /// A table that can be written reads back the same and writes the same bytes again, also behind older material.
 fn check_file(kit: &Kit, table: &[u32]) -> Result<(), String> {
-    let (width, height, goal) = (kit.width as u64, kit.height as u64, kit.goal as u64);
-    let mut file = vec![0xAA; 16 + 6 * kit.cells() + 3];
-    let Ok(length) = table_file::write(width, height, goal, kit.q, &kit.floor, table, &mut file) else {
+    let (width, height, goals) = (kit.width as u64, kit.height as u64, kit.goals_as_told());
+    let mut file = vec![0xAA; 24 + 6 * kit.cells() + 3];
+    let Ok(length) = table_file::write(width, height, &goals, kit.q, &kit.floor, table, &mut file) else {
         return Ok(());
     };
     holds(file[length..].iter().all(|&byte| byte == 0xAA), "the writer touched bytes beyond its length")?;
     let mut with_older = b"older".to_vec();
     with_older.extend_from_slice(&file[..length]);
     let mut again = vec![7u32; kit.cells()];
-    table_file::read(width, height, goal, kit.q, &kit.floor, &with_older, &mut again)
+    table_file::read(width, height, &goals, kit.q, &kit.floor, &with_older, &mut again)
         .map_err(|refusal| format!("a written table is refused: {refusal:?}"))?;
     holds(again == table, "a written table reads back differently")?;
     let mut file_again = vec![0u8; length];
-    let written = table_file::write(width, height, goal, kit.q, &kit.floor, &again, &mut file_again);
-    holds(written == Ok(length) && file_again == file[..length], "a read table writes other bytes")
+    let written = table_file::write(width, height, &goals, kit.q, &kit.floor, &again, &mut file_again);
+    holds(written == Ok(length) && file_again == file[..length], "a read table writes other bytes")?;
+    check_first_edition(kit, table, &file[..length - 24])
+}
+
+/// The same records with a trailer of edition 1 read as the same table where there is one goal, and are refused by 14 where
+/// there are several.
+fn check_first_edition(kit: &Kit, table: &[u32], records: &[u8]) -> Result<(), String> {
+    let mut file = records.to_vec();
+    file.extend([kit.width as u8, kit.height as u8]);
+    file.extend((kit.goals[0] as u16).to_be_bytes());
+    file.extend([kit.q as u8, 1]);
+    file.extend((records.len() as u16 / 6).to_be_bytes());
+    file.extend((records.len() as u32 + 16).to_be_bytes());
+    file.extend(b"PDLT");
+    let (width, height, goals) = (kit.width as u64, kit.height as u64, kit.goals_as_told());
+    let mut again = vec![7u32; kit.cells()];
+    let read = table_file::read(width, height, &goals, kit.q, &kit.floor, &file, &mut again);
+    if kit.goals.len() == 1 {
+        holds(read == Ok(()) && again == table, "an edition 1 file reads differently")
+    } else {
+        holds(read == Err(Refusal::plain(14)), "an edition 1 file is taken for several goals")
+    }
 }

@@ -1,42 +1,72 @@
-//! The table file: its trailer, the finder of its records, its reader and its writer.
+//! The table file: its trailer in both editions, the finder of its records, its reader and its writer.
 
-use crate::checks;
-use crate::checks::CEILING;
+use crate::checks::{self, Goals, CEILING, MOST_GOALS};
 use crate::floor::is_free_byte;
 use crate::opening::opening_figure;
 use crate::refusal::Refusal;
 
 const RECORD: usize = 6;
-const TRAILER: usize = 16;
 const LETTERS: &[u8; 4] = b"PDLT";
-const EDITION: u8 = 1;
 
-struct Trailer {
-    width: u8,
-    height: u8,
-    goal: u16,
-    q: u8,
-    back: usize,
+/// Both editions end alike: edition (1), count (2), back (4), letters (4). Ahead of that stands the job.
+const ENDING: usize = 11;
+
+/// The job of an edition 1 trailer: width, height, its one goal (2) and q.
+const FIRST_EDITION: u8 = 1;
+const FIRST_JOB: usize = 5;
+
+/// The job of an edition 2 trailer, which is the one written: width, height, goal count, a zero, four places (2 each) and q.
+const EDITION: u8 = 2;
+const JOB: usize = 5 + 2 * MOST_GOALS;
+const ZERO_AT: usize = 3;
+
+/// The place of a goal that the job doesn't have.
+const NO_GOAL: u16 = u16::MAX;
+
+struct Trailer<'a> {
+    edition: u8,
+    job: &'a [u8],
+    records: &'a [u8],
 }
 
 /// Judges a file by 13.
-fn trailer(file: &[u8]) -> Result<Trailer, Refusal> {
+fn trailer(file: &[u8]) -> Result<Trailer<'_>, Refusal> {
     let fault = Refusal::plain(13);
-    let begin = file.len().checked_sub(TRAILER).ok_or(fault)?;
-    let bytes = &file[begin..];
-    let count = u16::from_be_bytes([bytes[6], bytes[7]]);
-    let back = u32::from_be_bytes([bytes[8], bytes[9], bytes[10], bytes[11]]);
-    let back_fits = u64::from(back) == TRAILER as u64 + RECORD as u64 * u64::from(count);
-    if &bytes[12..] != LETTERS || bytes[5] != EDITION || !back_fits || u64::from(back) > file.len() as u64 {
+    let (ahead, ending) = file.split_at(file.len().checked_sub(ENDING).ok_or(fault)?);
+    let edition = ending[0];
+    let job_length = match edition {
+        FIRST_EDITION => FIRST_JOB,
+        EDITION => JOB,
+        _ => return Err(fault),
+    };
+    let (ahead, job) = ahead.split_at(ahead.len().checked_sub(job_length).ok_or(fault)?);
+    let count = usize::from(u16::from_be_bytes([ending[1], ending[2]]));
+    let back = u32::from_be_bytes([ending[3], ending[4], ending[5], ending[6]]);
+    let back_fits = back as usize == job_length + ENDING + RECORD * count;
+    let zero_fits = edition == FIRST_EDITION || job[ZERO_AT] == 0;
+    if &ending[7..] != LETTERS || !back_fits || !zero_fits {
         return Err(fault);
     }
-    Ok(Trailer {
-        width: bytes[0],
-        height: bytes[1],
-        goal: u16::from_be_bytes([bytes[2], bytes[3]]),
-        q: bytes[4],
-        back: back as usize,
-    })
+    let begin = ahead.len().checked_sub(RECORD * count).ok_or(fault)?;
+    Ok(Trailer { edition, job, records: &ahead[begin..] })
+}
+
+/// What a trailer of an edition tells of a job; none of a job that the edition can't tell of.
+fn told(edition: u8, width: usize, height: usize, goals: &[usize], q: u32) -> Option<Vec<u8>> {
+    let mut job = vec![width as u8, height as u8];
+    match (edition, goals) {
+        (FIRST_EDITION, &[goal]) => job.extend((goal as u16).to_be_bytes()),
+        (FIRST_EDITION, _) => return None,
+        _ => {
+            job.extend([goals.len() as u8, 0]);
+            for at in 0..MOST_GOALS {
+                let place = goals.get(at).map_or(NO_GOAL, |&goal| goal as u16);
+                job.extend(place.to_be_bytes());
+            }
+        }
+    }
+    job.push(q as u8);
+    Some(job)
 }
 
 /// The public check of a file's trailer.
@@ -46,10 +76,7 @@ pub fn check_trailer(file: &[u8]) -> Result<(), Refusal> {
 
 /// The records of a file, trailer left off; the empty part when the trailer is faulty by 13.
 pub fn find_records(file: &[u8]) -> &[u8] {
-    match trailer(file) {
-        Ok(trailer) => &file[file.len() - trailer.back..file.len() - TRAILER],
-        Err(_) => &[],
-    }
+    trailer(file).map_or(&[], |trailer| trailer.records)
 }
 
 fn record(bytes: &[u8]) -> (usize, u32) {
@@ -76,35 +103,33 @@ fn record_fault(
     }
 }
 
-/// The public reader: judges 1, 3, 4, 13, 14 and 18 to 22, and fills the table only when all is well.
+/// The public reader: judges 1, 3, 4, 27, 13, 14 and 18 to 22, and fills the table only when all is well.
 pub fn read(
     width: u64,
     height: u64,
-    goal: u64,
+    goals: &Goals,
     q: u64,
     floor: &[u8],
     file: &[u8],
     table: &mut [u32],
 ) -> Result<(), Refusal> {
-    let goal = checks::table_job(width, height, goal, q, floor, table)?;
-    let (width, q) = (width as usize, q as u32);
-    let trailer = trailer(file)?;
-    let same_sizes = usize::from(trailer.width) == width && u64::from(trailer.height) == height;
-    if !same_sizes || usize::from(trailer.goal) != goal || u32::from(trailer.q) != q {
+    let goals = checks::table_job(width, height, goals, q, floor, table)?;
+    let (width, height, q) = (width as usize, height as usize, q as u32);
+    let Trailer { edition, job, records } = trailer(file)?;
+    if told(edition, width, height, &goals, q).as_deref() != Some(job) {
         return Err(Refusal::plain(14));
     }
 
-    let records = find_records(file);
     let mut before = None;
     for (number, bytes) in records.chunks_exact(RECORD).enumerate() {
         let (cell, figure) = record(bytes);
-        let opening = opening_figure(width, cell, goal, q);
+        let opening = opening_figure(width, cell, &goals, q);
         if let Some(fault) = record_fault(floor.get(cell), before, cell, figure, opening) {
             return Err(Refusal::at_record(fault, number));
         }
         before = Some(cell);
     }
-    crate::opening::fill(width, goal, q, table);
+    crate::opening::fill(width, &goals, q, table);
     for bytes in records.chunks_exact(RECORD) {
         let (cell, figure) = record(bytes);
         table[cell] = figure;
@@ -112,19 +137,19 @@ pub fn read(
     Ok(())
 }
 
-/// The public writer: judges 1, 3, 4, 5, 16 and 17, and answers how many bytes it wrote.
+/// The public writer, of edition 2: judges 1, 3, 4, 27, 5, 16 and 17, and answers how many bytes it wrote.
 pub fn write(
     width: u64,
     height: u64,
-    goal: u64,
+    goals: &Goals,
     q: u64,
     floor: &[u8],
     table: &[u32],
     file: &mut [u8],
 ) -> Result<usize, Refusal> {
-    let goal = checks::table_job(width, height, goal, q, floor, table)?;
+    let goals = checks::table_job(width, height, goals, q, floor, table)?;
     checks::ceiling(table)?;
-    let opening = |cell: usize| opening_figure(width as usize, cell, goal, q as u32);
+    let opening = |cell: usize| opening_figure(width as usize, cell, &goals, q as u32);
     let mut count = 0usize;
     for (cell, &figure) in table.iter().enumerate() {
         let blocked = !is_free_byte(floor[cell]);
@@ -133,7 +158,7 @@ pub fn write(
         }
         count += usize::from(figure != opening(cell));
     }
-    let back = TRAILER + RECORD * count;
+    let back = JOB + ENDING + RECORD * count;
     if file.len() < back {
         return Err(Refusal::plain(17));
     }
@@ -149,9 +174,8 @@ pub fn write(
             put(&figure.to_be_bytes());
         }
     }
-    put(&[width as u8, height as u8]);
-    put(&(goal as u16).to_be_bytes());
-    put(&[q as u8, EDITION]);
+    put(&told(EDITION, width as usize, height as usize, &goals, q as u32).unwrap_or_default());
+    put(&[EDITION]);
     put(&(count as u16).to_be_bytes());
     put(&(back as u32).to_be_bytes());
     put(LETTERS);

@@ -25,7 +25,7 @@ impl Kit {
                 return None;
             }
             let goal = dice.pick(&free);
-            let distance = distances(&map, goal);
+            let distance = distances(&map, &[goal]);
             let reached = free.iter().filter(|&&cell| distance[cell] != NO_WAY);
             let start = reached.clone().copied().max_by_key(|&cell| distance[cell])?;
             if reached.count() * 2 >= free.len() {
@@ -34,7 +34,7 @@ impl Kit {
                     height,
                     floor,
                     start,
-                    goal,
+                    goals: vec![goal],
                     depth: 1,
                     p: 1,
                     q: 1,
@@ -50,7 +50,8 @@ impl Kit {
 
     /// The job as an input of `aisle`, so that another program can be timed on it.
     pub fn as_aisle(&self) -> Vec<u8> {
-        let Kit { start, goal, depth, p, q, quota, trials, .. } = self;
+        let Kit { start, goals, depth, p, q, quota, trials, .. } = self;
+        let goal = goals[0];
         let mut input = format!("{start} {goal} {depth} {p} {q} {quota} {trials}\n").into_bytes();
         input.extend(texts::text(&self.floor, self.width, self.height, &mut Dice::new(0)));
         input
@@ -58,10 +59,10 @@ impl Kit {
 
     /// The job as a run for `calls`.
     pub fn as_calls(&self) -> String {
-        let Kit { width, height, start, goal, depth, p, q, quota, trials, .. } = self;
-        let cells = self.floor.len();
+        let Kit { width, height, start, goals, depth, p, q, quota, trials, .. } = self;
+        let (goal, cells) = (goals[0], self.floor.len());
         let mut words =
-            vec![format!("4 {width} {height} {start} {goal} {depth} {p} {q} {quota} {trials} {cells}")];
+            vec![format!("4 {width} {height} {start} 1 {goal} {depth} {p} {q} {quota} {trials} {cells}")];
         words.extend(self.floor.iter().map(u8::to_string));
         words.push(cells.to_string());
         words.extend(self.opening_table().iter().map(u32::to_string));

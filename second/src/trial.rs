@@ -1,4 +1,4 @@
-//! Trial and run: decisions until the goal is reached, and trials until one learns nothing.
+//! Trial and run: decisions until a goal is reached, and trials until one learns nothing.
 
 use crate::checks::Job;
 use crate::decision::reverse;
@@ -13,7 +13,7 @@ pub struct Counts {
     pub decisions: u64,
     /// All rises, backing out included.
     pub learned: u64,
-    /// The legs along the path at the end, the last one into the goal included.
+    /// The legs along the path at the end, the last one into a goal included.
     pub kept: u64,
     /// Every move.
     pub travel: u64,
@@ -58,7 +58,7 @@ pub struct Cart {
     window: Window,
     /// Where on the path each cell stands.
     place: Vec<u16>,
-    /// The cost of the leg that left each path cell. A leg depends on floor, goal and depth alone,
+    /// The cost of the leg that left each path cell. A leg depends on floor, goals and depth alone,
     /// so it holds for as long as the cell is on the path, and going back along it costs the same.
     legs: Vec<u32>,
 }
@@ -80,18 +80,18 @@ impl Cart {
         most: u64,
     ) -> Option<Counts> {
         let Cart { job, window, place, legs } = self;
-        let Opened { floor, start, goal, depth, p, q, quota } = job;
-        let (goal, depth, p) = (*goal, *depth, *p);
+        let Opened { floor, start, goals, depth, p, q, quota } = job;
+        let (depth, p) = (*depth, *p);
         let most_learned = u64::from(*q) * *quota;
         place.fill(OFF_PATH);
         let mut counts = Counts::default();
         let (mut current, mut u, mut length) = (*start, 0u64, 0usize);
-        while current != goal {
+        while !goals.contains(&current) {
             if counts.decisions == most {
                 return None;
             }
             counts.decisions += 1;
-            window.look(floor, current, goal, depth);
+            window.look(floor, current, goals, depth);
             let best = window.best(table, p);
             let rise = best.figure.saturating_sub(table[current]);
             table[current] += rise;
@@ -121,7 +121,7 @@ impl Cart {
                 place[taken_off] = OFF_PATH;
                 counts.travel += u64::from(legs[length]);
                 if let Some(show) = &mut show {
-                    window.look(floor, taken_off, goal, depth);
+                    window.look(floor, taken_off, goals, depth);
                     show(Leg { floor, window, end: current, back: true });
                 }
                 current = taken_off;

@@ -16,6 +16,8 @@ fn every_number_and_call_occurs() {
     assert_eq!(tally.missing(), Vec::<String>::new());
     // About a third of the floors have slow cells.
     assert!((800..1_200).contains(&tally.slow), "{}", tally.slow);
+    // Of the calls that take goals, about four in ten name several.
+    assert!((600..900).contains(&tally.several), "{}", tally.several);
     // And on some the fewest moves are others than the lowest cells alone would give.
     let woven = [tally.woven_decisions, tally.woven_aisle].concat();
     assert!(woven.iter().all(|&count| count > 5), "{woven:?}");

@@ -1,7 +1,7 @@
-//! Every case that document 01 works out, worked again with document 02's corners and ceiling, and cases with slow cells and
-//! with routes of one cost, tried on the library and on both programs.
+//! Every case that document 01 works out, worked again with document 02's corners and ceiling, and cases with slow cells, with
+//! routes of one cost and with several goals, tried on the library and on both programs.
 
-use second::checks::Job;
+use second::checks::{Goals, Job};
 use second::decision::{decide, Answer, State};
 use second::floor::Floor;
 use second::opening::{distances, open, opening_figure, opening_table};
@@ -13,13 +13,17 @@ use second::{aisle, calls, floor_text, table_file};
 const FLOOR: [u8; 9] = [0, 0, 0, 1, 1, 0, 0, 0, 0];
 const START: u64 = 6;
 
+fn one(goal: u64) -> Goals {
+    Goals::named(&[goal])
+}
+
 fn job(depth: u64, p: u64, q: u64, quota: u64) -> Job<'static> {
-    Job { width: 3, height: 3, goal: 0, depth, p, q, quota, floor: &FLOOR }
+    Job { width: 3, height: 3, goals: one(0), depth, p, q, quota, floor: &FLOOR }
 }
 
 fn opening(q: u64) -> Vec<u32> {
     let mut table = vec![0; 9];
-    opening_table(3, 3, 0, q, &FLOOR, &mut table).unwrap();
+    opening_table(3, 3, &one(0), q, &FLOOR, &mut table).unwrap();
     table
 }
 
@@ -52,14 +56,14 @@ impl Walk {
 
 #[test]
 fn true_distances() {
-    let distance = distances(&Floor::new(3, 3, &FLOOR), 0);
+    let distance = distances(&Floor::new(3, 3, &FLOOR), &[0]);
     let worked = [(0, 0), (1, 10), (2, 20), (5, 30), (7, 50), (6, 60), (8, 40)];
     assert!(worked.iter().all(|&(cell, expected)| distance[cell] == expected));
 }
 
 #[test]
 fn p1_opening_figures() {
-    assert_eq!([6, 7, 8].map(|cell| opening_figure(3, cell, 0, 1)), [20, 24, 28]);
+    assert_eq!([6, 7, 8].map(|cell| opening_figure(3, cell, &[0], 1)), [20, 24, 28]);
 }
 
 #[test]
@@ -170,7 +174,7 @@ fn a_cell_shut_in_by_corners_alone() {
 
 #[test]
 fn number_9_in_a_closed_pocket() {
-    let job = Job { width: 3, height: 1, goal: 2, floor: &[0, 1, 0], ..job(1, 1, 1, 0) };
+    let job = Job { width: 3, height: 1, goals: one(2), floor: &[0, 1, 0], ..job(1, 1, 1, 0) };
     let mut state = State { current: 0, u: 0, length: 0 };
     let (mut table, mut path, mut moves) = (vec![20, 10, 0], vec![5; 3], vec![9; 288]);
     let answer = decide(&job, &mut state, &mut table, &mut path, &mut moves, 0);
@@ -180,7 +184,7 @@ fn number_9_in_a_closed_pocket() {
 
 #[test]
 fn number_10_above_the_ceiling() {
-    let job = Job { width: 4, height: 1, goal: 3, floor: &[0, 0, 1, 0], ..job(1, 1, 1, 0) };
+    let job = Job { width: 4, height: 1, goals: one(3), floor: &[0, 0, 1, 0], ..job(1, 1, 1, 0) };
     let mut state = State { current: 0, u: 0, length: 0 };
     let (mut table, mut path, mut moves) = (vec![1_834_560, 1_834_560, 10, 0], vec![5; 4], vec![9; 288]);
     let answer = decide(&job, &mut state, &mut table, &mut path, &mut moves, 0);
@@ -212,8 +216,9 @@ fn bytes(rows: &[&str]) -> Vec<u8> {
 fn cost(rows: &[&str], start: u64, goal: u64) -> u32 {
     let floor = bytes(rows);
     let (width, height) = (rows[0].len() as u64, rows.len() as u64);
-    let distance = distances(&Floor::new(rows[0].len(), rows.len(), &floor), goal as usize)[start as usize];
-    let job = Job { width, height, goal, depth: 1, p: 1, q: 1, quota: 0, floor: &floor };
+    let distance =
+        distances(&Floor::new(rows[0].len(), rows.len(), &floor), &[goal as usize])[start as usize];
+    let job = Job { width, height, goals: one(goal), depth: 1, p: 1, q: 1, quota: 0, floor: &floor };
     let mut table = vec![0; floor.len()];
     table[start as usize] = distance;
     assert!(open(&job, start, &table).is_ok());
@@ -226,10 +231,10 @@ fn cost(rows: &[&str], start: u64, goal: u64) -> u32 {
 fn first_decision(rows: &[&str], start: u64, goal: u64, depth: u64) -> (Answer, Vec<u8>) {
     let floor = bytes(rows);
     let (width, height) = (rows[0].len() as u64, rows.len() as u64);
-    let job = Job { width, height, goal, depth, p: 1, q: 1, quota: 1_000, floor: &floor };
+    let job = Job { width, height, goals: one(goal), depth, p: 1, q: 1, quota: 1_000, floor: &floor };
     let mut state = State { current: start, u: 0, length: 0 };
     let (mut table, mut path, mut moves) = (vec![0; floor.len()], vec![0; floor.len()], vec![9; 288]);
-    opening_table(width, height, goal, 1, &floor, &mut table).unwrap();
+    opening_table(width, height, &one(goal), 1, &floor, &mut table).unwrap();
     let answer = decide(&job, &mut state, &mut table, &mut path, &mut moves, 0);
     let count = moves.iter().position(|&way| way == 9).unwrap();
     (answer, moves[..count].to_vec())
@@ -339,7 +344,7 @@ fn a_trial_forward_and_back_by_fewest_moves() {
 fn bytes_above_2_are_blocked() {
     for (byte, refusal) in [(0, None), (1, Some(6)), (2, None), (3, Some(6)), (255, Some(6))] {
         let floor = [0, byte, 0];
-        let job = Job { width: 3, height: 1, goal: 2, floor: &floor, ..job(1, 1, 1, 0) };
+        let job = Job { width: 3, height: 1, goals: one(2), floor: &floor, ..job(1, 1, 1, 0) };
         assert_eq!(open(&job, 0, &[0, 0, 0]).err(), refusal.map(Refusal::plain));
         assert_eq!(open(&job, 1, &[0, 0, 0]).err(), refusal.map(|_| Refusal::plain(4)));
     }
@@ -349,16 +354,16 @@ fn bytes_above_2_are_blocked() {
 fn records_of_slow_cells_and_the_ceiling() {
     let floor = [0, 2, 3, 2];
     let table = [0, 1_834_560, 20, 31];
-    let mut file = [0; 28];
-    assert_eq!(table_file::write(4, 1, 0, 1, &floor, &table, &mut file), Ok(28));
+    let mut file = [0; 36];
+    assert_eq!(table_file::write(4, 1, &one(0), 1, &floor, &table, &mut file), Ok(36));
     let mut again = [7; 4];
-    assert_eq!(table_file::read(4, 1, 0, 1, &floor, &file, &mut again), Ok(()));
+    assert_eq!(table_file::read(4, 1, &one(0), 1, &floor, &file, &mut again), Ok(()));
     assert_eq!(again, table);
     let mut high = file;
     high[5] += 1;
-    let refusal = table_file::read(4, 1, 0, 1, &floor, &high, &mut again);
+    let refusal = table_file::read(4, 1, &one(0), 1, &floor, &high, &mut again);
     assert_eq!(refusal, Err(Refusal::at_record(22, 0)));
-    let refusal = table_file::read(4, 1, 0, 1, &[0, 2, 2, 3], &file, &mut again);
+    let refusal = table_file::read(4, 1, &one(0), 1, &[0, 2, 2, 3], &file, &mut again);
     assert_eq!(refusal, Err(Refusal::at_record(19, 1)));
 }
 
@@ -384,6 +389,241 @@ fn a_floor_text_is_written() {
     assert_eq!(floor_text::write(4, 2, &floor[1..], &mut []), Err(Refusal::plain(1)));
 }
 
+/// What an opening of the worked floor answers, from its start.
+fn opened(goals: &[u64], table: &[u32]) -> Option<Refusal> {
+    open(&Job { goals: Goals::named(goals), ..job(1, 1, 1, 0) }, START, table).err()
+}
+
+#[test]
+fn number_27_stands_between_4_and_5() {
+    let table = opening(1);
+    for goals in [&[] as &[u64], &[0, 0], &[8, 0], &[0, 1, 5, 2], &[0, 1, 2, 5, 8], &[0, 1, 2, 5, 9]] {
+        assert_eq!(opened(goals, &table), Some(Refusal::plain(27)));
+        assert_eq!(opened(goals, &[1_834_561; 9]), Some(Refusal::plain(27)));
+    }
+    for goals in [&[3u64] as &[u64], &[9], &[8, 3], &[0, 1, 2, 3], &[8, 3, 0, 1, 2], &[1 << 32]] {
+        assert_eq!(opened(goals, &table), Some(Refusal::plain(4)));
+    }
+    for goals in [&[0u64] as &[u64], &[0, 8], &[0, 2, 8], &[0, 1, 2, 5]] {
+        assert_eq!(opened(goals, &[0; 9]), None);
+        assert_eq!(opened(goals, &[1_834_561; 9]), Some(Refusal::at_cell(5, 0)));
+    }
+}
+
+#[test]
+fn every_call_that_takes_goals_judges_27() {
+    let goals = Goals::named(&[8, 0]);
+    let fault = Refusal::plain(27);
+    let job = Job { goals, ..job(1, 1, 1, 0) };
+    let (mut table, mut path, mut moves) = (opening(1), vec![5; 9], vec![9; 288]);
+    let mut state = State { current: 0, u: 0, length: 1 };
+    // Also where the cart stands at one of them, and where the path has the other.
+    path[0] = 8;
+    assert_eq!(decide(&job, &mut state, &mut table, &mut path, &mut moves, 0), Answer::Refused(fault));
+    assert_eq!(trial(&job, START, &mut table, &mut path, u64::MAX), Err(Halt::Refused(fault)));
+    let mut reports = [Counts::default(); 1];
+    let ran = run(&job, START, 1, &mut table, &mut path, &mut reports, u64::MAX);
+    assert_eq!(ran, Err(Halt::Refused(fault)));
+    assert_eq!(opening_table(3, 3, &goals, 1, &FLOOR, &mut table), Err(fault));
+    assert_eq!(table_file::write(3, 3, &goals, 1, &FLOOR, &table, &mut [0; 99]), Err(fault));
+    assert_eq!(table_file::read(3, 3, &goals, 1, &FLOOR, &[], &mut table), Err(fault));
+    assert_eq!(table, opening(1));
+}
+
+#[test]
+fn figures_and_distances_are_of_the_nearest_goal() {
+    let mut table = [7; 9];
+    assert_eq!(opening_table(3, 3, &Goals::named(&[0, 8]), 1, &FLOOR, &mut table), Ok(()));
+    assert_eq!(table, [0, 10, 20, 10, 14, 10, 20, 10, 0]);
+    let distance = distances(&Floor::new(3, 3, &FLOOR), &[0, 8]);
+    let worked = [(0, 0), (1, 10), (2, 20), (5, 10), (6, 20), (7, 10), (8, 0)];
+    assert!(worked.iter().all(|&(cell, expected)| distance[cell] == expected));
+    assert_eq!(opened(&[0, 8], &table), None);
+    table[6] = 21;
+    assert_eq!(opened(&[0, 8], &table), Some(Refusal::at_cell(7, 6)));
+    // What was learned for one bench is too high when a nearer one opens, and never when one closes.
+    let learned = [0, 10, 20, 10, 14, 30, 60, 50, 40];
+    assert_eq!(opened(&[0], &learned), None);
+    assert_eq!(opened(&[0, 8], &learned), Some(Refusal::at_cell(7, 5)));
+    assert_eq!(opened(&[0], &[0, 10, 20, 10, 14, 10, 20, 10, 0]), None);
+}
+
+#[test]
+fn number_6_where_no_goal_can_be_reached() {
+    let opened = |floor: &[u8], goals: &[u64]| {
+        let job = Job { width: 5, height: 1, goals: Goals::named(goals), floor, ..job(1, 1, 1, 0) };
+        open(&job, 2, &[0; 5]).err()
+    };
+    assert_eq!(opened(&[0, 1, 0, 1, 0], &[0, 4]), Some(Refusal::plain(6)));
+    assert_eq!(opened(&[0, 1, 0, 0, 0], &[0, 4]), None);
+    assert_eq!(opened(&[0, 0, 0, 1, 0], &[0, 4]), None);
+    assert_eq!(opened(&[0, 1, 0, 0, 0], &[0]), Some(Refusal::plain(6)));
+}
+
+/// A decision on one row of seven with the benches 0 and 6 at its ends, from the opening table or one of zeros: the answer, the
+/// state after it, and the moves.
+fn in_a_row(current: u64, path: &[u16], depth: u64, quota: u64, zeros: bool) -> (Answer, State, Vec<u8>) {
+    let goals = Goals::named(&[0, 6]);
+    let job = Job { width: 7, height: 1, goals, depth, p: 1, q: 1, quota, floor: &[0; 7] };
+    let mut table = vec![0; 7];
+    if !zeros {
+        opening_table(7, 1, &goals, 1, &[0; 7], &mut table).unwrap();
+    }
+    let mut state = State { current, u: 0, length: path.len() as u64 };
+    let (mut list, mut moves) = (vec![0; 7], vec![9; 288]);
+    list[..path.len()].copy_from_slice(path);
+    let answer = decide(&job, &mut state, &mut table, &mut list, &mut moves, 0);
+    let count = moves.iter().position(|&way| way == 9).unwrap();
+    (answer, state, moves[..count].to_vec())
+}
+
+#[test]
+fn the_last_ring_is_the_nearest_goals() {
+    let forward = |target, rise, moves| Answer::Forward { target, rise, moves };
+    let at = |current, u| State { current, u, length: 1 };
+    assert_eq!(in_a_row(2, &[], 8, 1_000, false), (forward(0, 0, 2), at(0, 0), vec![6, 6]));
+    assert_eq!(in_a_row(4, &[], 8, 1_000, false), (forward(6, 0, 2), at(6, 0), vec![2, 2]));
+    assert_eq!(in_a_row(3, &[], 8, 1_000, true), (forward(0, 30, 3), at(0, 30), vec![6, 6, 6]));
+    assert_eq!(in_a_row(3, &[], 2, 1_000, false), (forward(1, 0, 2), at(1, 0), vec![6, 6]));
+}
+
+#[test]
+fn arrived_8_and_9_are_of_any_goal() {
+    let state = |current, length| State { current, u: 0, length };
+    assert_eq!(in_a_row(6, &[], 1, 0, false), (Answer::Arrived, state(6, 0), vec![]));
+    assert_eq!(in_a_row(6, &[5], 1, 0, false), (Answer::Arrived, state(6, 1), vec![]));
+    let fault = Answer::Refused(Refusal::plain(8));
+    assert_eq!(in_a_row(4, &[6], 1, 0, false), (fault, state(4, 1), vec![]));
+    // From 5 the last ring is that of 6 beside it: 4 is on it, 3 isn't, though it is as far as the depth.
+    let backed_out = Answer::BackedOut { target: 5, rise: 20, moves: 1 };
+    assert_eq!(in_a_row(4, &[5], 2, 0, true), (backed_out, state(5, 0), vec![2]));
+    assert_eq!(in_a_row(3, &[5], 2, 0, true), (fault, state(3, 1), vec![]));
+
+    let in_a_pocket = |floor: &[u8], goals: &[u64]| {
+        let goals = Goals::named(goals);
+        let job = Job { width: 4, height: 1, goals, depth: 8, floor, ..job(1, 1, 1, 1_000) };
+        let mut state = State { current: 3, u: 0, length: 0 };
+        decide(&job, &mut state, &mut [0, 0, 0, 10], &mut [0; 4], &mut [0; 288], 0)
+    };
+    assert_eq!(in_a_pocket(&[0, 0, 1, 0], &[0, 1]), Answer::Refused(Refusal::plain(9)));
+    let forward = Answer::Forward { target: 2, rise: 0, moves: 1 };
+    assert_eq!(in_a_pocket(&[0, 1, 0, 0], &[0, 2]), forward);
+}
+
+/// Runs a job of rows from its opening table, or from a table that is given: its reports and the table that it leaves.
+fn run_on(rows: &[&str], start: u64, goals: &[u64], table: Option<&[u32]>) -> (Vec<[u64; 4]>, Vec<u32>) {
+    let floor = bytes(rows);
+    let (width, height, goals) = (rows[0].len() as u64, rows.len() as u64, Goals::named(goals));
+    let job = Job { width, height, goals, depth: 1, p: 1, q: 1, quota: 1_000_000, floor: &floor };
+    let mut filled = vec![0; floor.len()];
+    opening_table(width, height, &goals, 1, &floor, &mut filled).unwrap();
+    let mut table = table.map_or(filled, <[u32]>::to_vec);
+    let mut reports = [Counts::default(); 100];
+    let ran = run(&job, start, 100, &mut table, &mut vec![0; floor.len()], &mut reports, u64::MAX).unwrap();
+    assert!(ran.settled);
+    let counts = |report: &Counts| [report.decisions, report.learned, report.kept, report.travel];
+    (reports[..ran.trials].iter().map(counts).collect(), table)
+}
+
+#[test]
+fn a_cart_learns_which_bench_is_nearer() {
+    // By its opening figures bench 0 is the nearer one from 6, 20 and 24; behind the wall it is 60 away, and bench 5 is 30.
+    let (reports, table) = run_on(&["...", "@@.", "..."], 6, &[0, 5], None);
+    assert_eq!(reports, [[3, 10, 30, 30], [3, 6, 30, 30], [3, 0, 30, 30]]);
+    assert_eq!(table, [0, 10, 10, 10, 10, 0, 30, 20, 10]);
+
+    // Bench 3 is 20 away by its opening figure and 80 in truth, bench 12 is 34 away by both.
+    let rows = ["....", ".@@@", "....", "...."];
+    assert_eq!([cost(&rows, 11, 3), cost(&rows, 11, 12)], [80, 34]);
+    let (reports, table) = run_on(&rows, 11, &[3, 12], None);
+    assert_eq!(reports, [[3, 14, 34, 34], [3, 0, 34, 34]]);
+    assert_eq!(run_on(&rows, 11, &[3], Some(&table)).0.last(), Some(&[8, 0, 80, 80]));
+
+    // Bench 4 is 20 away by its opening figure and 100 in truth, bench 20 is 48 away by both.
+    let rows = [".....", ".@@@@", ".....", ".....", "....."];
+    assert_eq!([cost(&rows, 14, 4), cost(&rows, 14, 20)], [100, 48]);
+    let (reports, table) = run_on(&rows, 14, &[4, 20], None);
+    assert_eq!(reports, [[4, 28, 48, 48], [5, 20, 54, 54], [4, 8, 48, 48], [4, 0, 48, 48]]);
+    assert_eq!([table[12], table[13], table[14], table[19]], [28, 38, 48, 44]);
+    // Bench 4 closes: nothing is left to learn. Bench 20 closes: what was learned is sound, and the cart learns on.
+    assert_eq!(run_on(&rows, 14, &[20], Some(&table)).0, [[4, 0, 48, 48]]);
+    let (reports, alone) = run_on(&rows, 14, &[4], Some(&table));
+    assert_eq!(reports.last(), Some(&[10, 0, 100, 100]));
+    // Bench 20 opens again: that table is refused.
+    let goals = Goals::named(&[4, 20]);
+    let floor = bytes(&rows);
+    let job = Job { width: 5, height: 5, goals, floor: &floor, ..job(1, 1, 1, 0) };
+    assert_eq!(open(&job, 14, &table).err(), None);
+    assert_eq!(open(&job, 14, &alone).err(), Some(Refusal::at_cell(7, 5)));
+}
+
+/// The worked records of a two-bench table and a trailer of edition 2, of which a part may be another.
+fn file_of_two(spoil: impl FnOnce(&mut Vec<u8>)) -> Vec<u8> {
+    let mut file = vec![0, 6, 0, 0, 0, 30, 0, 7, 0, 0, 0, 20];
+    file.extend([3, 3, 2, 0, 0, 0, 0, 5, 255, 255, 255, 255, 1, 2, 0, 2, 0, 0, 0, 36]);
+    file.extend(b"PDLT");
+    spoil(&mut file);
+    file
+}
+
+#[test]
+fn a_file_of_several_goals() {
+    let table = [0, 10, 10, 10, 10, 0, 30, 20, 10];
+    let goals = Goals::named(&[0, 5]);
+    let mut file = [9; 40];
+    assert_eq!(table_file::write(3, 3, &goals, 1, &FLOOR, &table, &mut file), Ok(36));
+    assert_eq!(file[..36], file_of_two(|_| {}));
+    assert_eq!(file[36..], [9; 4]);
+    let refusal = table_file::write(3, 3, &goals, 1, &FLOOR, &table, &mut file[..35]);
+    assert_eq!(refusal, Err(Refusal::plain(17)));
+    // For one bench the opening figures are higher: the table can't be written for it.
+    let refusal = table_file::write(3, 3, &one(0), 1, &FLOOR, &table, &mut file);
+    assert_eq!(refusal, Err(Refusal::at_cell(16, 2)));
+
+    let mut four = [0; 24];
+    assert_eq!(
+        table_file::write(2, 2, &Goals::named(&[0, 1, 2, 3]), 16, &[0; 4], &[0; 4], &mut four),
+        Ok(24)
+    );
+    assert_eq!(four[..14], [2, 2, 4, 0, 0, 0, 0, 1, 0, 2, 0, 3, 16, 2]);
+
+    let read = |file: &[u8], goals: &[u64]| {
+        let mut again = [7; 9];
+        let read = table_file::read(3, 3, &Goals::named(goals), 1, &FLOOR, file, &mut again);
+        assert_eq!(again == table, read.is_ok());
+        assert_eq!(again == [7; 9], read.is_err());
+        read.err().map(|refusal| refusal.number)
+    };
+    assert_eq!(read(&file_of_two(|_| {}), &[0, 5]), None);
+    assert_eq!(read(&file_of_two(|file| drop(file.splice(0..0, [1, 2, 3]))), &[0, 5]), None);
+    for goals in [&[0u64] as &[u64], &[5], &[0, 8], &[1, 5], &[0, 5, 8]] {
+        assert_eq!(read(&file_of_two(|_| {}), goals), Some(14));
+    }
+    // Width, height, goal count, the places, used and unused, and q.
+    for at in [12, 13, 14, 16, 17, 18, 19, 20, 21, 22, 23, 24] {
+        assert_eq!(read(&file_of_two(|file| file[at] ^= 1), &[0, 5]), Some(14), "{at}");
+    }
+    // The zero byte, edition, count, back and letters; and a file that is cut.
+    for at in [15, 25, 26, 27, 28, 29, 30, 31, 32, 33, 34, 35] {
+        assert_eq!(read(&file_of_two(|file| file[at] ^= 1), &[0, 5]), Some(13), "{at}");
+    }
+    for edition in [0, 1, 3, 255] {
+        assert_eq!(read(&file_of_two(|file| file[25] = edition), &[0, 5]), Some(13));
+    }
+    for length in 0..36 {
+        assert_eq!(read(&file_of_two(|_| {})[36 - length..], &[0, 5]), Some(13));
+    }
+    // `back` as edition 1 has it, and an edition 1 trailer of the first goal.
+    assert_eq!(read(&file_of_two(|file| file[31] = 28), &[0, 5]), Some(13));
+    let first = file_of_two(|file| {
+        drop(file.splice(14..24, [0, 0]));
+        (file[17], file[23]) = (1, 28);
+    });
+    assert_eq!(table_file::check_trailer(&first), Ok(()));
+    assert_eq!(table_file::find_records(&first), &first[..12]);
+    assert_eq!(read(&first, &[0, 5]), Some(14));
+}
+
 #[test]
 fn numbers_3_and_1() {
     for (depth, p, q) in [(0, 1, 1), (9, 1, 1), (1, 2, 1)] {
@@ -404,19 +644,27 @@ fn the_run_and_its_table_file() {
     assert_eq!(reports[2].decisions, 9);
 
     let mut file = vec![0xEE; 50];
-    let length = table_file::write(3, 3, 0, 1, &FLOOR, &table, &mut file);
-    let worked = [
+    let length = table_file::write(3, 3, &one(0), 1, &FLOOR, &table, &mut file);
+    let records = [
         0x00, 0x05, 0x00, 0x00, 0x00, 0x1E, 0x00, 0x06, 0x00, 0x00, 0x00, 0x3C, 0x00, 0x07, 0x00, 0x00, 0x00,
-        0x32, 0x00, 0x08, 0x00, 0x00, 0x00, 0x28, 0x03, 0x03, 0x00, 0x00, 0x01, 0x01, 0x00, 0x04, 0x00, 0x00,
-        0x00, 0x28, 0x50, 0x44, 0x4C, 0x54,
+        0x32, 0x00, 0x08, 0x00, 0x00, 0x00, 0x28,
     ];
-    assert_eq!(length, Ok(40));
-    assert_eq!(file[..40], worked);
-    assert_eq!(file[40..], [0xEE; 10]);
-    assert_eq!(table_file::find_records(&file[..40]), &worked[..24]);
-    let mut again = vec![0; 9];
-    assert_eq!(table_file::read(3, 3, 0, 1, &FLOOR, &worked, &mut again), Ok(()));
-    assert_eq!(again, table);
+    let trailer = [
+        0x03, 0x03, 0x01, 0x00, 0x00, 0x00, 0xFF, 0xFF, 0xFF, 0xFF, 0xFF, 0xFF, 0x01, 0x02, 0x00, 0x04, 0x00,
+        0x00, 0x00, 0x30, 0x50, 0x44, 0x4C, 0x54,
+    ];
+    assert_eq!(length, Ok(48));
+    assert_eq!(file[..48], [records, trailer].concat());
+    assert_eq!(file[48..], [0xEE; 2]);
+    let trailer_of_edition_1 =
+        [0x03, 0x03, 0x00, 0x00, 0x01, 0x01, 0x00, 0x04, 0x00, 0x00, 0x00, 0x28, 0x50, 0x44, 0x4C, 0x54];
+    for file in [[&records[..], &trailer].concat(), [&records[..], &trailer_of_edition_1].concat()] {
+        assert_eq!(table_file::find_records(&file), records);
+        assert_eq!(table_file::check_trailer(&file), Ok(()));
+        let mut again = vec![0; 9];
+        assert_eq!(table_file::read(3, 3, &one(0), 1, &FLOOR, &file, &mut again), Ok(()));
+        assert_eq!(again, table);
+    }
 }
 
 const TEXT: &str = "type octile\nheight 3\nwidth 3\nmap\n...\n@@.\n...\n";
@@ -456,15 +704,16 @@ fn call(input: &str) -> String {
 fn the_program_calls() {
     let floor = "9 0 0 0 1 1 0 0 0 0";
     let table = "9 0 10 20 10 14 24 20 24 28";
-    assert_eq!(call(&format!("1 3 3 6 0 1 1 1 0 {floor} {table}\n")), "0 0 0\n");
-    assert_eq!(call(&format!("1 3 3 6 0 1 1 1 0 {floor} 9 0 10 20 10 14 24 20 51 28")), "7 1 7\n");
-    assert_eq!(call(&format!("10 3 3 0 1 {floor} 9 7 7 7 7 7 7 7 7 7")), format!("0 0 0 {table}\n"));
+    assert_eq!(call(&format!("1 3 3 6 1 0 1 1 1 0 {floor} {table}\n")), "0 0 0\n");
+    assert_eq!(call(&format!("1 3 3 6 1 0 1 1 1 0 {floor} 9 0 10 20 10 14 24 20 51 28")), "7 1 7\n");
+    assert_eq!(call(&format!("10 3 3 1 0 1 {floor} 9 7 7 7 7 7 7 7 7 7")), format!("0 0 0 {table}\n"));
     let ran =
-        call(&format!("4 3 3 6 0 1 1 1 0 10 {floor} {table} 9 8 8 8 8 8 8 8 8 8 10{}", " 5".repeat(40)));
+        call(&format!("4 3 3 6 1 0 1 1 1 0 10 {floor} {table} 9 8 8 8 8 8 8 8 8 8 10{}", " 5".repeat(40)));
     let kept = "9 0 10 20 10 14 30 60 50 40 9 6 7 8 5 2 1 8 8 8 10 22 84 60 180 6 0 60 60";
     assert_eq!(ran, format!("0 0 0 2 1 {kept}{}\n", " 5".repeat(32)));
     let nines = " 9".repeat(288);
-    let decided = call(&format!("2 3 3 6 0 0 0 2 1 1 1000 0 {floor} {table} 9 8 8 8 8 8 8 8 8 8 288{nines}"));
+    let decided =
+        call(&format!("2 3 3 6 0 0 1 0 2 1 1 1000 0 {floor} {table} 9 8 8 8 8 8 8 8 8 8 288{nines}"));
     let after = "9 0 10 20 10 14 24 48 24 28 9 6 8 8 8 8 8 8 8 8 288 2 2";
     assert_eq!(decided, format!("1 0 0 0 8 28 2 8 28 1 {after}{}\n", " 9".repeat(286)));
     let text = "116 121 112 101 32 111 99 116 105 108 101 10 104 101 105 103 104 116 32 49 10 119 105 100 116 104 32 51 10 109 97 112 10 46 83 64 10";
@@ -478,6 +727,14 @@ fn the_program_calls() {
     assert_eq!(call("8 16 3 3 0 0 1 1 0 0 0 0 0 16 80 68 76 84"), "0\n");
     assert_eq!(call("9 16 3 3 0 0 1 1 0 0 0 0 0 16 80 68 76 84"), "0 0 0\n");
     assert_eq!(call("9 15 3 0 0 1 1 0 0 0 0 0 16 80 68 76 84"), "13 0 0\n");
+    assert_eq!(call(&format!("1 3 3 6 2 0 8 1 1 1 0 {floor} 9 0 10 20 10 14 30 60 50 40")), "7 1 5\n");
+    assert_eq!(call(&format!("1 3 3 6 0 1 1 1 0 {floor} {table}")), "27 0 0\n");
+    assert_eq!(call(&format!("10 3 3 8 0 1 2 5 4 4 4 4294967295 1 {floor} 1 7")), "1 0 0 1 7\n");
+    assert_eq!(
+        call(&format!("10 3 3 8 0 1 2 5 4 4 4 4294967295 1 {floor} {table}")),
+        format!("27 0 0 {table}\n")
+    );
+    assert_eq!(call(&format!("10 3 3 9 0 1 2 5 4 4 4 4 4 1 {floor} {table}")), "malformed\n");
     for malformed in
         ["", "\n", "0", "11", "12", "8", "8 1", "8 1 256", "8 0 0", "8\t0", "8 -0", "8 4294967296", "9 32769"]
     {

@@ -2,7 +2,6 @@
 -- Assumes nothing.
 use Prim.Native.Nat.{ℕ, zero, suc, _+_, _-_, _*_, _≤_}
 use mathlib.Core.Path.{_≡_, refl, sym, ap, subst, _∙_}
-use mathlib.Core.Bool.{Bool, true, false}
 use mathlib.Core.Option.{none, some}
 use mathlib.Core.List.{List, [], _∷_, _++_}
 use native.Mathlib.Omega.{arith}
@@ -20,13 +19,14 @@ use Rattle.answers.specs.declared.FloorRead.{FloorRead}
 use Rattle.answers.specs.declared.FloorRead.the-variants as Fr
 use Rattle.answers.proofs.One.{floor-one}
 use Rattle.model.specs.Basics.{then}
-use Rattle.model.specs.Floor.{size, free, opening, openingTable}
-use Rattle.model.specs.Checks.{floorOf, goals, sizes, settings, scale, benches, places}
+use Rattle.model.specs.Floor.{size, oneGoal, opening, openingTable}
+use Rattle.model.specs.Checks.{floorOf, goals, sizes, settings, scale, benches, places, goalsHold}
 use Rattle.model.specs.Opening.{accepts, openJob, openTrial, openTable, filled, trialsHold}
 use Rattle.model.specs.FloorText.{LF, widthIn, heightIn, rowsIn, cellsOf, floorVerdict, floorFrom, readFloor}
 use Rattle.model.specs.Line.{field, placeField, refusalLine, jobIn, readLine, afterLine, judgeAisle, printed, aisle}
 use Rattle.model.proofs.Accepted.{not-refused, then-next, then-refused, then-done, sizes-judges, path-judges, settings-judges, trials-judges}
-use Rattle.model.proofs.Accepted.{scale-judges, bench-judges, places-judges}
+use Rattle.model.proofs.Accepted.{scale-judges}
+use Rattle.model.proofs.Benches.{AllFree, bench-judges, places-judges, goals-judges, one-in-order}
 use Rattle.model.proofs.Parts.{rest}
 use Rattle.model.proofs.Cells.{cells-le}
 use Rattle.model.proofs.FloorRoundTrip.{read-sized}
@@ -84,22 +84,21 @@ module _ (j : Job) (bytes : List ℕ) (start trials : ℕ) (path : List ℕ) (R 
   unfolding openJob
   job-is = then-next _ (sizes-done _ long) ∙ then-next _ (R .holds)
 
-  -- the goal is off the floor or blocked: 4
-  fill-refuses : {figures : ℕ} {f : Refusal} → figures ≡ size (floorOf j bytes) → openTable (floorOf j bytes) (j .q) (goals j) figures ≡ Vd.Refused f
+  -- a goal is off the floor or blocked: 4
+  fill-refuses : {figures : ℕ} {f : Refusal} → figures ≡ size (floorOf j bytes) → openTable (floorOf j bytes) (j .q) (j .goals) figures ≡ Vd.Refused f
       → openJob j bytes start (openingTable (floorOf j bytes) (j .q) (goals j)) ≡ Vd.Refused f
   unfolding openTable accepts
-  fill-refuses {figures} {f} n e = job-is ∙ by (free (floorOf j bytes) (j .goal)) refl
+  fill-refuses {figures} {f} n e = job-is ∙ then-refused _ (by (benches (floorOf j bytes) (goals j)) refl)
     where
-      off : benches (floorOf j bytes) (goals j) ≡ Vd.Refused f
+      off : then (benches (floorOf j bytes) (goals j)) (goalsHold (j .goals)) ≡ Vd.Refused f
       off = sym (then-next _ (sizes-done figures n) ∙ then-next _ scale-done) ∙ e
 
-      by : (b : Bool) → free (floorOf j bytes) (j .goal) ≡ b → accepts j bytes start (openingTable (floorOf j bytes) (j .q) (goals j)) ≡ Vd.Refused f
-      by true t = not-refused (bench-judges (floorOf j bytes) (j .goal) .done t) off
-      by false t =
-          let blocked : free (floorOf j bytes) (j .goal) ≡ true → ⊥ = λ u. let z : true ≡ false = sym u ∙ t in let y : _≡_ {A = ℕ} 0 1 = cc in omega arith in
-          then-refused _ (places-judges (floorOf j bytes) start (j .goal) .refused (λ h. blocked (h .1)))
-          ∙ sym (bench-judges (floorOf j bytes) (j .goal) .refused blocked)
-          ∙ off
+      by : (v : Verdict) → benches (floorOf j bytes) (goals j) ≡ v → places (floorOf j bytes) start (goals j) ≡ Vd.Refused f
+      by Vd.Done t = not-refused (R .order) (sym (then-next _ t) ∙ off)
+      by (Vd.Refused g) t =
+          let blocked : AllFree (floorOf j bytes) (goals j) → ⊥ = λ h. not-refused (bench-judges (floorOf j bytes) (goals j) .done h) t in
+          places-judges (floorOf j bytes) start (goals j) .refused (λ h. blocked (h .1))
+          ∙ sym (bench-judges (floorOf j bytes) (goals j) .refused blocked) ∙ t ∙ sym (then-refused _ t) ∙ off
 
   trial-is : length path ≡ size (floorOf j bytes)
       → openTrial j bytes start (openingTable (floorOf j bytes) (j .q) (goals j)) path ≡ openJob j bytes start (openingTable (floorOf j bytes) (j .q) (goals j))
@@ -110,13 +109,13 @@ module _ (j : Job) (bytes : List ℕ) (start trials : ℕ) (path : List ℕ) (R 
       ∙ then-next _ (R .holds)
       ∙ sym job-is
 
-  module _ {lent after : List ℕ} {v : Verdict} (F : Fills (floorOf j bytes) (j .q) (goals j) lent v after) (n : length lent ≡ size (floorOf j bytes)) where
+  module _ {lent after : List ℕ} {v : Verdict} (F : Fills (floorOf j bytes) (j .q) (j .goals) lent v after) (n : length lent ≡ size (floorOf j bytes)) where
     pub fill-refused : {out out′ : List ℕ} {at : ℕ} {f : Refusal} → v ≡ Vd.Refused f → Ended out 0 (refusalLine f) out′ at → Ended out 0 (openedLines j bytes start trials path) out′ at
     fill-refused e h = told-as (ap (λ u. toldOf u j bytes start trials (openingTable (floorOf j bytes) (j .q) (goals j)) path) (sym (fill-refuses n (sym (F .answer .is) ∙ e)))) h
 
     -- the table is the opening one
     pub fill-is : v ≡ Vd.Done → after ≡ openingTable (floorOf j bytes) (j .q) (goals j)
-    fill-is e = F .left ∙ ap (λ u. filled u (floorOf j bytes) (j .q) (goals j) lent) (sym (F .answer .is) ∙ e)
+    fill-is e = F .left ∙ ap (λ u. filled u (floorOf j bytes) (j .q) (j .goals) lent) (sym (F .answer .is) ∙ e)
 
     module _ {w : Verdict} (done : v ≡ Vd.Done) (places : length path ≡ size (floorOf j bytes)) (O : w ≡ openTrial j bytes start after path) where
       judged : openJob j bytes start (openingTable (floorOf j bytes) (j .q) (goals j)) ≡ w
@@ -247,6 +246,7 @@ module _ (s : Settings) (text : List ℕ) where
           record {
             sized = record { wide = R .wide; narrow = R .narrow; high = R .high; low = R .low; cells = R .long };
             holds = sym (settings-same s w k) ∙ then-done _ _ holds .0;
+            order = goals-judges (oneGoal (s .goal)) .done (one-in-order (s .goal));
             some = t .0;
             few = t .1;
           }

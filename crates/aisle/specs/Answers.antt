@@ -7,7 +7,7 @@ use Rattle.answers.specs.declared.Job.{Job}
 use Rattle.answers.specs.declared.Verdict.{Verdict}
 use Rattle.answers.specs.declared.Verdict.the-variants as Vd
 use Rattle.model.specs.Floor.{Sized, size, openingTable}
-use Rattle.model.specs.Checks.{floorOf, goals, settings}
+use Rattle.model.specs.Checks.{floorOf, goals, goalsHold, settings}
 use Rattle.model.specs.Opening.{openJob}
 use Rattle.model.specs.Ride.{courseFrom}
 use Rattle.model.specs.Line.{refusalLine, courseLines, aisle}
@@ -24,10 +24,11 @@ openedLines j bytes start trials path =
     let table = openingTable (floorOf j bytes) (j .q) (goals j) in
     toldOf (openJob j bytes start table) j bytes start trials table path
 
--- a floor that is read, and settings that hold
+-- a floor that is read, settings that hold, and goals that do, the line's one goal being all
 pub record Readied (j : Job) (bytes : List ℕ) (trials : ℕ) : Type 0 where
   pub sized : Sized (floorOf j bytes)
   pub holds : settings j ≡ Vd.Done
+  pub order : goalsHold (j .goals) ≡ Vd.Done
   pub some : 1 ≤ trials
   pub few : trials ≤ 1000
 

@@ -29,7 +29,7 @@ fn opened(
     requires { ⌜ Readied job (now floor) trials ⌝ ∗ ⌜ Lent job (now floor) (now table) (now path) (now out) ⌝ }
     ensures { λ r. ⌜ Ended (now (out .entry)) 0 (openedLines job (now (floor .entry)) start trials (now (path .entry))) (now (out .exit)) r ⌝ }
 {
-    match opening::fill_opening(job.width, job.height, job.goal, job.q, floor, table) {
+    match opening::fill_opening(job.width, job.height, job.goals, job.q, floor, table) {
         Verdict::Refused(r) => print::refusal_line(out, 0, r),
         Verdict::Done => match opening::open_trial(job, floor, start, table, path.len()) {
             Verdict::Refused(r) => print::refusal_line(out, 0, r),
@@ -46,17 +46,8 @@ fn on_floor(s: Settings, width: usize, height: usize, floor: &[u8], out: &mut [u
     let n = width * height;
     let mut table = [0u32; 4096];
     let mut path = [0u16; 4096];
-    let job = Job {
-        width: width,
-        height: height,
-        goal: s.goal,
-        depth: s.depth,
-        p: s.p,
-        q: s.q,
-        quota: s.quota,
-    };
     opened(
-        job,
+        opening::job_in(s, width, height),
         floor,
         s.start,
         s.trials,

@@ -1,10 +1,19 @@
 // The types that calls take and give: a job and a state, and for each kind of call an answer by its cases.
 
-// What stays the same through a run: the floor's sizes, the goal and the settings. The floor's bytes are lent beside it.
+// The goals of a job, where a trip may end: how many are named, and the first four of them. A place past the count is not looked at.
+pub struct Goals {
+    pub count: usize,
+    pub first: usize,
+    pub second: usize,
+    pub third: usize,
+    pub fourth: usize,
+}
+
+// What stays the same through a run: the floor's sizes, the goals and the settings. The floor's bytes are lent beside it.
 pub struct Job {
     pub width: usize,
     pub height: usize,
-    pub goal: usize,
+    pub goals: Goals,
     pub depth: usize,
     pub p: usize,
     pub q: usize,

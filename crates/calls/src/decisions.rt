@@ -1,6 +1,8 @@
 // Call 2: one decision.
 ghost use Prim.Native.Nat.{_≤_};
 ghost use lib.ListN.{length};
+use crate::jobs;
+use crate::jobs::Told;
 use crate::rooms;
 use crate::rooms::Line;
 use crate::show;
@@ -47,24 +49,12 @@ fn answer(out: &mut [u8], a: Answer) -> usize
     }
 }
 
-// Of the numbers width height current u length goal depth p q quota from.
-fn job_of(n: &[u64; 11]) -> Job {
-    Job {
-        width: n[0] as usize,
-        height: n[1] as usize,
-        goal: n[5] as usize,
-        depth: n[6] as usize,
-        p: n[7] as usize,
-        q: n[8] as usize,
-        quota: n[9] as usize,
-    }
-}
-
-fn state_of(n: &[u64; 11]) -> State {
+// Where a decision stands.
+fn state_of(j: Told) -> State {
     State {
-        current: n[2] as usize,
-        learned: n[3] as usize,
-        length: n[4] as usize,
+        current: j.start,
+        learned: j.learned,
+        length: j.length,
     }
 }
 
@@ -85,7 +75,9 @@ fn told(d: Decided, table: &[u32], path: &[u16], moves: &[u8], out: &mut [u8]) -
 
 // Makes the decision, and prints what it answered and left.
 fn decided(
-    n: &[u64; 11],
+    job: Job,
+    state: State,
+    from: usize,
     floor: &[u8],
     table: &mut [u32],
     path: &mut [u16],
@@ -95,15 +87,7 @@ fn decided(
     requires { ⌜ (length (now table) ≤ 4160) × (length (now path) ≤ 4160) × (length (now moves) ≤ 1024) × (688256 ≤ length (now out)) ⌝ }
     ensures { λ r. ⌜ (1 ≤ r) × (r ≤ 688256) ⌝ }
 {
-    let d = learner::decide(
-        job_of(n),
-        floor,
-        state_of(n),
-        table,
-        path,
-        moves,
-        n[10] as usize,
-    );
+    let d = learner::decide(job, floor, state, table, path, moves, from);
     told(d, &table[..], &path[..], &moves[..], out)
 }
 
@@ -111,7 +95,9 @@ fn decided(
 fn decide_from(
     input: &[u8],
     c: Cursor,
-    n: &[u64; 11],
+    job: Job,
+    state: State,
+    from: usize,
     floor: &[u8],
     table: &mut [u32],
     out: &mut Line,
@@ -129,7 +115,9 @@ fn decide_from(
     let places = p.value;
     let bytes = m.value;
     decided(
-        n,
+        job,
+        state,
+        from,
         floor,
         table,
         &mut path[..places],
@@ -138,18 +126,26 @@ fn decide_from(
     )
 }
 
-// Call 2: width height current u length goal depth p q quota from, floor, table, path, moves.
+// Call 2: width height current u length, goals, depth p q quota from, floor, table, path, moves.
 // Prints kind, refusal, target, rise, number of moves, current, u, length, then table, path and moves.
 pub fn decide(input: &[u8], c: Cursor, out: &mut Line) -> usize
     ensures { λ r. ⌜ (1 ≤ r) × (r ≤ 688256) ⌝ }
 {
-    let mut n = [0u64; 11];
     let mut floor = rooms::floor();
     let mut table = rooms::table();
-    let a = numbers::several(input, c, 11, &mut n);
-    let f = numbers::list8(input, a, &mut floor);
+    let j = jobs::job_told(input, c, 5, 5);
+    let f = numbers::list8(input, j.after, &mut floor);
     let t = numbers::list32(input, f, &mut table);
     let cells = f.value;
     let figures = t.value;
-    decide_from(input, t, &n, &floor[..cells], &mut table[..figures], out)
+    decide_from(
+        input,
+        t,
+        j.job,
+        state_of(j),
+        j.last,
+        &floor[..cells],
+        &mut table[..figures],
+        out,
+    )
 }

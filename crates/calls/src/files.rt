@@ -1,6 +1,8 @@
 // Calls 6 to 9: the table file, written, read and looked into.
 ghost use Prim.Native.Nat.{_≤_};
 ghost use lib.ListN.{length};
+use crate::jobs;
+use crate::jobs::Site;
 use crate::rooms;
 use crate::rooms::Line;
 use crate::show;
@@ -8,34 +10,25 @@ use line::print;
 use numbers::Cursor;
 
 // The answer and the buffer.
-fn written(n: &[u64; 4], floor: &[u8], table: &[u32], buffer: &mut [u8], out: &mut [u8]) -> usize
+fn written(s: Site, floor: &[u8], table: &[u32], buffer: &mut [u8], out: &mut [u8]) -> usize
     requires { ⌜ (length (now buffer) ≤ 32768) × (688256 ≤ length (now out)) ⌝ }
     ensures { λ r. ⌜ (1 ≤ r) × (r ≤ 688256) ⌝ }
 {
-    let w = learner::write_table(
-        n[0] as usize,
-        n[1] as usize,
-        n[2] as usize,
-        n[3] as usize,
-        floor,
-        table,
-        buffer,
-    );
+    let w = learner::write_table(s.width, s.height, s.goals, s.q, floor, table, buffer);
     let at = show::written(out, 0, w);
     let end = show::list8(out, at, &buffer[..]);
     print::byte(out, end, 10)
 }
 
-// Call 6: width height goal q, floor, table, buffer. Prints the refusal, the length, then the buffer.
+// Call 6: width height, goals, q, floor, table, buffer. Prints the refusal, the length, then the buffer.
 pub fn write_table(input: &[u8], c: Cursor, out: &mut Line) -> usize
     ensures { λ r. ⌜ (1 ≤ r) × (r ≤ 688256) ⌝ }
 {
-    let mut n = [0u64; 4];
     let mut floor = rooms::floor();
     let mut table = rooms::table();
     let mut buffer = rooms::bytes();
-    let a = numbers::several(input, c, 4, &mut n);
-    let f = numbers::list8(input, a, &mut floor);
+    let s = jobs::site_told(input, c);
+    let f = numbers::list8(input, s.after, &mut floor);
     let t = numbers::list32(input, f, &mut table);
     let b = numbers::list8(input, t, &mut buffer);
     if !numbers::ended(input, b) {
@@ -45,7 +38,7 @@ pub fn write_table(input: &[u8], c: Cursor, out: &mut Line) -> usize
     let figures = t.value;
     let room = b.value;
     written(
-        &n,
+        s,
         &floor[..cells],
         &table[..figures],
         &mut buffer[..room],
@@ -54,34 +47,25 @@ pub fn write_table(input: &[u8], c: Cursor, out: &mut Line) -> usize
 }
 
 // The refusal and the table.
-fn read(n: &[u64; 4], floor: &[u8], file: &[u8], table: &mut [u32], out: &mut [u8]) -> usize
+fn read(s: Site, floor: &[u8], file: &[u8], table: &mut [u32], out: &mut [u8]) -> usize
     requires { ⌜ (length (now table) ≤ 4160) × (688256 ≤ length (now out)) ⌝ }
     ensures { λ r. ⌜ (1 ≤ r) × (r ≤ 688256) ⌝ }
 {
-    let v = learner::read_table(
-        n[0] as usize,
-        n[1] as usize,
-        n[2] as usize,
-        n[3] as usize,
-        floor,
-        file,
-        table,
-    );
+    let v = learner::read_table(s.width, s.height, s.goals, s.q, floor, file, table);
     let at = show::verdict(out, 0, v);
     let end = show::list32(out, at, &table[..]);
     print::byte(out, end, 10)
 }
 
-// Call 7: width height goal q, floor, file, table. Prints the refusal, then the table.
+// Call 7: width height, goals, q, floor, file, table. Prints the refusal, then the table.
 pub fn read_table(input: &[u8], c: Cursor, out: &mut Line) -> usize
     ensures { λ r. ⌜ (1 ≤ r) × (r ≤ 688256) ⌝ }
 {
-    let mut n = [0u64; 4];
     let mut floor = rooms::floor();
     let mut file = rooms::bytes();
     let mut table = rooms::table();
-    let a = numbers::several(input, c, 4, &mut n);
-    let f = numbers::list8(input, a, &mut floor);
+    let s = jobs::site_told(input, c);
+    let f = numbers::list8(input, s.after, &mut floor);
     let b = numbers::list8(input, f, &mut file);
     let t = numbers::list32(input, b, &mut table);
     if !numbers::ended(input, t) {
@@ -91,7 +75,7 @@ pub fn read_table(input: &[u8], c: Cursor, out: &mut Line) -> usize
     let bytes = b.value;
     let figures = t.value;
     read(
-        &n,
+        s,
         &floor[..cells],
         &file[..bytes],
         &mut table[..figures],

@@ -43,6 +43,13 @@ pub fn moves() -> [u8; 1024]
     [0; 1024]
 }
 
+// Goals: eight can be told, twice as many as a job may name.
+pub fn goals() -> [u32; 8]
+    ensures { λ r. ⌜ 8 ≡ length r ⌝ }
+{
+    [0; 8]
+}
+
 // Reports, of four counts each.
 pub fn counts() -> [u64; 4004]
     ensures { λ r. ⌜ 4004 ≡ length r ⌝ }

@@ -5,6 +5,7 @@ use crate::jobs;
 use crate::rooms;
 use crate::rooms::Line;
 use crate::show;
+use learner::Job;
 use learner::Ran;
 use line::print;
 use numbers::Cursor;
@@ -43,7 +44,9 @@ fn told(r: Ran, table: &[u32], path: &[u16], counts: &[u64], out: &mut [u8]) -> 
 
 // Makes the run, and prints what it answered and left.
 fn ran(
-    n: &[u64; 9],
+    job: Job,
+    start: usize,
+    trials: usize,
     floor: &[u8],
     table: &mut [u32],
     path: &mut [u16],
@@ -54,16 +57,7 @@ fn ran(
     ensures { λ r. ⌜ (1 ≤ r) × (r ≤ 688256) ⌝ }
 {
     let reports = counts.len() / 4;
-    let r = run::run_counts(
-        jobs::job_of(n),
-        floor,
-        n[2] as usize,
-        n[8] as usize,
-        table,
-        path,
-        counts,
-        reports,
-    );
+    let r = run::run_counts(job, floor, start, trials, table, path, counts, reports);
     told(r, &table[..], &path[..], &counts[..], out)
 }
 
@@ -71,7 +65,9 @@ fn ran(
 fn run_from(
     input: &[u8],
     c: Cursor,
-    n: &[u64; 9],
+    job: Job,
+    start: usize,
+    trials: usize,
     floor: &[u8],
     table: &mut [u32],
     out: &mut Line,
@@ -90,7 +86,9 @@ fn run_from(
     let places = p.value;
     let reports = r.value;
     ran(
-        n,
+        job,
+        start,
+        trials,
         floor,
         table,
         &mut path[..places],
@@ -99,18 +97,26 @@ fn run_from(
     )
 }
 
-// Call 4: width height start goal depth p q quota trials, floor, table, path, n and 4 × n counts of reports as lent.
+// Call 4: width height start, goals, depth p q quota trials, floor, table, path, n and 4 × n counts of reports as lent.
 // Prints the refusal, trials made, settled (0 or 1), then table and path, then n and the reports.
 pub fn run(input: &[u8], c: Cursor, out: &mut Line) -> usize
     ensures { λ r. ⌜ (1 ≤ r) × (r ≤ 688256) ⌝ }
 {
-    let mut n = [0u64; 9];
     let mut floor = rooms::floor();
     let mut table = rooms::table();
-    let a = numbers::several(input, c, 9, &mut n);
-    let f = numbers::list8(input, a, &mut floor);
+    let j = jobs::job_told(input, c, 3, 5);
+    let f = numbers::list8(input, j.after, &mut floor);
     let t = numbers::list32(input, f, &mut table);
     let cells = f.value;
     let figures = t.value;
-    run_from(input, t, &n, &floor[..cells], &mut table[..figures], out)
+    run_from(
+        input,
+        t,
+        j.job,
+        j.start,
+        j.last,
+        &floor[..cells],
+        &mut table[..figures],
+        out,
+    )
 }

@@ -5,6 +5,7 @@ use crate::jobs;
 use crate::rooms;
 use crate::rooms::Line;
 use crate::show;
+use learner::Job;
 use learner::Tried;
 use line::print;
 use numbers::Cursor;
@@ -35,28 +36,34 @@ fn answer(out: &mut [u8], t: Tried) -> usize
 }
 
 // The answer and the lists.
-fn tried(n: &[u64; 9], floor: &[u8], table: &mut [u32], path: &mut [u16], out: &mut [u8]) -> usize
+fn tried(
+    job: Job,
+    start: usize,
+    floor: &[u8],
+    table: &mut [u32],
+    path: &mut [u16],
+    out: &mut [u8],
+) -> usize
     requires { ⌜ (length (now table) ≤ 4160) × (length (now path) ≤ 4160) × (688256 ≤ length (now out)) ⌝ }
     ensures { λ r. ⌜ (1 ≤ r) × (r ≤ 688256) ⌝ }
 {
-    let t = learner::trial(jobs::job_of(n), floor, n[2] as usize, table, path);
+    let t = learner::trial(job, floor, start, table, path);
     let at = answer(out, t);
     let at = show::list32(out, at, &table[..]);
     let end = show::list16(out, at, &path[..]);
     print::byte(out, end, 10)
 }
 
-// Call 3: width height start goal depth p q quota, floor, table, path.
+// Call 3: width height start, goals, depth p q quota, floor, table, path.
 // Prints the refusal, decisions, learned, kept, travel, then table and path.
 pub fn trial(input: &[u8], c: Cursor, out: &mut Line) -> usize
     ensures { λ r. ⌜ (1 ≤ r) × (r ≤ 688256) ⌝ }
 {
-    let mut n = [0u64; 9];
     let mut floor = rooms::floor();
     let mut table = rooms::table();
     let mut path = rooms::path();
-    let a = numbers::several(input, c, 8, &mut n);
-    let f = numbers::list8(input, a, &mut floor);
+    let j = jobs::job_told(input, c, 3, 4);
+    let f = numbers::list8(input, j.after, &mut floor);
     let t = numbers::list32(input, f, &mut table);
     let p = numbers::list16(input, t, &mut path);
     if !numbers::ended(input, p) {
@@ -66,7 +73,8 @@ pub fn trial(input: &[u8], c: Cursor, out: &mut Line) -> usize
     let figures = t.value;
     let places = p.value;
     tried(
-        &n,
+        j.job,
+        j.start,
         &floor[..cells],
         &mut table[..figures],
         &mut path[..places],

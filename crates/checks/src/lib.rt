@@ -4,8 +4,9 @@ ghost use mathlib.Core.Bool.{true};
 ghost use lib.ListN.{length};
 ghost use Rattle.model.specs.Basics.{refuseAt};
 ghost use Rattle.model.specs.Floor.{Floor, size, Sized, goalsOf};
-ghost use Rattle.model.specs.Checks.{sizes, pathRoom, settings, scale, benches, places, figures};
+ghost use Rattle.model.specs.Checks.{sizes, pathRoom, settings, scale, benches, places, goalsHold, figures};
 ghost use Rattle.floor.specs.Moves.{flat};
+use answers::Goals;
 use answers::Job;
 use answers::Place;
 use answers::Refusal;
@@ -13,6 +14,7 @@ use answers::Verdict;
 use floor::CEILING;
 use floor::DEEPEST;
 use floor::FINEST;
+use floor::MOST_GOALS;
 
 // The greatest quota; and the ceiling in the bits of a table's figure.
 const LARGEST_QUOTA: usize = 1000000;
@@ -108,26 +110,52 @@ pub fn scale(q: usize) -> Verdict
     Verdict::Done
 }
 
-// 4 where the goal is all that is taken: it is off the floor or blocked.
-pub fn bench(width: usize, height: usize, floor: &[u8], goal: usize) -> Verdict
+// 4 where the goals are all that is taken: one is off the floor or blocked.
+pub fn benches(width: usize, height: usize, floor: &[u8], goals: Goals) -> Verdict
     requires { ⌜ Sized (flat width height (now floor)) ⌝ }
-    ensures { λ r. ⌜ r ≡ benches (flat width height (now (floor .entry))) (goalsOf goal) ⌝ }
+    ensures { λ r. ⌜ r ≡ benches (flat width height (now (floor .entry))) (goalsOf goals) ⌝ }
 {
-    if floor::is_free(width, height, floor, goal) {
-        return Verdict::Done;
+    let n = floor::goals_in(goals);
+    let mut i = 0;
+    while i < n {
+        if !floor::is_free(width, height, floor, floor::goal_at(goals, i)) {
+            return refuse(4);
+        }
+        i += 1;
+    }
+    Verdict::Done
+}
+
+// 4: start or current cell, or a goal off the floor or blocked.
+pub fn places(width: usize, height: usize, floor: &[u8], cell: usize, goals: Goals) -> Verdict
+    requires { ⌜ Sized (flat width height (now floor)) ⌝ }
+    ensures { λ r. ⌜ r ≡ places (flat width height (now (floor .entry))) cell (goalsOf goals) ⌝ }
+{
+    if floor::is_free(width, height, floor, cell) {
+        return benches(width, height, floor, goals);
     }
     refuse(4)
 }
 
-// 4: start or current cell, or goal off the floor or blocked.
-pub fn places(width: usize, height: usize, floor: &[u8], cell: usize, goal: usize) -> Verdict
-    requires { ⌜ Sized (flat width height (now floor)) ⌝ }
-    ensures { λ r. ⌜ r ≡ places (flat width height (now (floor .entry))) cell (goalsOf goal) ⌝ }
+// 27: no goal or more than four, two that are equal, or out of order.
+pub fn goals_hold(goals: Goals) -> Verdict
+    ensures { λ r. ⌜ r ≡ goalsHold goals ⌝ }
 {
-    if floor::is_free(width, height, floor, cell) {
-        return bench(width, height, floor, goal);
+    if goals.count < 1 {
+        return refuse(27);
     }
-    refuse(4)
+    if MOST_GOALS < goals.count {
+        return refuse(27);
+    }
+    let n = goals.count;
+    let mut i = 1;
+    while i < n {
+        if floor::goal_at(goals, i) <= floor::goal_at(goals, i - 1) {
+            return refuse(27);
+        }
+        i += 1;
+    }
+    Verdict::Done
 }
 
 // 5: a table figure above the ceiling; names the lowest such cell.

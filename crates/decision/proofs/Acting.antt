@@ -6,7 +6,7 @@ use mathlib.Core.Bool.{Bool, true, false, _&&_}
 use mathlib.Core.List.{List}
 use native.Mathlib.Nat.{mul-le-mul}
 use native.Mathlib.Omega.{arith}
-use borrow.Author.Tests.{eq-eqb, ne-eqb, eqb-true, eqb-false, le-leb, lt-leb}
+use borrow.Author.Tests.{eq-eqb, ne-eqb, eqb-true, le-leb, lt-leb}
 use lib.Dec.{ltb, eqb}
 use lib.ListN.{length, getD, replicate, length-replicate}
 use Rattle.answers.specs.declared.Job.{Job}
@@ -18,13 +18,13 @@ use Rattle.answers.specs.declared.Verdict.the-variants as Vd
 use Rattle.answers.specs.declared.Decided.{Decided}
 use Rattle.answers.specs.Says.{saysAnswer}
 use Rattle.model.specs.Basics.{member}
-use Rattle.model.specs.Floor.{size, free, goalsOf}
-use Rattle.model.specs.Checks.{ceiling, floorOf}
+use Rattle.model.specs.Floor.{size, free}
+use Rattle.model.specs.Checks.{ceiling, floorOf, goals}
 use Rattle.model.specs.Lookahead.{seen, ring, w, emptyRing, target}
 use Rattle.model.specs.Decision.{Deed, Outcome, atGoal, judge, refused, unchanged, rise, stored, forward, forwardBy, backOut, backOutBy, stay, goBack, learn, act, outcomeOf, decide, laid}
 use Rattle.model.proofs.Accepted.{never}
 use Rattle.model.proofs.Moves.{sized-cells, free-below, free-few}
-use Rattle.model.proofs.Held.{or-false, at-goal}
+use Rattle.model.proofs.Benches.{at-goal}
 use Rattle.model.proofs.Meaning.{window-inside, nine-not}
 use Rattle.model.proofs.Cases.{act-arrived, act-blind, act-learns, learn-over, learn-forward, learn-back, back-stays, back-lost, back-goes, decide-refused, decide-acts}
 use Rattle.lookahead.specs.declared.Ahead.{Ahead}
@@ -40,11 +40,11 @@ use Rattle.decision.specs.Inner.{Open, Extended, refusing, learns}
 -- ---- what a ready call gives its parts
 
 module _ {j : Job} {bytes : List ℕ} {s : State} {table path : List ℕ} (r : Ready j bytes s table path) where
-  pub asked : (s .current ≡ j .goal → ⊥) → Asked j bytes (s .current)
+  pub asked : member (s .current) (goals j) ≡ false → Asked j bytes (s .current)
   asked away = record {
     sized = r .sized;
     start = r .here;
-    bench = r .bench;
+    benches = r .benches;
     apart = away;
     shallow = r .settings .deep;
     deep = r .settings .shallow;
@@ -54,7 +54,7 @@ module _ {j : Job} {bytes : List ℕ} {s : State} {table path : List ℕ} (r : R
   asked-at k h = record {
     sized = r .sized;
     start = r .fair k h .free;
-    bench = r .bench;
+    benches = r .benches;
     apart = r .fair k h .away;
     shallow = r .settings .deep;
     deep = r .settings .shallow;
@@ -85,18 +85,9 @@ module _ {j : Job} {bytes : List ℕ} {s : State} {table path : List ℕ} (r : R
   pub quota-low : j .q * j .quota ≤ 16000000
   quota-low = mul-le-mul (r .settings .fine) (r .settings .within)
 
--- a cell is a goal just where it is the job's
-pub goal-here : (goal x : ℕ) → member x (goalsOf goal) ≡ true → x ≡ goal
-unfolding member
-goal-here goal x e = eqb-true x goal (sym (or-false (eqb x goal)) ∙ e)
-
-pub goal-away : (goal x : ℕ) → member x (goalsOf goal) ≡ false → x ≡ goal → ⊥
-unfolding member
-goal-away goal x e = eqb-false x goal (sym (or-false (eqb x goal)) ∙ e)
-
--- such a cell is not at the goal
+-- such a cell is at no goal
 aside : {j : Job} {bytes : List ℕ} {s : ℕ} → Asked j bytes s → atGoal j bytes s ≡ false
-aside {j} {bytes} {s} a = at-goal j bytes s (a .start) ∙ ne-eqb s (j .goal) (a .apart)
+aside {j} {bytes} {s} a = at-goal j bytes s (a .start) ∙ a .apart
 
 pub near-place : {j : Job} {bytes : List ℕ} {s x : ℕ} → Asked j bytes s → Near j bytes s x → x < 4096
 near-place {j} {bytes} {s} {x} a h = omega (arith, window-inside j bytes s (a .shallow) (free-below (floorOf j bytes) s (a .start)) (aside a) x h, sized-cells (a .sized))
@@ -218,8 +209,8 @@ module _ (j : Job) (bytes : List ℕ) (s : State) where
 -- ---- from the tests to the deed
 
 module _ (j : Job) (bytes : List ℕ) (s : State) (table path : List ℕ) where
-  pub act-here : free (floorOf j bytes) (s .current) ≡ true → s .current ≡ j .goal → act j bytes s table path ≡ unchanged s table path A.Arrived
-  act-here h e = act-arrived j bytes s table path (at-goal j bytes (s .current) h ∙ eq-eqb (s .current) (j .goal) e)
+  pub act-here : free (floorOf j bytes) (s .current) ≡ true → member (s .current) (goals j) ≡ true → act j bytes s table path ≡ unchanged s table path A.Arrived
+  act-here h e = act-arrived j bytes s table path (at-goal j bytes (s .current) h ∙ e)
 
   module _ (a : Asked j bytes (s .current)) where
     pub act-empty : emptyRing j bytes (seen j bytes (s .current)) (seen j bytes (s .current) .last) ≡ true → act j bytes s table path ≡ refused s table path 9

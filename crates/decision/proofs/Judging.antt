@@ -14,9 +14,10 @@ use Rattle.answers.specs.declared.Verdict.{Verdict}
 use Rattle.answers.specs.declared.Verdict.the-variants as Vd
 use Rattle.model.specs.Basics.{then, refuseAt}
 use Rattle.model.specs.Floor.{Sized, size}
-use Rattle.model.specs.Checks.{ceiling, floorOf, goals, sizes, pathRoom, settings, places, figures}
+use Rattle.model.specs.Checks.{ceiling, floorOf, goals, sizes, pathRoom, settings, places, goalsHold, figures}
 use Rattle.model.specs.Decision.{movesRoom, stateHolds, judge}
-use Rattle.model.proofs.Accepted.{not-refused, then-done, sizes-judges, path-judges, settings-judges, places-judges, figures-accepted}
+use Rattle.model.proofs.Accepted.{not-refused, then-done, sizes-judges, path-judges, settings-judges, figures-accepted}
+use Rattle.model.proofs.Benches.{places-judges, goals-judges, benched}
 use Rattle.model.proofs.Held.{Held, held-judges, moves-judges, sound-room}
 use Rattle.decision.specs.Laying.{leastRoom}
 use Rattle.decision.specs.Ready.{Places, Ready, Judged}
@@ -58,7 +59,7 @@ module _ (j : Job) (bytes : List ℕ) (s : State) (table path : List ℕ) (room 
   abbrev pub checks : Verdict
   checks =
       then (listsFit j bytes (length table) (length path) room from)
-      (then (settings j) (then (places (floorOf j bytes) (s .current) (goals j)) (then (figures (floorOf j bytes) table) (stateHolds j bytes s path))))
+      (then (settings j) (then (places (floorOf j bytes) (s .current) (goals j)) (then (goalsHold (j .goals)) (then (figures (floorOf j bytes) table) (stateHolds j bytes s path)))))
 
   judge-is : checks ≡ judge j bytes s table path room from
   unfolding judge listsFit
@@ -66,7 +67,7 @@ module _ (j : Job) (bytes : List ℕ) (s : State) (table path : List ℕ) (room 
       let a = sizes (floorOf j bytes) (length table) in
       let b = pathRoom (floorOf j bytes) (length path) in
       let m = movesRoom room from in
-      let r = then (settings j) (then (places (floorOf j bytes) (s .current) (goals j)) (then (figures (floorOf j bytes) table) (stateHolds j bytes s path))) in
+      let r = then (settings j) (then (places (floorOf j bytes) (s .current) (goals j)) (then (goalsHold (j .goals)) (then (figures (floorOf j bytes) table) (stateHolds j bytes s path)))) in
       then-assoc a (then b m) r ∙ ap (then a) (then-assoc b m r)
 
   pub judged-refused : (place : List ℕ) (v : Verdict) {r : Refusal} → v ≡ checks → v ≡ Vd.Refused r → Judged j bytes s table path room from place v
@@ -87,21 +88,22 @@ module _ (j : Job) (bytes : List ℕ) (s : State) (table path : List ℕ) (room 
 
   pub ready : judge j bytes s table path room from ≡ Vd.Done → Ready j bytes s table path
   ready e =
-      let a = then-done _ _ (judge-is ∙ e) in
-      let b = then-done _ _ (a .1) in
-      let c = then-done _ _ (b .1) in
-      let d = then-done _ _ (c .1) in
-      let f = fits j bytes (length table) (length path) room from (a .0) in
-      let p = places-judges (floorOf j bytes) (s .current) (j .goal) .gives (c .0) in
-      let h = held-judges j bytes s path (f .path) .gives (d .1) in
+      let (lists, after-lists) = then-done _ _ (judge-is ∙ e) in
+      let (three, after-three) = then-done _ _ after-lists in
+      let (four, after-four) = then-done _ _ after-three in
+      let (order, after-order) = then-done _ _ after-four in
+      let (five, eight) = then-done _ _ after-order in
+      let f = fits j bytes (length table) (length path) room from lists in
+      let p = places-judges (floorOf j bytes) (s .current) (goals j) .gives four in
+      let h = held-judges j bytes s path (f .path) .gives eight in
       record {
         sized = f .sized;
-        settings = settings-judges j .gives (b .0);
+        settings = settings-judges j .gives three;
         figures = f .figures-are;
-        low = low (f .figures-are) (d .0);
+        low = low (f .figures-are) five;
         wide = f .path;
         here = p .0;
-        bench = p .1;
+        benches = benched (floorOf j bytes) (j .goals) (p .1) (goals-judges (j .goals) .gives order);
         within = h .within;
         short = sound-room j bytes (s .current) path (s .length) (omega (arith, h .short, f .path)) (h .sound) (p .0);
         fair = h .sound .fair;

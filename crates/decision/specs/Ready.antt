@@ -11,7 +11,7 @@ use Rattle.answers.specs.declared.Verdict.{Verdict}
 use Rattle.answers.specs.declared.Verdict.the-variants as Vd
 use Rattle.answers.specs.Says.{saysAnswer}
 use Rattle.model.specs.Floor.{Sized, size, free}
-use Rattle.model.specs.Checks.{ceiling, floorOf}
+use Rattle.model.specs.Checks.{ceiling, floorOf, goals, Benched}
 use Rattle.model.specs.Decision.{Deed, Outcome, judge}
 use Rattle.model.proofs.Accepted.{Settings}
 use Rattle.model.proofs.Held.{Fair}
@@ -24,7 +24,7 @@ pub record Places (place path : List ℕ) (n : ℕ) : Type 0 where
   pub size : length place ≡ 4096
   pub noted : (k : ℕ) → k < n → getD place (getD path k 0) 0 ≡ k
 
--- What the checks give and a trial keeps: the floor, the settings and the sizes; figures within the ceiling; the current cell and the goal free;
+-- What the checks give and a trial keeps: the floor, the settings and the sizes; figures within the ceiling; the current cell free, and goals on the floor;
 -- the learned amount within the quota; and a path of fair cells that leaves room for the current one.
 pub record Ready (j : Job) (bytes : List ℕ) (s : State) (table path : List ℕ) : Type 0 where
   pub sized : Sized (floorOf j bytes)
@@ -33,7 +33,7 @@ pub record Ready (j : Job) (bytes : List ℕ) (s : State) (table path : List ℕ
   pub low : (x : ℕ) → getD table x 0 ≤ ceiling
   pub wide : size (floorOf j bytes) ≤ length path
   pub here : free (floorOf j bytes) (s .current) ≡ true
-  pub bench : free (floorOf j bytes) (j .goal) ≡ true
+  pub benches : Benched (size (floorOf j bytes)) (goals j)
   pub within : s .learned ≤ j .q * j .quota
   pub short : s .length < size (floorOf j bytes)
   pub fair : (k : ℕ) → k < s .length → Fair j bytes (s .current) (getD path k 0)

@@ -33,7 +33,7 @@ fn stands(job: Job, floor: &[u8], current: usize, path: &[u16], i: usize, place:
     if !floor::is_free(job.width, job.height, floor, c) {
         return false;
     }
-    if floor::is_goal(job.goal, c) {
+    if floor::is_goal(job.goals, c) {
         return false;
     }
     if c == current {
@@ -68,7 +68,7 @@ fn path_holds(
     true
 }
 
-// 8: u above q × T; path longer than width × height; a path cell off the floor, blocked, the goal, repeated or equal to the current one.
+// 8: u above q × T; path longer than width × height; a path cell off the floor, blocked, a goal, repeated or equal to the current one.
 pub(crate) fn state_holds(
     job: Job,
     floor: &[u8],

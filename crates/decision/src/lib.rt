@@ -74,7 +74,7 @@ fn lists_fit(
     moves_room(room, from)
 }
 
-// The checks ahead of the lookahead, lower number first; where they all pass, the path's places are noted.
+// The checks ahead of the lookahead, in their order; where they all pass, the path's places are noted.
 fn judge(
     job: Job,
     floor: &[u8],
@@ -97,7 +97,11 @@ fn judge(
         return v;
     };
     let current = state.current;
-    let v = checks::places(job.width, job.height, floor, current, job.goal);
+    let v = checks::places(job.width, job.height, floor, current, job.goals);
+    let Verdict::Done = v else {
+        return v;
+    };
+    let v = checks::goals_hold(job.goals);
     let Verdict::Done = v else {
         return v;
     };
@@ -189,7 +193,7 @@ fn learn(
     )
 }
 
-// Away from the goal: the lookahead, and number 9.
+// Away from any goal: the lookahead, and number 9.
 fn go(
     job: Job,
     floor: &[u8],
@@ -248,7 +252,7 @@ pub fn act(
         r (now (table .exit)) (now (path .exit)) ⌝ }
     ensures { λ r. ⌜ Serves job (now (floor .entry)) state r (now (mark .exit)) (now (cost .exit)) (now (list .exit)) (now (place .exit)) (now (path .exit)) ⌝ }
 {
-    if floor::is_goal(job.goal, state.current) {
+    if floor::is_goal(job.goals, state.current) {
         return Acted {
             answer: Answer::Arrived,
             state: state,

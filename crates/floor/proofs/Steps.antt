@@ -14,7 +14,7 @@ use Rattle.model.specs.Basics.{choose, member}
 use Rattle.model.specs.Floor as model
 use Rattle.model.specs.Floor.{Floor, Sized, slowByte, free, doubled, slowly, leastPrice, dearestPrice, price, ahead, allowed, heading, opposite}
 use Rattle.model.specs.Grounds.{price-low, price-high}
-use Rattle.model.proofs.Held.{member-at, no-member}
+use Rattle.model.proofs.Lists.{member-at, no-member}
 use Rattle.model.proofs.Meaning.{price-means}
 use Rattle.model.proofs.Moves.{toll, all8, price-toll, allowed-inside, allowed-some, allowed-free, free-few, opposite-ahead, opposite-allowed, opposite-lt, price-move, heading-is}
 use Rattle.floor.specs.declared.Step.the-variants.{To, Wall}

@@ -1,16 +1,22 @@
-// The floor: one move with its cost, whether a cell is free, and the opening figure of a cell.
+// The floor: one move with its cost, and whether a cell is free; in `goals`, which cells are goals and the opening figure of a cell.
+mod goals;
+
 ghost use mathlib.Core.Path.{_≡_};
 ghost use mathlib.Core.Bool.{true, _||_};
-ghost use mathlib.Core.List.{List};
-ghost use Prim.Native.Nat.{ℕ, _<_, _≤_, _*_, min};
+ghost use Prim.Native.Nat.{_<_, _≤_, _*_};
 ghost use lib.Dec.{eqb};
 ghost use lib.ListN.{length, getD};
-ghost use Rattle.model.specs.Basics.{choose, member};
-ghost use Rattle.model.specs.Checks.{finest};
-ghost use Rattle.model.specs.Floor.{Sized, plainByte, slowByte, freeByte, free, apart, doubled, dearestPrice, goalsOf};
+ghost use Rattle.model.specs.Basics.{choose};
+ghost use Rattle.model.specs.Floor.{Sized, plainByte, slowByte, freeByte, free, doubled, dearestPrice};
 ghost use Rattle.model.specs.Floor as model;
 ghost use Rattle.model.proofs.Moves.{toll};
 ghost use Rattle.floor.specs.Moves.{flat, allKinds, kinds, cost, canCost, northByte, westByte, eastByte, southByte, Placed, RowClear, ColumnClear, Unless, aheadByte, stepOf};
+pub use goals::MOST_GOALS;
+pub use goals::goal_at;
+pub use goals::goals_in;
+pub use goals::is_goal;
+pub use goals::one_goal;
+pub use goals::opening;
 
 // What a move leads to: the cell moved into and what the move costs, or nothing that may be moved into.
 pub enum Step {
@@ -49,11 +55,7 @@ pub const KINDS: usize = 4;
 
 pub const PLAIN_KINDS: usize = 2;
 
-// Prices in more bits, for figures.
-const STRAIGHTS: usize = STRAIGHT as usize;
-
-const DIAGONALS: usize = DIAGONAL as usize;
-
+// The same in more bits, for figures.
 const DEAREST: usize = DEAREST_PRICE as usize;
 
 // The greatest depth and the greatest q; and the ceiling for any figure.
@@ -82,13 +84,6 @@ pub fn is_free(width: usize, height: usize, floor: &[u8], cell: usize) -> bool
         return false;
     }
     free_byte(floor[cell])
-}
-
-// Whether a cell is a goal.
-pub fn is_goal(goal: usize, cell: usize) -> bool
-    ensures { λ r. ⌜ r ≡ member cell (goalsOf goal) ⌝ }
-{
-    cell == goal
 }
 
 // How far the move m goes east, counted so that 1 is not at all.
@@ -308,27 +303,4 @@ pub fn step_from(width: usize, height: usize, floor: &[u8], cell: usize, at: Spo
         cell: to,
         cost: cost,
     }
-}
-
-// How far apart two numbers are.
-fn gap(a: usize, b: usize) -> usize
-    ensures { λ r. ⌜ r ≡ apart a b ⌝ }
-{
-    if a < b { b - a } else { a - b }
-}
-
-fn smaller(a: usize, b: usize) -> usize
-    ensures { λ r. ⌜ r ≡ min a b ⌝ }
-{
-    if a < b { a } else { b }
-}
-
-// The opening figure of a cell, which does not depend on the floor's bytes.
-pub fn opening(width: usize, height: usize, goal: usize, q: usize, cell: usize) -> usize
-    requires { ⌜ 1 ≤ width ⌝ ∗ ⌜ width ≤ 64 ⌝ ∗ ⌜ height ≤ 64 ⌝ ∗ ⌜ q ≤ finest ⌝ ∗ ⌜ (cell < width * height) × (goal < width * height) ⌝ }
-    ensures { λ r. ⌜ ((bytes : List ℕ) → r ≡ model.opening (flat width height bytes) q (goalsOf goal) cell) ⌝ }
-{
-    let dx = gap(cell % width, goal % width);
-    let dy = gap(cell / width, goal / width);
-    q * (DIAGONALS * smaller(dx, dy) + STRAIGHTS * gap(dx, dy))
 }

@@ -16,7 +16,7 @@ use Rattle.answers.specs.declared.Report.{Report}
 use Rattle.answers.specs.declared.Verdict.the-variants as Vd
 use Rattle.model.specs.Opening.{openTrial}
 use Rattle.model.specs.Basics.{member}
-use Rattle.model.specs.Floor.{goalsOf}
+use Rattle.model.specs.Checks.{goals}
 use Rattle.model.specs.Lookahead.{mostMoves}
 use Rattle.model.specs.Decision.{Deed, act}
 use Rattle.model.specs.Ride.{Ride, next, nextBy, report}
@@ -30,7 +30,7 @@ use Rattle.decision.specs.Laying.{leastRoom, wayOf, Lays}
 use Rattle.run.specs.declared.Stand.{Stand}
 use Rattle.run.specs.Stands.{setOut, Went, Left}
 use Rattle.run.specs.Trials.{Scratch}
-use Rattle.run.proofs.Driving.{Driving, Underway, off, sets-out, sets-out-at, aside, goes-on, goes-on-at}
+use Rattle.run.proofs.Driving.{Driving, Underway, off, sets-out, sets-out-at, goes-on, goes-on-at}
 use Rattle.journey.specs.Telling.{Follows, Room, Spilt, Told, Ended, some, dash}
 
 -- ---- one text after another
@@ -127,7 +127,7 @@ all-at (also p a) ys (suc i) h = all-at a ys i (omega arith)
 -- ---- a decision of a trial
 
 module _ (j : Job) (bytes : List ℕ) (start : ℕ) (table₀ path₀ : List ℕ) (opened : openTrial j bytes start table₀ path₀ ≡ Vd.Done)
-    {w : Stand} {table path : List ℕ} (g : Driving j bytes start table₀ path₀ w table path) (aside : w .state .current ≡ j .goal → ⊥) where
+    {w : Stand} {table path : List ℕ} (g : Driving j bytes start table₀ path₀ w table path) (aside : member (w .state .current) (goals j) ≡ false) where
   abbrev d : Deed
   d = act j bytes (w .state) table path
 
@@ -187,21 +187,18 @@ module _ (j : Job) (bytes : List ℕ) (start : ℕ) (table₀ path₀ : List ℕ
 
   -- one decision is made, and its moves are laid
   module _ {w : Stand} {table path moves mark cost list place along out : List ℕ} {moved : Bool} {at : ℕ}
-      (t : Telling j bytes start table₀ path₀ out₀ from w table path moves mark cost list place along moved out at) (e : member (w .state .current) (goalsOf (j .goal)) ≡ false)
+      (t : Telling j bytes start table₀ path₀ out₀ from w table path moves mark cost list place along moved out at) (e : member (w .state .current) (goals j) ≡ false)
       {table′ path′ along′ mark′ cost′ list′ place′ moves′ : List ℕ} {r : Stand} {n : ℕ} (a : Went (act j bytes (w .state) table path) w along r table′ path′ along′)
       (f : Left j bytes (act j bytes (w .state) table path) w r mark′ cost′ list′ place′ path′) (l : Lays moves 0 (wayOf j bytes (w .state .current) (r .answer)) moves′ n) where
     abbrev g : Driving j bytes start table₀ path₀ w table path
     g = t .under .drive
-
-    abbrev off-it : w .state .current ≡ j .goal → ⊥
-    off-it = aside j bytes start table₀ path₀ opened (t .under) e
 
     -- the moves laid are the decision's
     laying : Lays moves 0 (act j bytes (w .state) table path .way) moves′ n
     laying = subst (λ v. Lays moves 0 v moves′ n) (sym (f .way)) l
 
     pub may-say : Room out at × ((n ≤ mostMoves) × (n ≤ length moves′) × ((i : ℕ) → i < n → getD moves′ i 0 < 8))
-    may-say = (t .told .room, sayable j bytes start table₀ path₀ opened g off-it laying)
+    may-say = (t .told .room, sayable j bytes start table₀ path₀ opened g e laying)
 
     pub tells : {out′ : List ℕ} {at′ : ℕ} {moved′ : Bool} → length moves′ ≡ length moves → Told out at (moveDigits (take n moves′)) out′ at′ → moved′ ≡ (moved || ltb 0 n)
         → Telling j bytes start table₀ path₀ out₀ from r table′ path′ moves′ mark′ cost′ list′ place′ along′ moved′ out′ at′
@@ -211,8 +208,8 @@ module _ (j : Job) (bytes : List ℕ) (start : ℕ) (table₀ path₀ : List ℕ
           under = goes-on j bytes start table₀ path₀ opened (t .under) e a f;
           told =
               subst (λ o. Told out₀ from (moveDigits (o .moves)) out′ at′) so
-              (subst (λ l. Told out₀ from l out′ at′) (more-moves j bytes start table₀ path₀ opened g off-it laying) (told-then _ _ (t .told) u));
-          moved-is = m ∙ ap (λ b. b || ltb 0 n) (t .moved-is) ∙ moved-more j bytes start table₀ path₀ opened g off-it laying ∙ ap (λ o. some (o .moves)) so;
+              (subst (λ l. Told out₀ from l out′ at′) (more-moves j bytes start table₀ path₀ opened g e laying) (told-then _ _ (t .told) u));
+          moved-is = m ∙ ap (λ b. b || ltb 0 n) (t .moved-is) ∙ moved-more j bytes start table₀ path₀ opened g e laying ∙ ap (λ o. some (o .moves)) so;
           room = size ∙ t .room;
         }
 

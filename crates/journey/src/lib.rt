@@ -75,7 +75,7 @@ pub struct Way {
     pub at: usize,
 }
 
-// The decisions of a trial until the goal, and the moves of each as it is made.
+// The decisions of a trial until a goal, and the moves of each as it is made.
 fn tell_moves(
     job: Job,
     floor: &[u8],

@@ -18,14 +18,14 @@ use Rattle.answers.specs.declared.Answer.{Answer}
 use Rattle.answers.specs.declared.Answer.the-variants as A
 use Rattle.answers.specs.declared.Verdict.the-variants as Vd
 use Rattle.answers.proofs.One.{answer-one}
+use Rattle.model.specs.Basics.{member}
 use Rattle.model.specs.Floor.{size}
-use Rattle.model.specs.Checks.{floorOf}
+use Rattle.model.specs.Checks.{floorOf, goals}
 use Rattle.model.specs.Decision.{atGoal, Deed, rise, forwardBy, backOutBy, stay, act, laid, outcomeOf, decide}
 use Rattle.model.specs.Ride.{Ride, begun, next, rideFrom, rideFromBy, learningJob, bound, ride, rideBy}
-use Rattle.model.proofs.Moves.{is-true, free-below}
 use Rattle.model.proofs.Accepted.{fails}
 use Rattle.model.proofs.Openings.{Held, Ready}
-use Rattle.model.proofs.Meaning.{goal-is}
+use Rattle.model.proofs.Benches.{goal-free, at-goal}
 use Rattle.model.proofs.Cases.{act-arrived, decide-acts}
 use Rattle.model.proofs.Steps.{asState, newHere, Says, went, backed, stayed, act-forward, act-back, act-stay}
 use Rattle.model.proofs.Rides.{Riding, riding-begun, riding-from, keeps, room as room-for, judges, does, decisions-low, ride-there, ride-on}
@@ -86,9 +86,9 @@ module _ (j : Job) (bytes : List ℕ) (start : ℕ) (table path : List ℕ) (rea
   pub few : here .decisions < bound j bytes table
   few = decisions-low j bytes start table path ready riding
 
-  -- at the bench it is at the goal; and where it has made n decisions it is the whole ride
-  pub at-bench : here .state .current ≡ j .goal → atGoal j bytes (here .state .current) ≡ true
-  at-bench h = ap (atGoal j bytes) h ∙ is-true _ (goal-is (floorOf j bytes) (j .goal) (free-below (floorOf j bytes) (j .goal) (ready .opened .held .bench)))
+  -- at a bench it is at a goal; and where it has made n decisions it is the whole ride
+  pub at-bench : member (here .state .current) (goals j) ≡ true → atGoal j bytes (here .state .current) ≡ true
+  at-bench h = at-goal j bytes (here .state .current) (goal-free (floorOf j bytes) (goals j) (ready .opened .held .benches) (here .state .current) h) ∙ h
 
   pub whole : here .decisions ≡ n → atGoal j bytes (here .state .current) ≡ true → here ≡ ride j bytes start table path
   unfolding rideBy
@@ -110,7 +110,7 @@ module _ (j : Job) (bytes : List ℕ) (start : ℕ) (table path : List ℕ) (rea
     pub answers : r .answer ≡ deed .answer
     answers = answer-one (r .answer) (deed .answer) (acts .answer)
 
-    -- at the goal it answers that it has arrived, and elsewhere neither that nor a refusal
+    -- at a goal it answers that it has arrived, and elsewhere neither that nor a refusal
     pub arrives : atGoal j bytes (here .state .current) ≡ true → r .answer ≡ A.Arrived
     arrives g = answers ∙ ap (λ d. d .answer) (act-arrived j bytes (here .state) (here .table) (here .path) g)
 

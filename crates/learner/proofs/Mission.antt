@@ -1,6 +1,6 @@
 -- Demand 3 of the mission, as a caller of the library may conclude it from what `open`, `trial`, `run` and `decide` promise, and from nothing else.
 -- A promise fixes the answer and every list at exit as the model's; so the model's laws (Demand, Driven, KeptWay) are laws of what the calls hand out.
--- The mission's own words are those of Demand: the cheapest `distance` to the bench, the true figure `trueOf`, whether a cell `can` reach the bench, R and K.
+-- The mission's own words are those of Demand: the cheapest `distance` to the bench, of several to the nearest, the true figure `trueOf`, whether a cell `can` reach the bench, R and K.
 -- Refused and ReadBack say the last sentences of demands 1 and 2 in the same way.
 use Prim.Native.Nat.{ℕ, zero, suc, _+_, _*_, _≤_, _<_}
 use mathlib.Core.Path.{_≡_, refl, sym, ap, ap₂, _∙_, subst, subst₂}
@@ -23,16 +23,18 @@ use Rattle.answers.specs.declared.Tried.the-variants as Td
 use Rattle.answers.specs.declared.Ran.{Ran}
 use Rattle.answers.specs.declared.Ran.the-variants as Rn
 use Rattle.answers.proofs.One.{answer-one, tried-one, ran-one}
-use Rattle.model.specs.Checks.{floorOf, sizes, pathRoom, settings}
+use Rattle.model.specs.Basics.{member}
+use Rattle.model.specs.Checks.{floorOf, goals, sizes, pathRoom, settings}
 use Rattle.model.specs.Decision.{atGoal, act, decide}
 use Rattle.model.specs.Opening.{openJob, openTrial, openRun}
 use Rattle.model.specs.Ride.{Ride, begun, nextBy, rideFrom, rideFromBy, report, ride, trial, Course, courseFrom, courseFromBy, run}
 use Rattle.model.proofs.Accepted.{then-done, then-next, reports-judges, trials-judges}
 use Rattle.model.proofs.Openings.{Ready, opened, ready, accepted-trial, ready-run}
-use Rattle.model.proofs.Meaning.{net, goal-means}
+use Rattle.model.proofs.Meaning.{net}
+use Rattle.model.proofs.Benches.{goal-means}
 use Rattle.model.proofs.Cases.{act-arrived}
 use Rattle.model.proofs.Rides.{ready-after, course-settled, course-again}
-use Rattle.model.proofs.Driven.{Drives, Names, Moved, decide-drives, trial-drives, trial-drives-to-the-bench}
+use Rattle.model.proofs.Driven.{Drives, Names, Moved, decide-drives, trial-drives, trial-ends-at-a-bench, trial-drives-to-a-bench}
 use Rattle.model.proofs.Demand.{K, R, can, trueOf, distance, bound-is, made-is-accepted, trial-is-made, trial-is-promised, made-run-is-accepted, run-is-made}
 use Rattle.model.proofs.Demand.{no-figure-falls-in-a-trial, no-figure-passes-truth-in-a-trial, no-figure-falls-in-a-run, no-figure-passes-truth-in-a-run}
 use Rattle.model.proofs.Demand.{no-figure-falls-in-a-decision, no-figure-passes-truth-in-a-decision, decision-stays-accepted}
@@ -90,9 +92,12 @@ pub record Kept (j : Job) (bytes : List ℕ) (start : ℕ) (before : List ℕ) (
   pub few : r .decisions < K j bytes * (R j bytes before + 1)
   pub kept-way : j .p * r .kept ≤ j .q * (distance j bytes start + j .quota)
   pub learning-nothing : r .learned ≡ 0 → j .p * r .travel ≤ j .q * distance j bytes start
-  -- what is counted: the kept cost is that of a walk from the start to the bench, and the travel that of moves which drive the cart from the start to the bench
-  pub keeps-a-way : Leads (net j bytes) Any start (j .goal) (r .kept)
-  pub drives : (moves : List ℕ) × Drives (floorOf j bytes) start moves (j .goal) (r .travel)
+  -- it ends at a bench, one of the job's goals
+  pub bench : ℕ
+  pub is-bench : member bench (goals j) ≡ true
+  -- what is counted: the kept cost is that of a walk from the start to that bench, and the travel that of moves which drive the cart from the start to it
+  pub keeps-a-way : Leads (net j bytes) Any start bench (r .kept)
+  pub drives : (moves : List ℕ) × Drives (floorOf j bytes) start moves bench (r .travel)
 
 ride-keeps : (j : Job) (bytes : List ℕ) (start : ℕ) (table path : List ℕ) → openTrial j bytes start table path ≡ Vd.Done
     → Kept j bytes start table (report j bytes (ride j bytes start table path)) (ride j bytes start table path .table)
@@ -103,6 +108,8 @@ ride-keeps j bytes start table path e =
       few = g .decisions;
       kept-way = g .kept-way;
       learning-nothing = g .learning-nothing;
+      bench = ride j bytes start table path .state .current;
+      is-bench = g .reaches-the-bench;
       keeps-a-way = g .keeps-a-way .walk;
       drives = (ride j bytes start table path .moves, g .drives);
     }
@@ -210,21 +217,22 @@ pub data Decisions (j : Job) (bytes : List ℕ) (start : ℕ) (table path : List
       → (moves : List ℕ) (from : ℕ) → from + 288 ≤ length moves → Decides (decide j bytes s t p moves from) r t′ p′ m′ → (r .answer ≡ A.Arrived → ⊥)
       → Decisions j bytes start table path (suc n) (moved ++ handed (r .answer) from m′) (r .state) t′ p′
 
--- decisions that come to the bench are the trial's: their number, the lists left, and the moves, which drive the cart from the start to the bench at the trial's travel
+-- decisions that come to a bench are the trial's: their number, the lists left, and the moves, which drive the cart from the start to that bench at the trial's travel
 pub record Whole (j : Job) (bytes : List ℕ) (start n : ℕ) (moved t p : List ℕ) (o : Ride) : Type 0 where
   pub decisions : n ≡ o .decisions
   pub table-is : t ≡ o .table
   pub path-is : p ≡ o .path
   pub moves-are : moved ≡ o .moves
-  pub drives : Drives (floorOf j bytes) start moved (j .goal) (o .travel)
+  pub drives : Drives (floorOf j bytes) start moved (o .state .current) (o .travel)
+  pub is-bench : member (o .state .current) (goals j) ≡ true
 
 -- what a call answers that has 288 places, where n decisions have led to the state s
 pub record GoesOn (j : Job) (bytes : List ℕ) (start : ℕ) (table path : List ℕ) (n : ℕ) (moved : List ℕ) (s : State) (r : Decided) (t p : List ℕ) : Type 0 where
   -- it is not refused
   pub let-through : (x : Refusal) → r .answer ≡ A.Refused x → ⊥
-  -- it answers that it has arrived at the bench, and nowhere else; then the trial is made
-  pub at-the-bench : s .current ≡ j .goal → r .answer ≡ A.Arrived
-  pub nowhere-else : r .answer ≡ A.Arrived → s .current ≡ j .goal
+  -- it answers that it has arrived at any of the benches, and nowhere else; then the trial is made
+  pub at-the-bench : member (s .current) (goals j) ≡ true → r .answer ≡ A.Arrived
+  pub nowhere-else : r .answer ≡ A.Arrived → member (s .current) (goals j) ≡ true
   pub made : r .answer ≡ A.Arrived → Whole j bytes start n moved t p (ride j bytes start table path)
 
 -- "Every trial reaches the bench in fewer than K × (R + 1) decisions.": also one that is made decision by decision
@@ -272,14 +280,15 @@ module _ (j : Job) (bytes : List ℕ) (start : ℕ) (table path : List ℕ) (a :
           record {
             let-through = λ x q. let z : _≡_ {A = ℕ} 0 1 = cc in omega arith;
             at-the-bench = λ q. arrived;
-            nowhere-else = λ q. goal-means (floorOf j bytes) (j .goal) _ (subst T (sym g) tt);
+            nowhere-else = λ q. goal-means (floorOf j bytes) (goals j) _ (subst T (sym g) tt);
             made = λ q. record {
               decisions = sym count ∙ ap (λ r. r .decisions) all;
               table-is = c .table ∙ ap (λ d. d .table) still ∙ ap (λ r. r .table) all;
               path-is = c .path ∙ ap (λ d. d .path) still ∙ ap (λ r. r .path) all;
               moves-are = ap (λ r. r .moves) all;
-              drives = subst (λ ms. Drives (floorOf j bytes) start ms (j .goal) (ride j bytes start table path .travel)) (sym (ap (λ r. r .moves) all))
-                  (trial-drives-to-the-bench j bytes start table path (accepted-opens a));
+              drives = subst (λ ms. Drives (floorOf j bytes) start ms (ride j bytes start table path .state .current) (ride j bytes start table path .travel)) (sym (ap (λ r. r .moves) all))
+                  (trial-drives-to-a-bench j bytes start table path (accepted-opens a));
+              is-bench = trial-ends-at-a-bench j bytes start table path (accepted-opens a);
             };
           }
 

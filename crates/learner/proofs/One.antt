@@ -6,6 +6,7 @@ use mathlib.Core.Path.{_≡_, sym, ap₂, _∙_}
 use mathlib.Core.List.{List}
 use denote.Ref.{RefT}
 use Rattle.answers.specs.Says.{saysVerdict}
+use Rattle.answers.specs.declared.Goals.{Goals}
 use Rattle.answers.specs.declared.Verdict.{Verdict}
 use Rattle.answers.specs.declared.Decided.{Decided}
 use Rattle.answers.specs.declared.Report.{Report}
@@ -36,7 +37,7 @@ pub open-one : {v r s : Verdict} → Answers r v → Answers s v → r ≡ s
 open-one h k = same (h .is) (k .is)
 
 -- `fill_opening`: the verdict, and the table.
-pub fill-opening-one : {f : Floor} {q : ℕ} {gs table t u : List ℕ} {r s : Verdict} → Fills f q gs table r t → Fills f q gs table s u → (r ≡ s) × (t ≡ u)
+pub fill-opening-one : {f : Floor} {q : ℕ} {g : Goals} {table t u : List ℕ} {r s : Verdict} → Fills f q g table r t → Fills f q g table s u → (r ≡ s) × (t ≡ u)
 fill-opening-one h k = (open-one (h .answer) (k .answer), same (h .left) (k .left))
 
 -- `decide`: the answer and the state after it, the table, the path and the moves.
@@ -89,6 +90,6 @@ pub read-table-one : {v r s : Verdict} {left t u : List ℕ} → file.Reads v le
 read-table-one h k = (verdict-one _ _ (same (h .answer) (k .answer)), same (h .table) (k .table))
 
 -- `write_table`: the answer with its length, and the buffer.
-pub write-table-one : (f : Floor) (q : ℕ) (gs table buffer : List ℕ) {r s : Written} {b c : List ℕ}
-    → Writes (writeTable f q gs table buffer) r b → Writes (writeTable f q gs table buffer) s c → (r ≡ s) × (b ≡ c)
-write-table-one f q gs table buffer h k = writes-one h k
+pub write-table-one : (f : Floor) (q : ℕ) (g : Goals) (table buffer : List ℕ) {r s : Written} {b c : List ℕ}
+    → Writes (writeTable f q g table buffer) r b → Writes (writeTable f q g table buffer) s c → (r ≡ s) × (b ≡ c)
+write-table-one f q g table buffer h k = writes-one h k

@@ -1,73 +1,80 @@
 -- Demand 2 of the mission, its last sentence, from what `write_table` and `read_table` promise: "A written table reads back the same, and an accepted table's bytes,
--- from its first record on, are what writing it again gives." And document 02 of floor text, from what `write_floor` and `read_floor` promise.
+-- from its first record on, are what writing it again gives.", of edition 2 files; one of edition 1 keeps its records. And document 02 of floor text, from what `write_floor` and `read_floor` promise.
 -- What the calls answer and leave is the model's, and of that RoundTrip and FloorRoundTrip say it.
 use Prim.Native.Nat.{ℕ, _+_, _-_, _*_, _≤_}
 use mathlib.Core.Path.{_≡_, refl, sym, ap, ap₂, _∙_, subst}
 use mathlib.Core.Bool.{true}
-use mathlib.Core.List.{List, [], _∷_, _++_, map}
+use mathlib.Core.List.{List, _++_, map}
 use native.Mathlib.Omega.{arith}
 use lib.ListN.{length, take, drop}
 use lib.Seq.{take-at}
 use Rattle.answers.specs.declared.FloorRead.{FloorRead}
 use Rattle.answers.specs.declared.FloorRead.the-variants as Fr
+use Rattle.answers.specs.declared.Goals.{Goals}
 use Rattle.answers.specs.declared.Verdict.{Verdict}
 use Rattle.answers.specs.declared.Verdict.the-variants as Vd
 use Rattle.answers.specs.declared.Written.{Written}
 use Rattle.answers.specs.declared.Written.the-variants as Wr
 use Rattle.answers.proofs.One.{verdict-one, floor-one, written-one}
 use Rattle.model.specs.Basics.{every}
-use Rattle.model.specs.Floor.{Floor, size}
-use Rattle.model.specs.TableFile.{backIn, readVerdict, readTable, writeVerdict, fileOf, writeTable}
+use Rattle.model.specs.Floor.{Floor, size, goalsOf}
+use Rattle.model.specs.TableFile.{secondLong, editionIn, countIn, backIn, findRecords, readVerdict, readTable, writeVerdict, fileOf, writeTable}
 use Rattle.model.specs.Writing.{writeOf, Writes}
 use Rattle.model.specs.FloorText.{widthIn, heightIn, rowsIn, cellsOf, floorVerdict, floorFrom, readFloor}
 use Rattle.model.specs.FloorWritten.{textOf, textVerdict, writeFloor}
 use Rattle.model.proofs.Records.{Bytes}
-use Rattle.model.proofs.RoundTrip.{written-table-reads-back, accepted-table-writes-again, accepted-table-is-writable}
+use Rattle.model.proofs.RoundTrip.{written-table-reads-back, accepted-table-writes-again, accepted-table-keeps-its-records, accepted-table-is-writable}
 use Rattle.model.proofs.FloorTexts.{sized-needs-room, room-judges, text-gives}
 use Rattle.model.proofs.FloorLines.{asRead, isRowByte}
 use Rattle.model.proofs.FloorRoundTrip.{written-floor-reads-back, floorIn, read-sized, read-floor-writes-again}
 use Rattle.floor_text.specs.Reads as text
 use Rattle.table_file.specs.Promises.{Reads}
 
-module _ (f : Floor) (q goal : ℕ) where
+module _ (f : Floor) (q : ℕ) (g : Goals) where
   abbrev gs : List ℕ
-  gs = goal ∷ []
+  gs = goalsOf g
 
-  -- where a table was written in n bytes of the buffer, reading these for the same floor, goal and q is accepted and gives the table: whatever bytes stand ahead of
+  -- where a table was written in n bytes of the buffer, reading these for the same floor, goals and q is accepted and gives the table: whatever bytes stand ahead of
   -- them, and whatever the table held that is read into
-  pub written-reads-back : (table buffer : List ℕ) {n : ℕ} {b : List ℕ} → Writes (writeTable f q (goal ∷ []) table buffer) (Wr.Length n) b
+  pub written-reads-back : (table buffer : List ℕ) {n : ℕ} {b : List ℕ} → Writes (writeTable f q g table buffer) (Wr.Length n) b
       → (older other : List ℕ) → length other ≡ length table → {v : Verdict} {t : List ℕ}
-      → Reads (readVerdict f q (goal ∷ []) (older ++ take n b) (length other)) (readTable f q (goal ∷ []) (older ++ take n b) other) v t → (v ≡ Vd.Done) × (t ≡ table)
+      → Reads (readVerdict f q g (older ++ take n b) (length other)) (readTable f q g (older ++ take n b) other) v t → (v ≡ Vd.Done) × (t ≡ table)
   unfolding writeTable
-  written-reads-back table buffer {n} {b} w older other l {v} {t} h = by (writeVerdict f q gs table (length buffer)) refl w
+  written-reads-back table buffer {n} {b} w older other l {v} {t} h = by (writeVerdict f q g table (length buffer)) refl w
     where
-      by : (u : Verdict) → writeVerdict f q gs table (length buffer) ≡ u → Writes (writeOf u (fileOf f q gs table) buffer) (Wr.Length n) b → (v ≡ Vd.Done) × (t ≡ table)
+      by : (u : Verdict) → writeVerdict f q g table (length buffer) ≡ u → Writes (writeOf u (fileOf f q gs table) buffer) (Wr.Length n) b → (v ≡ Vd.Done) × (t ≡ table)
       by (Vd.Refused x) e k = absurd (omega (arith, ap (λ s. s .kind) (k .answer)))
       by Vd.Done e k =
           let same = written-one (Wr.Length n) (Wr.Length (length (fileOf f q gs table))) (k .answer) in
           let long : n ≡ length (fileOf f q gs table) = cc in
           let file : take n b ≡ fileOf f q gs table = ap (take n) (k .buffer) ∙ take-at (fileOf f q gs table) (drop (length (fileOf f q gs table)) buffer) n (sym long) in
-          let (accepted, again) = written-table-reads-back f q goal table (length buffer) e older other l in (
-            verdict-one v _ (h .answer) ∙ ap (λ xs. readVerdict f q gs (older ++ xs) (length other)) file ∙ accepted,
-            h .table ∙ ap (λ xs. readTable f q gs (older ++ xs) other) file ∙ again,
+          let (accepted, again) = written-table-reads-back f q g table (length buffer) e older other l in (
+            verdict-one v _ (h .answer) ∙ ap (λ xs. readVerdict f q g (older ++ xs) (length other)) file ∙ accepted,
+            h .table ∙ ap (λ xs. readTable f q g (older ++ xs) other) file ∙ again,
           )
 
-  -- where bytes were accepted as a table, writing that table where there is room gives their part from the first record on
-  pub accepted-writes-again : (bytes table : List ℕ) → Bytes bytes → {t : List ℕ}
-      → Reads (readVerdict f q (goal ∷ []) bytes (length table)) (readTable f q (goal ∷ []) bytes table) Vd.Done t
-      → (buffer : List ℕ) → backIn bytes ≤ length buffer → {r : Written} {b : List ℕ} → Writes (writeTable f q (goal ∷ []) t buffer) r b
-      → (n : ℕ) × (r ≡ Wr.Length n) × (take n b ≡ drop (length bytes - backIn bytes) bytes)
-  unfolding writeTable
-  accepted-writes-again bytes table small {t} h buffer room {r} {b} w =
-      let accepted = sym (verdict-one Vd.Done (readVerdict f q gs bytes (length table)) (h .answer)) in
-      let n = length (fileOf f q gs t) in
-      let may : writeVerdict f q gs t (length buffer) ≡ Vd.Done =
-      ap (λ (t : List ℕ). writeVerdict f q gs t (length buffer)) (h .table) ∙ accepted-table-is-writable f q goal bytes table small accepted (length buffer) room in
-      let k = subst (λ u. Writes (writeOf u (fileOf f q gs t) buffer) r b) may w in (
-        n,
-        written-one r (Wr.Length n) (k .answer),
-        ap (take n) (k .buffer) ∙ take-at (fileOf f q gs t) (drop n buffer) n refl ∙ ap (fileOf f q gs) (h .table) ∙ accepted-table-writes-again f q goal bytes table small accepted,
-      )
+  -- bytes that were accepted as a table, and that table written where there is room
+  module _ (bytes table : List ℕ) (small : Bytes bytes) {t : List ℕ} (h : Reads (readVerdict f q g bytes (length table)) (readTable f q g bytes table) Vd.Done t)
+      (buffer : List ℕ) (room : secondLong + 6 * countIn bytes ≤ length buffer) {r : Written} {b : List ℕ} (w : Writes (writeTable f q g t buffer) r b) where
+    accepted : readVerdict f q g bytes (length table) ≡ Vd.Done
+    accepted = sym (verdict-one Vd.Done (readVerdict f q g bytes (length table)) (h .answer))
+
+    written : (n : ℕ) × (r ≡ Wr.Length n) × (take n b ≡ fileOf f q gs (readTable f q g bytes table))
+    unfolding writeTable
+    written =
+        let n = length (fileOf f q gs t) in
+        let may : writeVerdict f q g t (length buffer) ≡ Vd.Done =
+        ap (λ (t : List ℕ). writeVerdict f q g t (length buffer)) (h .table) ∙ accepted-table-is-writable f q g bytes table small accepted (length buffer) room in
+        let k = subst (λ u. Writes (writeOf u (fileOf f q gs t) buffer) r b) may w in
+        (n, written-one r (Wr.Length n) (k .answer), ap (take n) (k .buffer) ∙ take-at (fileOf f q gs t) (drop n buffer) n refl ∙ ap (fileOf f q gs) (h .table))
+
+    -- of edition 2 it gives their part from the first record on
+    pub accepted-writes-again : editionIn bytes ≡ 2 → (n : ℕ) × (r ≡ Wr.Length n) × (take n b ≡ drop (length bytes - backIn bytes) bytes)
+    accepted-writes-again two = let (n, e, again) = written in (n, e, again ∙ accepted-table-writes-again f q g bytes table small accepted two)
+
+    -- and of either edition a file with the same records
+    pub accepted-keeps-its-records : (n : ℕ) × (r ≡ Wr.Length n) × (findRecords (take n b) ≡ findRecords bytes)
+    accepted-keeps-its-records = let (n, e, again) = written in (n, e, ap findRecords again ∙ accepted-table-keeps-its-records f q g bytes table small accepted)
 
 -- where a floor was written in n bytes of the buffer, reading these into any list with room answers the floor's sizes, and gives its bytes, each as `asRead` says
 pub floor-reads-back : (f : Floor) (buffer : List ℕ) {n : ℕ} {b : List ℕ} → Writes (writeFloor f buffer) (Wr.Length n) b

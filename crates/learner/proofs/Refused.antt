@@ -10,6 +10,7 @@ use native.Mathlib.Omega.{arith}
 use lib.Dec.{ltb, leb, eqb}
 use lib.ListN.{length, getD, take, drop, take-append-drop}
 use Rattle.learning.specs.Ground.{View}
+use Rattle.answers.specs.declared.Goals.{Goals}
 use Rattle.answers.specs.declared.Job.{Job}
 use Rattle.answers.specs.declared.State.{State}
 use Rattle.answers.specs.declared.Decided.{Decided}
@@ -23,7 +24,7 @@ use Rattle.answers.specs.declared.Ran.the-variants as Rn
 use Rattle.answers.specs.declared.FloorRead.the-variants as Fr
 use Rattle.answers.specs.declared.Written.the-variants as Wr
 use Rattle.answers.proofs.One.{answer-one, verdict-one}
-use Rattle.model.specs.Floor.{Floor}
+use Rattle.model.specs.Floor.{Floor, goalsOf}
 use Rattle.model.specs.Checks.{ceiling}
 use Rattle.model.specs.Lookahead.{seen, ring, emptyRing}
 use Rattle.model.specs.Decision.{atGoal, Deed, rise, forwardBy, backOutBy, stay, goBack, act, laid, judge, outcomeOf, decide}
@@ -125,8 +126,8 @@ refused-run j bytes start trials table path lent {x} {t} {p} {reports} = by (ope
     by Vd.Done h = absurd (omega (arith, ap (λ s. s .kind) (h .answer-is)))
 
 -- `fill_opening`: the table
-pub refused-fill-opening : (f : Floor) (q : ℕ) (gs table : List ℕ) {x : Refusal} {t : List ℕ} → Fills f q gs table (Vd.Refused x) t → t ≡ table
-refused-fill-opening f q gs table h = h .left ∙ ap (λ v. filled v f q gs table) (sym (h .answer .is))
+pub refused-fill-opening : (f : Floor) (q : ℕ) (g : Goals) (table : List ℕ) {x : Refusal} {t : List ℕ} → Fills f q g table (Vd.Refused x) t → t ≡ table
+refused-fill-opening f q g table h = h .left ∙ ap (λ v. filled v f q g table) (sym (h .answer .is))
 
 -- `read_floor`: the buffer
 pub refused-read-floor : (bytes buffer : List ℕ) {x : Refusal} {b : List ℕ} → text.Reads (readFloor bytes buffer) (Fr.Refused x) b → b ≡ buffer
@@ -138,10 +139,10 @@ refused-read-floor bytes buffer {x} {b} = by (floorVerdict bytes (length buffer)
     by Vd.Done h = absurd (omega (arith, ap (λ s. s .kind) (h .answer)))
 
 -- `read_table`: the table
-pub refused-read-table : (f : Floor) (q : ℕ) (gs bytes table : List ℕ) {x : Refusal} {t : List ℕ}
-    → file.Reads (readVerdict f q gs bytes (length table)) (readTable f q gs bytes table) (Vd.Refused x) t → t ≡ table
+pub refused-read-table : (f : Floor) (q : ℕ) (g : Goals) (bytes table : List ℕ) {x : Refusal} {t : List ℕ}
+    → file.Reads (readVerdict f q g bytes (length table)) (readTable f q g bytes table) (Vd.Refused x) t → t ≡ table
 unfolding readTable
-refused-read-table f q gs bytes table {x} h = h .table ∙ ap (λ v. readOf v f q gs bytes table) (sym (verdict-one (Vd.Refused x) (readVerdict f q gs bytes (length table)) (h .answer)))
+refused-read-table f q g bytes table {x} h = h .table ∙ ap (λ v. readOf v f q g bytes table) (sym (verdict-one (Vd.Refused x) (readVerdict f q g bytes (length table)) (h .answer)))
 
 -- what both writers promise
 refused-writing : (v : Verdict) (file buffer : List ℕ) {x : Refusal} {b : List ℕ} → Writes (writeOf v file buffer) (Wr.Refused x) b → b ≡ buffer
@@ -154,6 +155,6 @@ unfolding writeFloor
 refused-write-floor f buffer h = refused-writing (textVerdict f (length buffer)) (textOf f) buffer h
 
 -- `write_table`: the buffer
-pub refused-write-table : (f : Floor) (q : ℕ) (gs table buffer : List ℕ) {x : Refusal} {b : List ℕ} → Writes (writeTable f q gs table buffer) (Wr.Refused x) b → b ≡ buffer
+pub refused-write-table : (f : Floor) (q : ℕ) (g : Goals) (table buffer : List ℕ) {x : Refusal} {b : List ℕ} → Writes (writeTable f q g table buffer) (Wr.Refused x) b → b ≡ buffer
 unfolding writeTable
-refused-write-table f q gs table buffer h = refused-writing (writeVerdict f q gs table (length buffer)) (fileOf f q gs table) buffer h
+refused-write-table f q g table buffer h = refused-writing (writeVerdict f q g table (length buffer)) (fileOf f q (goalsOf g) table) buffer h

@@ -2,6 +2,7 @@
 pub use answers::Answer;
 pub use answers::Decided;
 pub use answers::FloorRead;
+pub use answers::Goals;
 pub use answers::Job;
 pub use answers::Place;
 pub use answers::Ran;
@@ -12,6 +13,7 @@ pub use answers::Tried;
 pub use answers::Verdict;
 pub use answers::Written;
 pub use decision::decide;
+pub use floor::one_goal;
 pub use floor_text::read_floor;
 pub use floor_text::write_floor;
 pub use opening::fill_opening;

@@ -2,7 +2,7 @@
 -- Assumes nothing.
 use mathlib.Core.Path.{_≡_, refl, ap, sym, _∙_, subst}
 use mathlib.Core.List.{List}
-use mathlib.Core.Bool.{true}
+use mathlib.Core.Bool.{true, false}
 use mathlib.Core.Logic.{inl, inr}
 use Prim.Native.Nat.{ℕ, _+_, _-_, _≤_, _<_}
 use native.Mathlib.Omega.{arith}
@@ -12,15 +12,17 @@ use lib.Seq.{getD-set-same}
 use Rattle.learning.specs.Walk.{Walk, stop, move, Any}
 use Rattle.learning.specs.Stretch.{stretched-some}
 use Rattle.learning.proofs.Walks.{restate}
+use Rattle.model.specs.Basics.{member}
 use Rattle.model.specs.Floor.{Floor, Sized, free, price}
 use Rattle.model.specs.Checks.{deepest}
 use Rattle.model.specs.Lookahead.{fineness}
+use Rattle.model.proofs.Accepted.{never}
 use Rattle.floor.specs.declared.Step.the-variants.{To}
 use Rattle.floor.specs.Moves.{stepOf}
 use Rattle.floor.proofs.Steps.{price-step}
 use Rattle.lookahead.specs.Contract.{lastBase, Fresh}
 use Rattle.lookahead.specs.Marks.{net, State, begun, markOf, costAt, cellOf, In, Sizes, Room, Spread, Kept, Swept, Segment}
-use Rattle.lookahead.specs.Rings.{Done, Level, Full, Marked, Framed, Blocked}
+use Rattle.lookahead.specs.Rings.{Done, Level, Full, Marked, Framed, Unmet, Blocked}
 use Rattle.lookahead.proofs.Blanks.{blanks-set, blanks-all}
 use Rattle.lookahead.proofs.Stores.{by-store}
 use Rattle.lookahead.proofs.Grow.{kept-in, entered-new, entered-size, entered-blank}
@@ -84,9 +86,9 @@ module _ (f : Floor) (s base : ℕ) (mark cost list : List ℕ) (on : free f s �
   pub full-begin : Full base base (begun base mark cost list s)
   full-begin g p q = (s, mark-s ∙ omega (arith, p, q))
 
-  -- the goal, another cell, has no mark
-  pub begin-other : (x : ℕ) → (s ≡ x → ⊥) → markOf (begun base mark cost list s) x < base
-  begin-other x n = by-store (λ y. y < base) mark s base x inside (λ e. absurd (n (sym e))) (λ m. F .marks .below x)
+  -- no other cell has a mark, so no goal
+  pub begin-unmet : (gs : List ℕ) → member s gs ≡ false → Unmet gs base (begun base mark cost list s)
+  begin-unmet gs n x m = by-store (λ y. y < base) mark s base x inside (λ e. absurd (never m (ap (λ y. member y gs) e ∙ n))) (λ o. F .marks .below x)
 
 -- the ring that is marked last is left next
 module _ (f : Floor) (z : Sized f) (s base k from : ℕ) (S : State) (L : Level f s base k from S) where
@@ -200,18 +202,18 @@ module _ (f : Floor) (z : Sized f) (s base k from : ℕ) (S : State) (L : Level 
     early = L .spread .early;
   }
 
--- the answers: the depth is reached; the goal is in the ring found last; the ring found last is empty
+-- the answers: the depth is reached; a goal is in the ring found last; the ring found last is empty
 module _
-    (f : Floor) (z : Sized f) (s goal depth base k from r : ℕ) (S : State) (L : Level f s base k from S)
-    (e : k ≡ base + r) (far : markOf S goal < base) (F : Full base k S)
+    (f : Floor) (z : Sized f) (s : ℕ) (gs : List ℕ) (depth base k from r : ℕ) (S : State) (L : Level f s base k from S)
+    (e : k ≡ base + r) (far : Unmet gs base S) (F : Full base k S)
   where
-    pub level-framed : r ≡ depth → 1 ≤ depth → Framed f s goal depth base r S
+    pub level-framed : r ≡ depth → 1 ≤ depth → Framed f s gs depth base r S
     level-framed d p = record {
       marked = level-marked f z s base k from S L r e;
       within = omega arith;
       some = omega arith;
       ends = inl d;
-      nearer = λ i. absurd (omega (arith, i, far));
+      nearer = λ g m i. absurd (omega (arith, i, far g m));
       full = subst (λ y. Full base y S) e F;
     }
 
@@ -219,26 +221,27 @@ module _
       abbrev L′ : Level f s base (k + 1) (S .n) S′
       L′ = level-next f z s base k from S L S′ W
 
-      pub next-blocked : S′ .n ≡ S .n → Blocked f s goal depth base r S′
+      pub next-blocked : S′ .n ≡ S .n → Blocked f s gs depth base r S′
       next-blocked q =
           let none : (x : ℕ) → markOf S′ x ≤ k = λ x. level-empty f z s base k from S L S′ W q x (omega (arith, e)) in record {
             marked = level-marked f z s base (k + 1) (S .n) S′ L′ (r + 1) (omega (arith, e));
             short = short;
             empty = λ x. omega (arith, none x, e);
-            far = away (decLe base (markOf S′ goal)) (none goal);
+            far = λ g m. away g m (decLe base (markOf S′ g)) (none g);
           }
         where
-          away : Dec (base ≤ markOf S′ goal) → markOf S′ goal ≤ k → markOf S′ goal < base
-          away (yes p) l = absurd (omega (arith, l, level-goal f z s base k from S L S′ W goal far p))
-          away (no p) l = omega (arith, p)
+          away : (g : ℕ) → member g gs ≡ true → Dec (base ≤ markOf S′ g) → markOf S′ g ≤ k → markOf S′ g < base
+          away g m (yes p) l = absurd (omega (arith, l, level-goal f z s base k from S L S′ W g (far g m) p))
+          away g m (no p) l = omega (arith, p)
 
-      pub next-framed : S .n < S′ .n → In base (S′ .mark) goal → Framed f s goal depth base (r + 1) S′
-      next-framed l p =
-          let g : markOf S′ goal ≡ base + (r + 1) = level-goal f z s base k from S L S′ W goal far p ∙ omega (arith, e) in record {
+      pub next-framed : S .n < S′ .n → (g : ℕ) → member g gs ≡ true → In base (S′ .mark) g → Framed f s gs depth base (r + 1) S′
+      next-framed l g m p =
+          let on : (x : ℕ) → member x gs ≡ true → In base (S′ .mark) x → markOf S′ x ≡ base + (r + 1) =
+          λ x n i. level-goal f z s base k from S L S′ W x (far x n) i ∙ omega (arith, e) in record {
             marked = level-marked f z s base (k + 1) (S .n) S′ L′ (r + 1) (omega (arith, e));
             within = omega arith;
             some = omega arith;
-            ends = inr g;
-            nearer = λ i. g;
+            ends = inr (g, m, on g m p);
+            nearer = on;
             full = subst (λ y. Full base y S′) (omega (arith, e)) (full-next f z s base k from S L S′ W l F);
           }

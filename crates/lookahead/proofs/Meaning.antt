@@ -22,12 +22,13 @@ use Rattle.learning.proofs.Finer.{window-fine, leg-divided}
 use Rattle.answers.specs.declared.Job.{Job}
 use Rattle.model.specs.Floor.{Floor, size, free, price, dearestPrice}
 use Rattle.model.specs.Grounds.{price-free}
-use Rattle.model.specs.Checks.{deepest, floorOf, groundIn}
+use Rattle.model.specs.Checks.{deepest, floorOf, goals, groundIn}
 use Rattle.model.specs.Lookahead.{seen, ring, w, emptyRing, fineness, fine, fineIn}
 use Rattle.model.proofs.Cells.{cells-le}
 use Rattle.model.proofs.Moves.{is-true, free-below}
 use Rattle.model.proofs.Rings.{empty-none, empty-of}
-use Rattle.model.proofs.Meaning.{goal-means}
+use Rattle.model.proofs.Accepted.{never}
+use Rattle.model.proofs.Benches.{goal-means}
 use Rattle.lookahead.specs.Contract.{lastBase, Spent, Used, Asked, Near, fineCost, Seen}
 use Rattle.lookahead.specs.Contract as contract
 use Rattle.lookahead.specs.Marks.{state, In}
@@ -51,7 +52,7 @@ module _ (j : Job) (bytes : List ℕ) (s : ℕ) (Q : Asked j bytes s) where
   start-on = free-below f s (Q .start)
 
   pub not-goal : ¬ Goal (groundIn j bytes) s
-  not-goal g = Q .apart (goal-means f (j .goal) s g)
+  not-goal g = never (goal-means f (goals j) s g) (Q .apart)
 
   pub job-window : Window (netOf (fineIn j bytes)) (Goal (groundIn j bytes)) (j .depth) s (lastOf (groundIn j bytes) (j .depth) s)
       (ringOf (groundIn j bytes) (j .depth) s) (fineCost j bytes s)
@@ -151,11 +152,11 @@ module _ (j : Job) (bytes : List ℕ) (s : ℕ) (Q : Asked j bytes s) where
             (x .0, inside (x .0) (omega (arith, back (x .0) l, l)), back (x .0) l ∙ e)
 
   -- the window that `look` leaves
-  module _ (base last n : ℕ) (mark cost list : List ℕ) (F : Framed (floorOf j bytes) s (j .goal) (j .depth) base last (state mark cost list n)) (room : base ≤ lastBase)
+  module _ (base last n : ℕ) (mark cost list : List ℕ) (F : Framed (floorOf j bytes) s (goals j) (j .depth) base last (state mark cost list n)) (room : base ≤ lastBase)
       (cost′ list′ : List ℕ) (R : Relaxed (floorOf j bytes) base mark n cost cost′ list′)
     where
       W : Window (netOf (fineIn j bytes)) (Goal G) d s last (ringAt base mark) (at cost′)
-      W = array-window f s (j .goal) d base last (state mark cost list n) F (Q .deep) (Q .sized) (Q .bench) cost′ list′ R
+      W = array-window f s (goals j) d base last (state mark cost list n) F (Q .deep) (Q .sized) (Q .benches) cost′ list′ R
 
       spent : Spent base mark
       spent = record { size = F .marked .room .sizes .marks; room = room; below = λ x. omega (arith, F .marked .top x, F .within, Q .deep) }
@@ -174,12 +175,12 @@ module _ (j : Job) (bytes : List ℕ) (s : ℕ) (Q : Asked j bytes s) where
       }
 
   -- number 9's case
-  module _ (base r n : ℕ) (mark cost list : List ℕ) (B : Blocked (floorOf j bytes) s (j .goal) (j .depth) base r (state mark cost list n)) (room : base ≤ lastBase) where
+  module _ (base r n : ℕ) (mark cost list : List ℕ) (B : Blocked (floorOf j bytes) s (goals j) (j .depth) base r (state mark cost list n)) (room : base ≤ lastBase) where
     goal-far : (y : ℕ) → Goal G y → ringOf G d s y ≡ lastOf G d s → lastOf G d s ≤ r → ⊥
     goal-far y g e h =
         let (c, v) = job-window .attained y (omega (arith, e)) in
         let m = B .marked .fewest y c (ringOf G d s y) v (omega (arith, e, h)) in
-        omega (arith, m .0, B .far, ap (λ x. getD mark x 0) (goal-means f (j .goal) y g))
+        omega (arith, m .0, B .far y (goal-means f (goals j) y g))
 
     -- ring r + 1 is a ring up to the last
     below : (lastOf G d s ≡ d) ⊎ ((y : ℕ) × Goal G y × (ringOf G d s y ≡ lastOf G d s)) → Dec (lastOf G d s ≤ r) → r < lastOf G d s

@@ -6,8 +6,9 @@ use mathlib.Core.List.{List, _++_}
 use lib.ListN.{length, getD, drop}
 use Rattle.learning.specs.Ground.{legOf}
 use Rattle.answers.specs.declared.Job.{Job}
+use Rattle.model.specs.Basics.{member}
 use Rattle.model.specs.Floor.{Sized, size, free}
-use Rattle.model.specs.Checks.{deepest, finest, ceiling, floorOf}
+use Rattle.model.specs.Checks.{deepest, finest, ceiling, floorOf, goals, Benched}
 use Rattle.model.specs.Lookahead.{seen, ring, w, emptyRing, newFigure, target, fineIn, route, movesAlong, mostMoves, highestNew}
 use Rattle.lookahead.specs.declared.Around.{Around}
 use Rattle.lookahead.specs.declared.Around.the-variants as A
@@ -42,12 +43,12 @@ pub record Used (base : ℕ) (mark cost list : List ℕ) : Type 0 where
   pub costs : length cost ≡ 4096
   pub cells : length list ≡ 8192
 
--- What a lookahead from s is asked of: a floor, two free cells that are not the same, and a depth.
+-- What a lookahead from s is asked of: a floor, a free cell of it, goals on it of which that cell is none, and a depth.
 pub record Asked (j : Job) (bytes : List ℕ) (s : ℕ) : Type 0 where
   pub sized : Sized (floorOf j bytes)
   pub start : free (floorOf j bytes) s ≡ true
-  pub bench : free (floorOf j bytes) (j .goal) ≡ true
-  pub apart : s ≡ j .goal → ⊥
+  pub benches : Benched (size (floorOf j bytes)) (goals j)
+  pub apart : member s (goals j) ≡ false
   pub shallow : 1 ≤ j .depth
   pub deep : j .depth ≤ deepest
 

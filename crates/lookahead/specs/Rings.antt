@@ -1,9 +1,12 @@
 -- What the marking of the rings around s promises.
 use mathlib.Core.Path.{_≡_}
+use mathlib.Core.Bool.{true}
 use mathlib.Core.List.{List}
 use mathlib.Core.Logic.{_⊎_}
 use Prim.Native.Nat.{ℕ, _+_, _-_, _≤_, _<_}
+use lib.ListN.{length, getD}
 use Rattle.learning.specs.Walk.{Walk, Any, Leads}
+use Rattle.model.specs.Basics.{member}
 use Rattle.model.specs.Floor.{Floor}
 use Rattle.floor.specs.declared.Step.the-variants.{To}
 use Rattle.floor.specs.Moves.{stepOf}
@@ -38,22 +41,29 @@ pub record Marked (f : Floor) (s base r : ℕ) (S : State) : Type 0 where
   pub listed : (x : ℕ) → In base (S .mark) x → (i : ℕ) × (i < S .n) × (cellOf S i ≡ x)
   pub early : (i : ℕ) → i < S .n → In base (S .mark) (cellOf S i)
 
--- the last ring is the depth's or the goal's, if that is smaller; no ring up to it is empty
-pub record Framed (f : Floor) (s goal depth base last : ℕ) (S : State) : Type 0 where
+-- the last ring is the depth's or the nearest goal's, if that is smaller; no ring up to it is empty
+pub record Framed (f : Floor) (s : ℕ) (gs : List ℕ) (depth base last : ℕ) (S : State) : Type 0 where
   pub marked : Marked f s base last S
   pub within : last ≤ depth
   pub some : 1 ≤ last
-  pub ends : (last ≡ depth) ⊎ (markOf S goal ≡ base + last)
-  pub nearer : In base (S .mark) goal → markOf S goal ≡ base + last
+  pub ends : (last ≡ depth) ⊎ ((g : ℕ) × (member g gs ≡ true) × (markOf S g ≡ base + last))
+  pub nearer : (g : ℕ) → member g gs ≡ true → In base (S .mark) g → markOf S g ≡ base + last
   pub full : Full base (base + last) S
 
--- ring r + 1 is within the depth and empty, and the goal is in none before it
-pub record Blocked (f : Floor) (s goal depth base r : ℕ) (S : State) : Type 0 where
+-- each goal has a place among n marks; and none has a mark yet
+abbrev pub EachBelow : (n : ℕ) (gs : List ℕ) → Type 0
+EachBelow n gs = (i : ℕ) → i < length gs → getD gs i 0 < n
+
+abbrev pub Unmet : (gs : List ℕ) (base : ℕ) → State → Type 0
+Unmet gs base S = (g : ℕ) → member g gs ≡ true → markOf S g < base
+
+-- ring r + 1 is within the depth and empty, and no goal is in one before it
+pub record Blocked (f : Floor) (s : ℕ) (gs : List ℕ) (depth base r : ℕ) (S : State) : Type 0 where
   pub marked : Marked f s base (r + 1) S
   pub short : r < depth
   pub empty : (x : ℕ) → markOf S x ≤ base + r
-  pub far : markOf S goal < base
+  pub far : Unmet gs base S
 
-abbrev pub Rings : Floor → (s goal depth base : ℕ) → (mark cost list : List ℕ) → Around → Type 0
-Rings f s goal depth base mark cost list (A.Window last n) = Framed f s goal depth base last (state mark cost list n)
-Rings f s goal depth base mark cost list A.Empty = (r n : ℕ) × Blocked f s goal depth base r (state mark cost list n)
+abbrev pub Rings : Floor → (s : ℕ) → (gs : List ℕ) → (depth base : ℕ) → (mark cost list : List ℕ) → Around → Type 0
+Rings f s gs depth base mark cost list (A.Window last n) = Framed f s gs depth base last (state mark cost list n)
+Rings f s gs depth base mark cost list A.Empty = (r n : ℕ) × Blocked f s gs depth base r (state mark cost list n)

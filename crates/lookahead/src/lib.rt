@@ -108,7 +108,7 @@ pub fn renew(base: u32, mark: &mut [u32]) -> u32
     1
 }
 
-// The window around s, which is not the goal.
+// The window around s, which is no goal.
 pub fn look(
     job: Job,
     floor: &[u8],
@@ -126,7 +126,7 @@ pub fn look(
         job.height,
         floor,
         s,
-        job.goal,
+        job.goals,
         job.depth,
         base,
         mark,

@@ -1,18 +1,20 @@
 // The rings around a cell are marked one after another, their cells put into a list, and costs lowered on the way.
 // The list's i-th cell stands at i. At i + 4096 stands the cost at which its moves were followed last, and 65535 before they were.
 ghost use mathlib.Core.Path.{_≡_};
-ghost use mathlib.Core.Bool.{true};
+ghost use mathlib.Core.Bool.{true, false};
 ghost use Prim.Native.Nat.{_<_, _≤_};
 ghost use lib.Dec.{leb};
 ghost use lib.ListN.{length, getD};
-ghost use Rattle.model.specs.Floor.{Sized, free};
+ghost use Rattle.model.specs.Basics.{any, member};
+ghost use Rattle.model.specs.Floor.{Sized, free, goalsOf};
 ghost use Rattle.model.specs.Checks.{deepest};
 ghost use Rattle.floor.specs.Moves.{flat};
 ghost use Rattle.lookahead.specs.Contract.{Fresh};
 ghost use Rattle.lookahead.specs.Marks.{state, begun, Sizes, Room, Reached, Leaving, Extended, Open, Left, Segment, Swept};
-ghost use Rattle.lookahead.specs.Rings.{Rings};
+ghost use Rattle.lookahead.specs.Rings.{EachBelow, Rings};
 use super::Around;
 use super::fine;
+use answers::Goals;
 use floor::Spot;
 use floor::Step;
 
@@ -158,30 +160,38 @@ fn begin(base: u32, mark: &mut [u32], cost: &mut [u16], list: &mut [u16], s: usi
     list[4096] = 65535;
 }
 
-// Whether the goal is in a ring that is marked.
-fn goal_marked(base: u32, mark: &[u32], goal: usize) -> bool
-    requires { ⌜ goal < length (now mark) ⌝ }
-    ensures { λ r. ⌜ r ≡ leb base (getD (now (mark .entry)) goal 0) ⌝ }
+// Whether a goal is in a ring that is marked.
+fn goal_marked(base: u32, mark: &[u32], goals: Goals) -> bool
+    requires { ⌜ EachBelow 4096 (goalsOf goals) × (length (now mark) ≡ 4096) ⌝ }
+    ensures { λ r. ⌜ r ≡ any (λ g. leb base (getD (now (mark .entry)) g 0)) (goalsOf goals) ⌝ }
 {
-    base <= mark[goal]
+    let n = floor::goals_in(goals);
+    let mut i = 0;
+    while i < n {
+        if base <= mark[floor::goal_at(goals, i)] {
+            return true;
+        }
+        i += 1;
+    }
+    false
 }
 
-// The rings around s are marked, up to the depth's or the goal's.
+// The rings around s are marked, up to the depth's or the nearest goal's.
 pub(crate) fn rings(
     width: usize,
     height: usize,
     floor: &[u8],
     s: usize,
-    goal: usize,
+    goals: Goals,
     depth: usize,
     base: u32,
     mark: &mut [u32],
     cost: &mut [u16],
     list: &mut [u16],
 ) -> Around
-    requires { ⌜ Sized (flat width height (now floor)) ⌝ ∗ ⌜ free (flat width height (now floor)) s ≡ true ⌝ ∗ ⌜ (goal < 4096) × (s ≡ goal → ⊥) ⌝
+    requires { ⌜ Sized (flat width height (now floor)) ⌝ ∗ ⌜ free (flat width height (now floor)) s ≡ true ⌝ ∗ ⌜ EachBelow 4096 (goalsOf goals) × (member s (goalsOf goals) ≡ false) ⌝
         ∗ ⌜ (1 ≤ depth) × (depth ≤ deepest) ⌝ ∗ ⌜ Fresh base (now mark) (now cost) (now list) ⌝ }
-    ensures { λ r. ⌜ Rings (flat width height (now (floor .entry))) s goal depth base (now (mark .exit)) (now (cost .exit)) (now (list .exit)) r ⌝ }
+    ensures { λ r. ⌜ Rings (flat width height (now (floor .entry))) s (goalsOf goals) depth base (now (mark .exit)) (now (cost .exit)) (now (list .exit)) r ⌝ }
 {
     begin(base, mark, cost, list, s);
     let mut from = 0;
@@ -197,7 +207,7 @@ pub(crate) fn rings(
         }
         from = to;
         to = end;
-        if goal_marked(base, mark, goal) {
+        if goal_marked(base, mark, goals) {
             return Around::Window { last: r, n: to };
         }
     }

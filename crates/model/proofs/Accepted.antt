@@ -2,7 +2,8 @@
 -- A check judges a fact: it is done where the fact holds, and else refused by its number. A search that names the lowest cell has laws of its own.
 use Prim.Native.Nat.{ℕ, zero, suc, _≤_, _<_, min}
 use mathlib.Core.Path.{_≡_, refl, sym, ap, ap₂, subst, _∙_}
-use mathlib.Core.Bool.{Bool, true, false, _&&_}
+use mathlib.Core.Bool.{Bool, true, false, _&&_, _||_}
+use mathlib.Core.Logic.{_⊎_, inl, inr, ⊎-elim}
 use mathlib.Core.List.{List}
 use native.Mathlib.Omega.{arith}
 use native.Mathlib.Decide.{decLe}
@@ -17,9 +18,9 @@ use Rattle.answers.specs.declared.Refusal.{Refusal}
 use Rattle.answers.specs.declared.Place.the-variants as P
 use Rattle.answers.specs.declared.Verdict.{Verdict}
 use Rattle.answers.specs.declared.Verdict.the-variants as Vd
-use Rattle.model.specs.Basics.{choose, between, every, then, refuseAt, unless, naming}
-use Rattle.model.specs.Floor.{Floor, size, Sized, free, goalsOf}
-use Rattle.model.specs.Checks.{ceiling, sizes, pathRoom, settings, scale, benches, places, figures, deepest, finest, largestQuota}
+use Rattle.model.specs.Basics.{choose, between, then, refuseAt, unless, naming}
+use Rattle.model.specs.Floor.{Floor, size, Sized}
+use Rattle.model.specs.Checks.{ceiling, sizes, pathRoom, settings, scale, figures, deepest, finest, largestQuota}
 use Rattle.model.specs.Opening.{reportsRoom, trialsHold}
 use Rattle.model.proofs.Moves.{is-true, both, both-of}
 
@@ -47,6 +48,10 @@ then-done (Vd.Refused r) w e = let z : _≡_ {A = ℕ} 0 1 = cc in absurd (omega
 
 -- ---- a test tells a fact
 
+pub or-true : (b : Bool) → (b || true) ≡ true
+or-true true = refl
+or-true false = refl
+
 pub record Tells (b : Bool) (F : Type 0) : Type 0 where
   pub holds : b ≡ true → F
   pub shown : F → b ≡ true
@@ -59,7 +64,7 @@ pub record Judges (v : Verdict) (number : ℕ) (F : Type 0) : Type 0 where
 pub le-tells : (a b : ℕ) → Tells (leb a b) (a ≤ b)
 le-tells a b = record { holds = leb-true a b; shown = le-leb a b }
 
-eq-tells : (a b : ℕ) → Tells (eqb a b) (a ≡ b)
+pub eq-tells : (a b : ℕ) → Tells (eqb a b) (a ≡ b)
 eq-tells a b = record { holds = eqb-true a b; shown = eq-eqb a b }
 
 pub is-tells : (b : Bool) → Tells b (b ≡ true)
@@ -70,6 +75,13 @@ and-tells {a} {b} s t = record {
   holds = λ e. (s .holds (both a b e .0), t .holds (both a b e .1));
   shown = λ h. both-of a b (s .shown (h .0)) (t .shown (h .1));
 }
+
+pub or-tells : {a b : Bool} {F H : Type 0} → Tells a F → Tells b H → Tells (a || b) (F ⊎ H)
+or-tells {a} {b} {F} {H} s t = record { holds = either a refl; shown = λ h. ⊎-elim (λ k. ap (λ c. c || b) (s .shown k)) (λ k. ap (λ c. a || c) (t .shown k) ∙ or-true a) h }
+  where
+    either : (c : Bool) → a ≡ c → (c || b) ≡ true → F ⊎ H
+    either true e h = inl (s .holds e)
+    either false e h = inr (t .holds h)
 
 pub told : {b : Bool} {F H : Type 0} → Tells b F → (F → H) → (H → F) → Tells b H
 told t to from = record { holds = λ e. to (t .holds e); shown = λ h. t .shown (from h) }
@@ -82,7 +94,7 @@ unless-judges false number t = record {
   refused = λ h. refl;
 }
 
--- ---- the checks: 1, 2, 3 and 4
+-- ---- the checks: 1, 2 and 3 (4 and 27 stand in `Benches`)
 
 pub record Settings (j : Job) : Type 0 where
   pub deep : 1 ≤ j .depth
@@ -92,7 +104,7 @@ pub record Settings (j : Job) : Type 0 where
   pub fine : j .q ≤ finest
   pub within : j .quota ≤ largestQuota
 
-between-tells : (a x b : ℕ) → Tells (between a x b) ((a ≤ x) × (x ≤ b))
+pub between-tells : (a x b : ℕ) → Tells (between a x b) ((a ≤ x) × (x ≤ b))
 between-tells a x b = and-tells (le-tells a x) (le-tells x b)
 
 pub sizes-judges : (f : Floor) (n : ℕ) → Judges (sizes f n) 1 (Sized f × (n ≡ size f))
@@ -128,24 +140,6 @@ trials-judges trials = unless-judges _ 3 (between-tells 1 trials 1000)
 pub scale-judges : (q : ℕ) → Judges (scale q) 3 ((1 ≤ q) × (q ≤ 16))
 unfolding scale
 scale-judges q = unless-judges _ 3 (between-tells 1 q 16)
-
--- of the one goal g
-one-tells : (f : Floor) (g : ℕ) → Tells (every (free f) (goalsOf g)) (free f g ≡ true)
-unfolding every
-one-tells f g = told (and-tells (is-tells (free f g)) (is-tells true)) (λ h. h .0) (λ h. (h, refl))
-
-pub bench-judges : (f : Floor) (g : ℕ) → Judges (benches f (goalsOf g)) 4 (free f g ≡ true)
-unfolding benches
-bench-judges f g = unless-judges _ 4 (one-tells f g)
-
-pub places-judges : (f : Floor) (x g : ℕ) → Judges (places f x (goalsOf g)) 4 ((free f x ≡ true) × (free f g ≡ true))
-unfolding places
-places-judges f x g = unless-judges _ 4 (and-tells (is-tells (free f x)) (one-tells f g))
-
--- past the first cell, the goals are left
-pub places-next : (f : Floor) (x : ℕ) (gs : List ℕ) → free f x ≡ true → places f x gs ≡ benches f gs
-unfolding places benches
-places-next f x gs e = rw e
 
 -- ---- a search over the cells, which names the lowest
 

@@ -24,25 +24,25 @@ use Rattle.answers.specs.declared.Verdict.{Verdict}
 use Rattle.answers.specs.declared.Verdict.the-variants as Vd
 use Rattle.answers.specs.declared.Tried.the-variants as Td
 use Rattle.answers.specs.declared.Ran.the-variants as Rn
-use Rattle.model.specs.Basics.{refuseAt}
+use Rattle.model.specs.Basics.{member, refuseAt}
 use Rattle.model.specs.Floor.{size}
-use Rattle.model.specs.Checks.{floorOf, groundIn}
+use Rattle.model.specs.Checks.{floorOf, goals, groundIn}
 use Rattle.model.specs.Opening.{distances, reaches, trueFigure, soundness, openJob, openTrial, openRun}
 use Rattle.model.specs.Decision.{atGoal, decide}
 use Rattle.model.specs.Ride.{Ride, begun, rideFrom, learningJob, bound, ride, rideBy, kept, report, trialOf, trial, trialBy, Course, courseFrom, filedIn, runOf, run, runBy}
 use Rattle.model.proofs.Openings.{opened, accepted, ready, accepted-trial, ready-run}
 use Rattle.model.proofs.Accepted.{never}
 use Rattle.model.proofs.Moves.{is-true}
-use Rattle.model.proofs.Refusals.{NothingLower, Ends, IsOpening, ends-with-soundness}
+use Rattle.model.proofs.Refusals.{turnOf, NothingAhead, Ends, IsOpening, ends-with-soundness}
 use Rattle.model.proofs.Soundness.{Above, Lowest, reaches-of, reaches-means, six-is, six-means, seven-is, seven-means}
 use Rattle.model.proofs.Rides.{riding-begun, riding-from, ride-riding, decisions-low, keeps, ready-after, Rides, over, trip, course-rides}
-use Rattle.model.proofs.Driven.{Drives, trial-ends-at-the-bench, trial-drives-to-the-bench}
+use Rattle.model.proofs.Driven.{Drives, trial-ends-at-a-bench, trial-drives-to-a-bench}
 use Rattle.model.proofs.KeptWay.{KeptWay, trial-keeps-a-way}
 use Rattle.model.proofs.Tables.{act-high, act-opened, decide-table, ride-high, course-high, course-ready}
 
 -- ---- the mission's words
 
--- the cheapest distance to the bench; its true figure, q times the cheapest distance to the bench; and whether the bench can be reached
+-- the cheapest distance to the bench, where there are several to the nearest; its true figure, q times that; and whether a bench can be reached
 abbrev pub distance : Job → List ℕ → ℕ → ℕ
 distance j bytes x = distIn (groundIn j bytes) (distances j bytes) x
 
@@ -189,10 +189,10 @@ no-figure-passes-truth-in-a-run j bytes start trials table path records e =
 
 module _ (j : Job) (bytes : List ℕ) (start : ℕ) (table path : List ℕ) (e : openTrial j bytes start table path ≡ Vd.Done) where
   -- "Every trial reaches the bench in fewer than K × (R + 1) decisions."
-  pub trial-reaches-the-bench : (ride j bytes start table path .state .current ≡ j .goal) × (ride j bytes start table path .decisions < K j bytes * (R j bytes table + 1))
+  pub trial-reaches-the-bench : (member (ride j bytes start table path .state .current) (goals j) ≡ true) × (ride j bytes start table path .decisions < K j bytes * (R j bytes table + 1))
   trial-reaches-the-bench =
       let A = ready j bytes start table path e in (
-        trial-ends-at-the-bench j bytes start table path e,
+        trial-ends-at-a-bench j bytes start table path e,
         subst (λ b. ride j bytes start table path .decisions < b) (bound-is j bytes table) (decisions-low j bytes start table path A (ride-riding j bytes start table path A)),
       )
 
@@ -220,13 +220,13 @@ module _ (j : Job) (bytes : List ℕ) (start : ℕ) (table path : List ℕ) (e :
 pub record Promised (j : Job) (bytes : List ℕ) (start : ℕ) (table path : List ℕ) (r : Ride) : Type 0 where
   pub falls-not : (x : ℕ) → getD table x 0 ≤ getD (r .table) x 0
   pub passes-not : (x : ℕ) → can j bytes x ≡ true → getD (r .table) x 0 ≤ trueOf j bytes x
-  pub reaches-the-bench : r .state .current ≡ j .goal
+  pub reaches-the-bench : member (r .state .current) (goals j) ≡ true
   pub decisions : r .decisions < K j bytes * (R j bytes table + 1)
   pub kept-way : j .p * kept j bytes r ≤ j .q * (distance j bytes start + j .quota)
   pub learning-nothing : r .learned ≡ 0 → j .p * r .travel ≤ j .q * distance j bytes start
   -- what is kept and travelled: the kept cost is that of the path from the start to the bench, and the travel that of the moves, all counted
   pub keeps-a-way : KeptWay j bytes start r
-  pub drives : Drives (floorOf j bytes) start (r .moves) (j .goal) (r .travel)
+  pub drives : Drives (floorOf j bytes) start (r .moves) (r .state .current) (r .travel)
 
 -- of trials one after another, each from the lists that the one before it left
 pub data EachPromised (j : Job) (bytes : List ℕ) (start : ℕ) : List ℕ → List ℕ → List Ride → Type 0 where
@@ -245,7 +245,7 @@ trial-is-promised j bytes start table path e = record {
   kept-way = kept-way-costs-at-most j bytes start table path e;
   learning-nothing = trial-that-learns-nothing-travels-at-most j bytes start table path e;
   keeps-a-way = trial-keeps-a-way j bytes start table path e;
-  drives = trial-drives-to-the-bench j bytes start table path e;
+  drives = trial-drives-to-a-bench j bytes start table path e;
 }
 
 pub rides-are-promised : (j : Job) (bytes : List ℕ) (start : ℕ) {table path : List ℕ} {rs : List Ride} → Rides j bytes start table path rs → EachPromised j bytes start table path rs
@@ -259,7 +259,7 @@ run-trials-are-promised j bytes start trials table path records e = rides-are-pr
 -- ---- "A refusal for "no way" is given at opening only when no way exists,
 
 module _ (j : Job) (bytes : List ℕ) (start : ℕ) (table : List ℕ) where
-  -- no walk leads from the start to the bench
+  -- no walk leads from the start to a bench
   abbrev pub NoWay : Type 0
   NoWay = (z c n : ℕ) → atGoal j bytes z ≡ true → Walk (netOf (groundIn j bytes)) Any start z c n → ⊥
 
@@ -270,19 +270,21 @@ module _ (j : Job) (bytes : List ℕ) (start : ℕ) (table : List ℕ) where
 
     pub refused-for-no-way-only-when-none-exists : (r : Refusal) → v ≡ Vd.Refused r → r .number ≡ 6 → NoWay
     refused-for-no-way-only-when-none-exists r e six z c n g way =
-        six-means j bytes start table (ends .only (omega arith) e) six (c, (z, subst T (sym g) tt, (n, way)))
+        six-means j bytes start table (ends .only (omega (arith, ap turnOf six)) e) six (c, (z, subst T (sym g) tt, (n, way)))
 
-    -- and whenever none exists, where nothing lower is refused
-    pub refused-for-no-way-when-none-exists : NothingLower 6 v → NoWay → v ≡ refuseAt 6 P.Nowhere
+    -- and whenever none exists, where nothing ahead of it is refused
+    pub refused-for-no-way-when-none-exists : NothingAhead 6 v → NoWay → v ≡ refuseAt 6 P.Nowhere
     refused-for-no-way-when-none-exists h none =
         ends .just h ∙ six-is j bytes start table (λ (c, (z, g, (n, way))). none z c n (is-true _ g) way)
 
     -- and a table is refused as unsound only when some cell is above its true figure." It names the lowest such cell
     pub refused-as-unsound-only-when-above : (r : Refusal) → v ≡ Vd.Refused r → r .number ≡ 7 → (x : ℕ) × (r .place ≡ P.Cell x) × Lowest j bytes table x
-    refused-as-unsound-only-when-above r e seven = seven-means j bytes start table (ends .only (omega arith) e) seven
+    unfolding turnOf
+    refused-as-unsound-only-when-above r e seven = seven-means j bytes start table (ends .only (omega (arith, ap turnOf seven)) e) seven
 
-    -- and whenever some cell is above it, where nothing lower is refused
-    pub refused-as-unsound-when-above : NothingLower 7 v → (x : ℕ) → Above j bytes table x → (y : ℕ) × (v ≡ refuseAt 7 (P.Cell y)) × Lowest j bytes table y
+    -- and whenever some cell is above it, where nothing ahead of it is refused
+    pub refused-as-unsound-when-above : NothingAhead 7 v → (x : ℕ) → Above j bytes table x → (y : ℕ) × (v ≡ refuseAt 7 (P.Cell y)) × Lowest j bytes table y
+    unfolding turnOf
     refused-as-unsound-when-above h x above = by (can j bytes start) refl
       where
         is : v ≡ soundness j bytes start table

@@ -6,7 +6,7 @@ use mathlib.Core.Bool.{Bool, true, false, _&&_}
 use mathlib.Core.List.{List, [], _∷_, _++_, map, reverse, reverseAux}
 use native.Mathlib.Nat.{add-assoc}
 use native.Mathlib.Omega.{arith}
-use borrow.Author.Tests.{eqb-true, eqb-false, ne-eqb}
+use borrow.Author.Tests.{eqb-true, eqb-false}
 use lib.Dec.{T, ltb, leb, eqb}
 use lib.ListN.{length, getD, take, drop, length-map, length-reverse}
 use lib.Seq.{length-take-le, take-at, drop-at, drop-drop}
@@ -18,18 +18,20 @@ use Rattle.answers.specs.declared.Verdict.{Verdict}
 use Rattle.answers.specs.declared.Verdict.the-variants as Vd
 use Rattle.answers.specs.declared.Answer.{Answer}
 use Rattle.answers.specs.declared.Answer.the-variants as A
+use Rattle.model.specs.Basics.{member}
 use Rattle.model.specs.Floor.{Floor, size, Sized, free, price, ahead, allowed, heading, opposite}
 use Rattle.model.specs.Grounds.{groundOf, price-same}
-use Rattle.model.specs.Checks.{ceiling, floorOf, goals, sizes, pathRoom, settings, places, figures}
+use Rattle.model.specs.Checks.{ceiling, floorOf, goals, sizes, pathRoom, settings, places, goalsHold, figures}
 use Rattle.model.specs.Lookahead.{seen, ring, w, emptyRing, target, route, movesAlong, mostMoves}
 use Rattle.model.specs.Decision.{atGoal, movesRoom, judge, Deed, unchanged, refused, rise, forward, forwardBy, backOut, backOutBy, stay, goBack, act, laid, Outcome, decide}
 use Rattle.model.specs.Opening.{openTrial}
 use Rattle.model.specs.Ride.{Ride, begun, next, nextBy, rideFrom, rideFromBy, bound, ride, rideBy}
 use Rattle.model.proofs.Moves.{free-below, price-move, heading-is, opposite-lt, opposite-ahead, opposite-allowed}
-use Rattle.model.proofs.Accepted.{Settings, then-done, sizes-judges, path-judges, settings-judges, places-judges}
-use Rattle.model.proofs.Held.{Sound, at-goal, moves-judges, held-judges}
+use Rattle.model.proofs.Accepted.{Settings, then-done, sizes-judges, path-judges, settings-judges}
+use Rattle.model.proofs.Benches.{places-judges, goal-means, at-goal}
+use Rattle.model.proofs.Held.{Sound, moves-judges, held-judges}
 use Rattle.model.proofs.Openings.{Ready, ready}
-use Rattle.model.proofs.Meaning.{goal-means, route-means, ahead-means}
+use Rattle.model.proofs.Meaning.{route-means, ahead-means}
 use Rattle.model.proofs.Cases.{act-arrived, act-blind, act-learns, learn-over, learn-forward, learn-back, back-stays, back-lost, back-goes, decide-refused, decide-acts}
 use Rattle.model.proofs.Steps.{newHere, targetHere, moves-few}
 use Rattle.model.proofs.Rides.{ride-there, ride-on, Riding, judges, riding-begun, riding-next, ride-arrives}
@@ -97,12 +99,13 @@ passed j bytes s table path room from e =
     let (moves, after-moves) = then-done (movesRoom room from) _ after-two in
     let (three, after-three) = then-done (settings j) _ after-moves in
     let (four, after-four) = then-done (places f (s .current) (goals j)) _ after-three in
-    let (five, eight) = then-done (figures f table) _ after-four in
+    let (order, after-order) = then-done (goalsHold (j .goals)) _ after-four in
+    let (five, eight) = then-done (figures f table) _ after-order in
     record {
       sized = sizes-judges f (length table) .gives one .0;
       settings = settings-judges j .gives three;
       room = moves-judges room from .gives moves;
-      here = places-judges f (s .current) (j .goal) .gives four .0;
+      here = places-judges f (s .current) (goals j) .gives four .0;
       sound = held-judges j bytes s path (path-judges f (length path) .gives two) .gives eight .sound;
     }
 
@@ -169,7 +172,7 @@ module _ (j : Job) (bytes : List ℕ) (s : State) (table path : List ℕ) where
         let some : s .length ≡ 0 → ⊥ = eqb-false (s .length) 0 e in
         let fair = P .sound .fair (s .length - 1) (omega arith) in
         let inside = free-below f l (fair .free) in
-        let aside : atGoal j bytes l ≡ false = at-goal j bytes l (fair .free) ∙ ne-eqb l (j .goal) (fair .away) in
+        let aside : atGoal j bytes l ≡ false = at-goal j bytes l (fair .free) ∙ fair .away in
         let near : ring j bytes (seen j bytes l) (s .current) ≤ seen j bytes l .last = omega (arith, eqb-true (ring j bytes (seen j bytes l) (s .current)) (seen j bytes l .last) on) in
         record {
           drives = drives-back f (P .sized) (route-drives l (s .current) inside aside near);
@@ -300,14 +303,13 @@ module _ (j : Job) (bytes : List ℕ) (start : ℕ) (table path : List ℕ) (e :
           let D = act-drives j bytes (r .state) (r .table) (r .path) 288 0 (judges j bytes start table path R g 288 0 (omega arith)) in
           subst Drove (sym (ride-on j bytes n r a)) (more (next j bytes r) (riding-next j bytes start table path R g a) (drives-on k (D .drives)))
 
-  -- after any number of its decisions; and a whole trial's moves drive the cart from the start to the bench, and its travel is what they cost
+  -- after any number of its decisions; and a whole trial's moves drive the cart from the start to a bench, and its travel is what they cost
   pub trial-drives : (n : ℕ) → DrivenFrom start j bytes (rideFrom j bytes n (begun start table path))
   trial-drives n = drove-from n (begun start table path) (riding-begun j bytes start table path (ready j bytes start table path e)) there
 
-  pub trial-ends-at-the-bench : ride j bytes start table path .state .current ≡ j .goal
-  trial-ends-at-the-bench = goal-means (floorOf j bytes) (j .goal) _ (subst T (sym (ride-arrives j bytes start table path (ready j bytes start table path e))) tt)
+  pub trial-ends-at-a-bench : member (ride j bytes start table path .state .current) (goals j) ≡ true
+  trial-ends-at-a-bench = goal-means (floorOf j bytes) (goals j) _ (subst T (sym (ride-arrives j bytes start table path (ready j bytes start table path e))) tt)
 
-  pub trial-drives-to-the-bench : Drives (floorOf j bytes) start (ride j bytes start table path .moves) (j .goal) (ride j bytes start table path .travel)
+  pub trial-drives-to-a-bench : Drives (floorOf j bytes) start (ride j bytes start table path .moves) (ride j bytes start table path .state .current) (ride j bytes start table path .travel)
   unfolding rideBy
-  trial-drives-to-the-bench =
-      subst (λ x. Drives (floorOf j bytes) start (ride j bytes start table path .moves) x (ride j bytes start table path .travel)) trial-ends-at-the-bench (trial-drives (bound j bytes table))
+  trial-drives-to-a-bench = trial-drives (bound j bytes table)

@@ -1,90 +1,112 @@
 -- Laws of the table file: what each check asks, as a record that it is equal to; and one step of reading and of writing.
 -- The code cites them, and the round trip.
-use mathlib.Core.Path.{_≡_, refl, sym, _∙_, ap}
-use mathlib.Core.Bool.{Bool, true, false, not, _&&_}
+use mathlib.Core.Path.{_≡_, refl, sym, _∙_, ap, subst}
+use mathlib.Core.Bool.{Bool, true, false, not}
 use mathlib.Core.List.{List, [], _∷_}
 use mathlib.Core.Logic.{_⊎_, inl, inr, ⊎-elim}
 use Prim.Native.Nat.{ℕ, zero, suc, _+_, _-_, _*_, _≤_, _<_}
 use native.Mathlib.Omega.{arith}
 use lib.Dec.{leb, ltb, eqb}
-use borrow.Author.Tests.{leb-true, ltb-true, ltb-false, leb-false, eqb-true, le-leb, lt-leb, lt-ltb, le-ltb, eq-eqb, ne-eqb}
+use borrow.Author.Tests.{leb-true, ltb-true, ltb-false, leb-false, le-leb, lt-leb, lt-ltb, le-ltb, eq-eqb, ne-eqb}
 use lib.ListN.{length, getD, take, drop, length-append}
+use Rattle.answers.specs.declared.Goals.{Goals}
 use Rattle.answers.specs.declared.Place.the-variants as P
 use Rattle.answers.specs.declared.Verdict.the-variants as Vd
 use Rattle.model.specs.Basics.{choose, refuseAt, unless, naming}
 use Rattle.model.specs.Floor.{Floor, Sized, size, free, opening, goalsOf}
-use Rattle.model.specs.Checks.{ceiling, figures}
+use Rattle.model.specs.Checks.{mostGoals, ceiling, figures, Benched}
 use Rattle.model.specs.Opening.{openTable}
-use Rattle.model.specs.TableFile.{halfAt, trailer, countIn, backIn, isLetters, trailerHolds, checkTrailer, findRecords, sameJob, cellIn, figureIn, recordFault, judgeRecords, changed}
+use Rattle.model.specs.TableFile.{halfAt, firstLong, secondLong, trailer, ending, scaleIn, editionIn, countIn, backIn, isLetters, holdsAs, checkFirst, secondHolds, trailerHolds, checkTrailer}
+use Rattle.model.specs.TableFile.{findRecords, goalPlace, firstNames, placesNamed, secondNames, sameJob, cellIn, figureIn, recordFault, judgeRecords, changed}
 use Rattle.model.specs.TableFile.{readVerdict, recordsOf, trailerOf, fileOf, unlike, writeVerdict}
 use Rattle.model.specs.Writing.{fileRoom}
-use Rattle.model.proofs.Moves.{both, both-of, free-below}
-use Rattle.model.proofs.Accepted.{then-done, fails, sizes-judges, scale-judges, bench-judges}
+use Rattle.model.proofs.Accepted.{then-done, Tells, Judges, le-tells, eq-tells, is-tells, and-tells, or-tells, told, unless-judges, sizes-judges, scale-judges}
+use Rattle.model.proofs.Lists.{every-tells}
+use Rattle.model.proofs.Benches.{bench-judges, InOrder, goals-judges, benched}
 
 unless-done : (b : Bool) (number : ℕ) → unless b number ≡ Vd.Done → b ≡ true
 unless-done true number e = refl
 unless-done false number e = let z : _≡_ {A = ℕ} 0 1 = cc in absurd (omega arith)
 
--- ---- 1, 3 and 4, what an opened table's job is known to meet
+-- ---- 1, 3, 4 and 27, what an opened table's job is known to meet
 
-pub record Openable (f : Floor) (q goal n : ℕ) : Type 0 where
+pub record Openable (f : Floor) (q : ℕ) (g : Goals) (n : ℕ) : Type 0 where
   pub sized : Sized f
   pub scale : q ≤ 16
-  pub bench : goal < size f
+  pub order : InOrder g
+  pub benches : Benched (size f) (goalsOf g)
   pub cells : n ≡ size f
 
-pub openable : (f : Floor) (q goal n : ℕ) → openTable f q (goalsOf goal) n ≡ Vd.Done → Openable f q goal n
+pub openable : (f : Floor) (q : ℕ) (g : Goals) (n : ℕ) → openTable f q g n ≡ Vd.Done → Openable f q g n
 unfolding openTable
-openable f q goal n e =
-    let a = then-done _ _ e in
-    let b = then-done _ _ (a .1) in
-    let s = sizes-judges f n .gives (a .0) in
-    record { sized = s .0; scale = scale-judges q .gives (b .0) .1; bench = free-below f goal (bench-judges f goal .gives (b .1)); cells = s .1 }
+openable f q g n e =
+    let (one, after-one) = then-done _ _ e in
+    let (three, after-three) = then-done _ _ after-one in
+    let (four, last) = then-done _ _ after-three in
+    let s = sizes-judges f n .gives one in
+    let o = goals-judges g .gives last in
+    record { sized = s .0; scale = scale-judges q .gives three .1; order = o; benches = benched f g (bench-judges f (goalsOf g) .gives four) o; cells = s .1 }
 
 -- ---- 13, the trailer
 
-pub record Trailer (file : List ℕ) : Type 0 where
-  pub long : 16 ≤ length file
-  pub letters : isLetters (trailer file) ≡ true
-  pub edition : getD (trailer file) 5 0 ≡ 1
-  pub even : backIn file ≡ 16 + 6 * countIn file
+-- of an edition whose trailer is so long
+pub record Trailer (edition long : ℕ) (file : List ℕ) : Type 0 where
+  pub room : long ≤ length file
+  pub letters : isLetters (ending file) ≡ true
+  pub edition-is : editionIn file ≡ edition
+  pub even : backIn file ≡ long + 6 * countIn file
   pub within : backIn file ≤ length file
 
+-- edition 2 with its zero byte; and either edition
+abbrev pub Second : List ℕ → Type 0
+Second file = Trailer 2 secondLong file × (getD (trailer secondLong file) 3 0 ≡ 0)
+
+abbrev pub Ended : List ℕ → Type 0
+Ended file = Trailer 1 firstLong file ⊎ Second file
+
 module _ (file : List ℕ) where
-  pub trailer-true : Trailer file → trailerHolds file ≡ true
+  pub holds-tells : (edition long : ℕ) → Tells (holdsAs edition long file) (Trailer edition long file)
+  unfolding holdsAs
+  holds-tells edition long =
+      told
+      (and-tells
+      (and-tells (and-tells (and-tells (le-tells long (length file)) (is-tells (isLetters (ending file)))) (eq-tells (editionIn file) edition)) (eq-tells (backIn file) (long + 6 * countIn file)))
+      (le-tells (backIn file) (length file)))
+      (λ h. record { room = h .0 .0 .0 .0; letters = h .0 .0 .0 .1; edition-is = h .0 .0 .1; even = h .0 .1; within = h .1 })
+      (λ t. ((((t .room, t .letters), t .edition-is), t .even), t .within))
+
+  pub second-tells : Tells (secondHolds file) (Second file)
+  unfolding secondHolds
+  second-tells = and-tells (holds-tells 2 secondLong) (eq-tells (getD (trailer secondLong file) 3 0) 0)
+
+  pub trailer-tells : Tells (trailerHolds file) (Ended file)
   unfolding trailerHolds
-  trailer-true t =
-      both-of _ _ (both-of _ _ (both-of _ _ (both-of _ _ (le-leb 16 (length file) (t .long)) (t .letters)) (eq-eqb (getD (trailer file) 5 0) 1 (t .edition)))
-      (eq-eqb (backIn file) (16 + 6 * countIn file) (t .even))) (le-leb (backIn file) (length file) (t .within))
+  trailer-tells = or-tells (holds-tells 1 firstLong) second-tells
 
-  pub trailer-gives : trailerHolds file ≡ true → Trailer file
-  unfolding trailerHolds
-  trailer-gives e =
-      let a = both _ (leb (backIn file) (length file)) e in
-      let b = both _ (eqb (backIn file) (16 + 6 * countIn file)) (a .0) in
-      let c = both _ (eqb (getD (trailer file) 5 0) 1) (b .0) in
-      let d = both (leb 16 (length file)) (isLetters (trailer file)) (c .0) in
-      record { long = leb-true 16 (length file) (d .0); letters = d .1; edition = eqb-true _ _ (c .1); even = eqb-true _ _ (b .1); within = leb-true _ _ (a .1) }
-
-  pub trailer-false : (Trailer file → ⊥) → trailerHolds file ≡ false
-  trailer-false h = fails (trailerHolds file) (λ e. h (trailer-gives e))
-
-  pub check-done : trailerHolds file ≡ true → checkTrailer file ≡ Vd.Done
+  pub trailer-judges : Judges (checkTrailer file) 13 (Ended file)
   unfolding checkTrailer
-  check-done e = rw e
+  trailer-judges = unless-judges _ 13 trailer-tells
 
-  pub check-refused : trailerHolds file ≡ false → checkTrailer file ≡ refuseAt 13 P.Nowhere
-  unfolding checkTrailer
-  check-refused e = rw e
+  -- "An edition 1 reader answers 13 to an edition 2 file."
+  pub edition-1-refuses-edition-2 : secondHolds file ≡ true → checkFirst file ≡ refuseAt 13 P.Nowhere
+  unfolding checkFirst
+  edition-1-refuses-edition-2 e =
+      unless-judges _ 13 (holds-tells 1 firstLong) .refused (λ t. let two = second-tells .holds e .0 .edition-is in omega (arith, t .edition-is, two))
 
-  pub check-gives : checkTrailer file ≡ Vd.Done → Trailer file
-  unfolding checkTrailer
-  check-gives e = trailer-gives (unless-done (trailerHolds file) 13 e)
+  -- a trailer of either edition has room for its last 12 bytes, and points no further back than the file's start, at its records
+  pub record Pointed : Type 0 where
+    pub room : firstLong ≤ length file
+    pub within : backIn file ≤ length file
+    pub records : 6 * countIn file ≤ backIn file
+
+  pub pointed : Ended file → Pointed
+  pointed (inl t) = record { room = t .room; within = t .within; records = omega (arith, t .even) }
+  pointed (inr (t, z)) = record { room = omega (arith, t .room); within = t .within; records = omega (arith, t .even) }
 
   -- the records that a sound trailer points to
-  pub found : trailerHolds file ≡ true → findRecords file ≡ take (6 * countIn file) (drop (length file - backIn file) file)
+  pub found : Ended file → findRecords file ≡ take (6 * countIn file) (drop (length file - backIn file) file)
   unfolding findRecords
-  found e = rw e
+  found t = rw (trailer-tells .shown t)
 
   pub found-none : trailerHolds file ≡ false → findRecords file ≡ []
   unfolding findRecords
@@ -92,34 +114,62 @@ module _ (file : List ℕ) where
 
 -- ---- 14, this job's
 
-pub record Same (f : Floor) (q : ℕ) (gs t : List ℕ) : Type 0 where
+-- what a trailer names, by its edition
+pub record FirstSame (f : Floor) (gs t : List ℕ) : Type 0 where
   pub width : getD t 0 0 ≡ f .width
   pub height : getD t 1 0 ≡ f .height
   pub goal : halfAt t 2 ≡ getD gs 0 0
-  pub scale : getD t 4 0 ≡ q
+  pub alone : length gs ≡ 1
 
-module _ (f : Floor) (q : ℕ) (gs file : List ℕ) where
-  pub same-done : Same f q gs (trailer file) → sameJob f q gs file ≡ Vd.Done
-  unfolding sameJob
-  same-done s =
-      let t = trailer file in
-      simp (eq-eqb (getD t 0 0) (f .width) (s .width), eq-eqb (getD t 1 0) (f .height) (s .height), eq-eqb (halfAt t 2) (getD gs 0 0) (s .goal), eq-eqb (getD t 4 0) q (s .scale))
+pub record SecondSame (f : Floor) (gs t : List ℕ) : Type 0 where
+  pub width : getD t 0 0 ≡ f .width
+  pub height : getD t 1 0 ≡ f .height
+  pub count : getD t 2 0 ≡ length gs
+  pub places : (i : ℕ) → i < mostGoals → halfAt t (4 + 2 * i) ≡ goalPlace gs i
 
-  pub same-gives : sameJob f q gs file ≡ Vd.Done → Same f q gs (trailer file)
-  unfolding sameJob
-  same-gives e =
-      let t = trailer file in
-      let a = both _ (eqb (getD t 4 0) q) (unless-done _ 14 e) in
-      let b = both _ (eqb (halfAt t 2) (getD gs 0 0)) (a .0) in
-      let c = both (eqb (getD t 0 0) (f .width)) (eqb (getD t 1 0) (f .height)) (b .0) in
-      record { width = eqb-true _ _ (c .0); height = eqb-true _ _ (c .1); goal = eqb-true _ _ (b .1); scale = eqb-true _ _ (a .1) }
+-- the four goal places
+pub places-named : (gs t : List ℕ) → Tells (placesNamed gs t) ((i : ℕ) → i < mostGoals → halfAt t (4 + 2 * i) ≡ goalPlace gs i)
+unfolding placesNamed
+places-named gs t =
+    told (every-tells _ (λ i. eq-tells (halfAt t (4 + 2 * i)) (goalPlace gs i)) (0 ∷ 1 ∷ 2 ∷ 3 ∷ []))
+    (λ h i l. subst (λ k. halfAt t (4 + 2 * k) ≡ goalPlace gs k) (counted i l) (h i l))
+    (λ h i l. subst (λ k. halfAt t (4 + 2 * k) ≡ goalPlace gs k) (sym (counted i l)) (h i l))
+  where
+    counted : (i : ℕ) → i < mostGoals → getD (0 ∷ 1 ∷ 2 ∷ 3 ∷ []) i 0 ≡ i
+    counted zero h = refl
+    counted (suc zero) h = refl
+    counted (suc (suc zero)) h = refl
+    counted (suc (suc (suc zero))) h = refl
+    counted (suc (suc (suc (suc i)))) h = absurd (omega arith)
 
-  pub same-refused : (Same f q gs (trailer file) → ⊥) → sameJob f q gs file ≡ refuseAt 14 P.Nowhere
-  unfolding sameJob
-  same-refused h =
-      let t = trailer file in
-      let test = eqb (getD t 0 0) (f .width) && eqb (getD t 1 0) (f .height) && eqb (halfAt t 2) (getD gs 0 0) && eqb (getD t 4 0) q in
-      ap (λ b. unless b 14) (fails test (λ e. h (same-gives (ap (λ b. unless b 14) e))))
+module _ (f : Floor) (gs t : List ℕ) where
+  pub first-names : Tells (firstNames f gs t) (FirstSame f gs t)
+  unfolding firstNames
+  first-names =
+      told (and-tells (and-tells (and-tells (eq-tells (getD t 0 0) (f .width)) (eq-tells (getD t 1 0) (f .height))) (eq-tells (halfAt t 2) (getD gs 0 0))) (eq-tells (length gs) 1))
+      (λ h. record { width = h .0 .0 .0; height = h .0 .0 .1; goal = h .0 .1; alone = h .1 }) (λ s. (((s .width, s .height), s .goal), s .alone))
+
+  pub second-names : Tells (secondNames f gs t) (SecondSame f gs t)
+  unfolding secondNames
+  second-names =
+      told (and-tells (and-tells (and-tells (eq-tells (getD t 0 0) (f .width)) (eq-tells (getD t 1 0) (f .height))) (eq-tells (getD t 2 0) (length gs))) (places-named gs t))
+      (λ h. record { width = h .0 .0 .0; height = h .0 .0 .1; count = h .0 .1; places = h .1 }) (λ s. (((s .width, s .height), s .count), s .places))
+
+-- the trailer's job is this one
+abbrev pub Names : Floor → List ℕ → List ℕ → Bool → Type 0
+Names f gs file true = FirstSame f gs (trailer firstLong file)
+Names f gs file false = SecondSame f gs (trailer secondLong file)
+
+abbrev pub Same : Floor → ℕ → List ℕ → List ℕ → Type 0
+Same f q gs file = Names f gs file (eqb (editionIn file) 1) × (scaleIn file ≡ q)
+
+pub same-judges : (f : Floor) (q : ℕ) (gs file : List ℕ) → Judges (sameJob f q gs file) 14 (Same f q gs file)
+unfolding sameJob
+same-judges f q gs file = unless-judges _ 14 (and-tells (by (eqb (editionIn file) 1)) (eq-tells (scaleIn file) q))
+  where
+    by : (b : Bool) → Tells (choose b (firstNames f gs (trailer firstLong file)) (secondNames f gs (trailer secondLong file))) (Names f gs file b)
+    by true = first-names f gs (trailer firstLong file)
+    by false = second-names f gs (trailer secondLong file)
 
 -- ---- 18 to 22, a record
 
@@ -235,11 +285,11 @@ unfolding recordsOf
 length-records table [] = omega arith
 length-records table (x ∷ xs) = let h = length-records table xs in omega arith
 
-length-trailer : (f : Floor) (q : ℕ) (gs : List ℕ) (count : ℕ) → length (trailerOf f q gs count) ≡ 16
+length-trailer : (f : Floor) (q : ℕ) (gs : List ℕ) (count : ℕ) → length (trailerOf f q gs count) ≡ secondLong
 unfolding trailerOf
 length-trailer f q gs count = refl
 
-pub length-file : (f : Floor) (q : ℕ) (gs table : List ℕ) → length (fileOf f q gs table) ≡ 16 + 6 * length (changed f q gs table (size f) 0)
+pub length-file : (f : Floor) (q : ℕ) (gs table : List ℕ) → length (fileOf f q gs table) ≡ secondLong + 6 * length (changed f q gs table (size f) 0)
 unfolding fileOf
 length-file f q gs table =
     let cells = changed f q gs table (size f) 0 in
@@ -247,20 +297,22 @@ length-file f q gs table =
 
 -- ---- the calls' verdicts
 
-pub read-gives : (f : Floor) (q : ℕ) (gs file : List ℕ) (n : ℕ) → readVerdict f q gs file n ≡ Vd.Done
-    → (openTable f q gs n ≡ Vd.Done) × (checkTrailer file ≡ Vd.Done) × (sameJob f q gs file ≡ Vd.Done) × (judgeRecords f q gs (countIn file) 0 0 (findRecords file) ≡ Vd.Done)
+pub read-gives : (f : Floor) (q : ℕ) (g : Goals) (file : List ℕ) (n : ℕ) → readVerdict f q g file n ≡ Vd.Done
+    → (openTable f q g n ≡ Vd.Done) × (checkTrailer file ≡ Vd.Done) × (sameJob f q (goalsOf g) file ≡ Vd.Done)
+    × (judgeRecords f q (goalsOf g) (countIn file) 0 0 (findRecords file) ≡ Vd.Done)
 unfolding readVerdict
-read-gives f q gs file n e =
+read-gives f q g file n e =
     let a = then-done _ _ e in
     let b = then-done _ _ (a .1) in
     let c = then-done _ _ (b .1) in
     (a .0, b .0, c .0, c .1)
 
-pub write-gives : (f : Floor) (q : ℕ) (gs table : List ℕ) (room : ℕ) → writeVerdict f q gs table room ≡ Vd.Done
-    → (openTable f q gs (length table) ≡ Vd.Done) × (figures f table ≡ Vd.Done) × (naming (size f) (unlike f q gs table) 16 ≡ Vd.Done) × (length (fileOf f q gs table) ≤ room)
+pub write-gives : (f : Floor) (q : ℕ) (g : Goals) (table : List ℕ) (room : ℕ) → writeVerdict f q g table room ≡ Vd.Done
+    → (openTable f q g (length table) ≡ Vd.Done) × (figures f table ≡ Vd.Done) × (naming (size f) (unlike f q (goalsOf g) table) 16 ≡ Vd.Done)
+    × (length (fileOf f q (goalsOf g) table) ≤ room)
 unfolding writeVerdict fileRoom
-write-gives f q gs table room e =
+write-gives f q g table room e =
     let a = then-done _ _ e in
     let b = then-done _ _ (a .1) in
     let c = then-done _ _ (b .1) in
-    (a .0, b .0, c .0, leb-true (length (fileOf f q gs table)) room (unless-done _ 17 (c .1)))
+    (a .0, b .0, c .0, leb-true (length (fileOf f q (goalsOf g) table)) room (unless-done _ 17 (c .1)))

@@ -7,19 +7,21 @@ use native.Mathlib.Omega.{arith}
 use native.Mathlib.Decide.{decLe}
 use lib.ListN.{drop}
 use lib.Seq.{drop-drop}
+use Rattle.answers.specs.declared.Goals.{Goals}
 use Rattle.answers.specs.declared.Refusal.{Refusal}
 use Rattle.answers.specs.declared.Place.the-variants as P
 use Rattle.answers.specs.declared.Verdict.{Verdict}
 use Rattle.answers.specs.declared.Verdict.the-variants as Vd
-use Rattle.model.specs.Basics.{every, refuseAt}
-use Rattle.model.specs.Floor.{Floor, size, free, opening, goalsOf}
-use Rattle.model.specs.Checks.{ceiling, benches}
+use Rattle.model.specs.Basics.{refuseAt}
+use Rattle.model.specs.Floor.{Floor, size, opening, goalsOf}
+use Rattle.model.specs.Checks.{ceiling}
 use Rattle.model.specs.Opening.{openTable}
-use Rattle.model.specs.TableFile.{countIn, trailerHolds, checkTrailer, findRecords, sameJob, cellIn, figureIn, judgeRecords, readVerdict}
-use Rattle.model.proofs.Accepted.{not-refused, then-next, is-tells, unless-judges, sizes-judges, scale-judges}
-use Rattle.model.proofs.Refusals.{Early, early, early-then, Ends, last, after}
+use Rattle.model.specs.TableFile.{countIn, checkTrailer, findRecords, sameJob, cellIn, figureIn, judgeRecords, readVerdict}
+use Rattle.model.proofs.Accepted.{not-refused, then-next, sizes-judges, scale-judges}
+use Rattle.model.proofs.Benches.{bench-judges, goals-judges}
+use Rattle.model.proofs.Refusals.{turnOf, Early, early, early-then, Ends, last, after}
 use Rattle.model.proofs.OpeningSound.{opening-within}
-use Rattle.model.proofs.Files.{openable, same-done, same-gives, same-refused, Lawful, Faulty, no-fault, faulty-is, faulty-numbers, judged, judge-more, judge-stop}
+use Rattle.model.proofs.Files.{openable, trailer-judges, same-judges, Lawful, Faulty, no-fault, faulty-is, faulty-numbers, judged, judge-more, judge-stop}
 
 -- ---- document 02's words
 
@@ -93,49 +95,53 @@ module _ (f : Floor) (q : ℕ) (gs part : List ℕ) where
 
 -- ---- the reader
 
-module _ (f : Floor) (q : ℕ) (gs file : List ℕ) (n : ℕ) where
-  -- 1, 3, 4, 13 and 14 come before the records
-  opens-early : Early 15 (openTable f q gs n)
-  unfolding openTable benches
+module _ (f : Floor) (q : ℕ) (g : Goals) (file : List ℕ) (n : ℕ) where
+  abbrev gs : List ℕ
+  gs = goalsOf g
+
+  -- 1, 3, 4, 27, 13 and 14 come before the records
+  opens-early : Early 15 (openTable f q g n)
+  unfolding openTable turnOf
   opens-early =
       early-then _ (early (sizes-judges f n) (omega arith))
-      (early-then _ (early (scale-judges q) (omega arith)) (early (unless-judges (every (free f) gs) 4 (is-tells _)) (omega arith)))
+      (early-then _ (early (scale-judges q) (omega arith)) (early-then _ (early (bench-judges f gs) (omega arith)) (early (goals-judges g) (omega arith))))
 
   check-early : Early 15 (checkTrailer file)
-  unfolding checkTrailer
-  check-early = early (unless-judges (trailerHolds file) 13 (is-tells _)) (omega arith)
+  unfolding turnOf
+  check-early = early (trailer-judges file) (omega arith)
 
   job-early : Early 15 (sameJob f q gs file)
-  job-early = early (record { gives = same-gives f q gs file; done = same-done f q gs file; refused = same-refused f q gs file }) (omega arith)
+  unfolding turnOf
+  job-early = early (same-judges f q gs file) (omega arith)
 
-  ends-with-records : Ends 15 (judgeRecords f q gs (countIn file) 0 0 (findRecords file)) (readVerdict f q gs file n)
+  ends-with-records : Ends 15 (judgeRecords f q gs (countIn file) 0 0 (findRecords file)) (readVerdict f q g file n)
   unfolding readVerdict
   ends-with-records = after _ opens-early (after _ check-early (after _ job-early (last _)))
 
   none-ahead : 0 + countIn file ≡ countIn file
   none-ahead = omega arith
 
-  -- A refusal by 15 or more names the first faulty record, by the number of its first fault.
-  pub refused-record-means : {r : Refusal} → readVerdict f q gs file n ≡ Vd.Refused r → 15 ≤ r .number
+  -- A refusal by 15 or a number after it in the order of checks names the first faulty record, by the number of its first fault.
+  pub refused-record-means : {r : Refusal} → readVerdict f q g file n ≡ Vd.Refused r → turnOf 15 ≤ turnOf (r .number)
       → (i : ℕ) × (r .place ≡ P.Record i) × FirstFault f q gs (findRecords file) (countIn file) i (r .number)
   refused-record-means {r} e h =
       subst (Named f q gs (findRecords file) r) none-ahead (judged-means f q gs (findRecords file) (countIn file) 0 (λ j l. absurd (omega arith)) (ends-with-records .only h e))
 
-  -- And the other way: a file that 1, 3, 4, 13 and 14 let through is refused for its first faulty record, by the number of its first fault.
-  pub faulty-record-is-refused : openTable f q gs n ≡ Vd.Done → checkTrailer file ≡ Vd.Done → sameJob f q gs file ≡ Vd.Done
-      → {i k : ℕ} → FirstFault f q gs (findRecords file) (countIn file) i k → readVerdict f q gs file n ≡ refuseAt k (P.Record i)
+  -- And the other way: a file that 1, 3, 4, 27, 13 and 14 let through is refused for its first faulty record, by the number of its first fault.
+  pub faulty-record-is-refused : openTable f q g n ≡ Vd.Done → checkTrailer file ≡ Vd.Done → sameJob f q gs file ≡ Vd.Done
+      → {i k : ℕ} → FirstFault f q gs (findRecords file) (countIn file) i k → readVerdict f q g file n ≡ refuseAt k (P.Record i)
   unfolding readVerdict
   faulty-record-is-refused opened checked same {i} {k} first =
       then-next _ opened ∙ then-next _ checked ∙ then-next _ same
       ∙ judged-is f q gs (findRecords file) (countIn file) 0 i k (omega arith) (subst (λ m. FirstFault f q gs (findRecords file) m i k) (sym none-ahead) first)
 
   -- "15 is no longer answered"
-  pub fifteen-is-not-answered : {r : Refusal} → readVerdict f q gs file n ≡ Vd.Refused r → ¬ (r .number ≡ 15)
-  fifteen-is-not-answered e h = let (i, p, first) = refused-record-means e (omega (arith, h)) in omega (arith, h, faulty-numbers f q gs _ _ (first .faulty))
+  pub fifteen-is-not-answered : {r : Refusal} → readVerdict f q g file n ≡ Vd.Refused r → ¬ (r .number ≡ 15)
+  fifteen-is-not-answered e h = let (i, p, first) = refused-record-means e (omega (arith, ap turnOf h)) in omega (arith, h, faulty-numbers f q gs _ _ (first .faulty))
 
 -- The order of 21 and 22 shows in no record on the floor, since no figure has both faults: the greatest opening figure lies below the ceiling.
-pub low-is-not-high : (f : Floor) (q goal n : ℕ) → openTable f q (goalsOf goal) n ≡ Vd.Done → (part : List ℕ) → cellIn part < size f
-    → figureIn part ≤ opening f q (goalsOf goal) (cellIn part) → ¬ (ceiling < figureIn part)
-low-is-not-high f q goal n e part inside low high =
-    let o = openable f q goal n e in
-    omega (arith, low, high, opening-within f q goal (cellIn part) (o .sized) (o .scale) (o .bench) inside)
+pub low-is-not-high : (f : Floor) (q : ℕ) (g : Goals) (n : ℕ) → openTable f q g n ≡ Vd.Done → (part : List ℕ) → cellIn part < size f
+    → figureIn part ≤ opening f q (goalsOf g) (cellIn part) → ¬ (ceiling < figureIn part)
+low-is-not-high f q g n e part inside low high =
+    let o = openable f q g n e in
+    omega (arith, low, high, opening-within f q (goalsOf g) (cellIn part) (o .sized) (o .scale) (o .benches) inside)

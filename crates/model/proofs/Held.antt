@@ -1,12 +1,12 @@
 -- The decision's own checks: the room for moves, and the state's, number 8's first part, as facts about the path's places: each cell is fair, and no two are the same.
 -- Such a path leaves room for the current cell, since its cells and the current one are different cells of the floor. Assumes nothing.
-use Prim.Native.Nat.{ℕ, zero, suc, _+_, _*_, _≤_, _<_}
-use mathlib.Core.Path.{_≡_, refl, sym, ap, _∙_, subst}
+use Prim.Native.Nat.{ℕ, suc, _+_, _*_, _≤_, _<_}
+use mathlib.Core.Path.{_≡_, sym, ap, _∙_, subst}
 use mathlib.Core.Logic.{_≢_}
-use mathlib.Core.Bool.{Bool, true, false, not, _&&_, _||_}
+use mathlib.Core.Bool.{true, false, not, _&&_}
 use mathlib.Core.List.{List, [], _∷_}
 use native.Mathlib.Omega.{arith}
-use borrow.Author.Tests.{lt-ltb, eqb-false, ne-eqb, not-true}
+use borrow.Author.Tests.{not-true}
 use lib.Dec.{eqb}
 use lib.ListN.{length, getD, take}
 use lib.Seq.{length-take-le, getD-take}
@@ -14,17 +14,19 @@ use Rattle.learning.specs.Path.{All, end, also, Distinct, alone, apart}
 use Rattle.learning.proofs.Count.{distinct-length}
 use Rattle.answers.specs.declared.Job.{Job}
 use Rattle.answers.specs.declared.State.{State}
-use Rattle.model.specs.Basics.{every, member, distinct}
+use Rattle.model.specs.Basics.{member}
 use Rattle.model.specs.Floor.{Floor, size, free}
-use Rattle.model.specs.Checks.{floorOf}
+use Rattle.model.specs.Checks.{floorOf, goals}
 use Rattle.model.specs.Decision.{atGoal, onPath, movesRoom, stateHolds}
 use Rattle.model.proofs.Moves.{free-below}
 use Rattle.model.proofs.Accepted.{Tells, Judges, le-tells, is-tells, and-tells, told, unless-judges}
+use Rattle.model.proofs.Lists.{ne-tells, every-tells, distinct-tells}
+use Rattle.model.proofs.Benches.{at-goal}
 
 -- A path's cell is free, no goal and not the current cell.
 pub record Fair (j : Job) (bytes : List ℕ) (current x : ℕ) : Type 0 where
   pub free : free (floorOf j bytes) x ≡ true
-  pub away : x ≡ j .goal → ⊥
+  pub away : member x (goals j) ≡ false
   pub other : x ≡ current → ⊥
 
 -- The cells of a path's first n places are fair, and no two are the same.
@@ -36,75 +38,6 @@ pub record Held (j : Job) (bytes : List ℕ) (s : State) (path : List ℕ) : Typ
   pub within : s .learned ≤ j .q * j .quota
   pub short : s .length ≤ size (floorOf j bytes)
   pub sound : Sound j bytes (s .current) path (s .length)
-
--- ---- a cell of the floor is at the goal just where it is the goal
-
-pub or-false : (b : Bool) → (b || false) ≡ b
-or-false true = refl
-or-false false = refl
-
-pub at-goal : (j : Job) (bytes : List ℕ) (x : ℕ) → free (floorOf j bytes) x ≡ true → atGoal j bytes x ≡ eqb x (j .goal)
-unfolding member
-at-goal j bytes x e = rw (lt-ltb x (size (floorOf j bytes)) (free-below (floorOf j bytes) x e)) (or-false (eqb x (j .goal)))
-
--- ---- tests over lists tell facts about each place
-
-same-tells : {a b : Bool} {F : Type 0} → a ≡ b → Tells b F → Tells a F
-same-tells e t = record { holds = λ h. t .holds (sym e ∙ h); shown = λ f. e ∙ t .shown f }
-
-ne-tells : (x y : ℕ) → Tells (not (eqb x y)) (x ≡ y → ⊥)
-ne-tells x y = record { holds = λ e. eqb-false x y (not-true (eqb x y) e); shown = λ h. ap not (ne-eqb x y h) }
-
-every-tells : (test : ℕ → Bool) {P : ℕ → Type 0} → ((x : ℕ) → Tells (test x) (P x)) → (xs : List ℕ)
-    → Tells (every test xs) ((k : ℕ) → k < length xs → P (getD xs k 0))
-unfolding every
-every-tells test t [] = record { holds = λ e k h. absurd (omega arith); shown = λ h. refl }
-every-tells test {P} t (x ∷ xs) = told (and-tells (t x) (every-tells test t xs)) at (λ h. (h 0 (omega arith), λ k l. h (suc k) (omega arith)))
-  where
-    at : P x × ((k : ℕ) → k < length xs → P (getD xs k 0)) → (k : ℕ) → k < suc (length xs) → P (getD (x ∷ xs) k 0)
-    at h zero l = h .0
-    at h (suc k) l = h .1 k (omega arith)
-
-not-or : (a b : Bool) → not (a || b) ≡ (not a && not b)
-not-or true b = refl
-not-or false b = refl
-
-none-tells : (x : ℕ) (xs : List ℕ) → Tells (not (member x xs)) ((k : ℕ) → k < length xs → x ≡ getD xs k 0 → ⊥)
-unfolding member
-none-tells x [] = record { holds = λ e k h. absurd (omega arith); shown = λ h. refl }
-none-tells x (y ∷ ys) =
-    told (same-tells (not-or (eqb x y) (member x ys)) (and-tells (ne-tells x y) (none-tells x ys))) at (λ h. (h 0 (omega arith), λ k l. h (suc k) (omega arith)))
-  where
-    at : (x ≡ y → ⊥) × ((k : ℕ) → k < length ys → x ≡ getD ys k 0 → ⊥) → (k : ℕ) → k < suc (length ys) → x ≡ getD (y ∷ ys) k 0 → ⊥
-    at h zero l = h .0
-    at h (suc k) l = h .1 k (omega arith)
-
--- what stands in a list at a place is a member of it, and where it stands nowhere it is none
-pub member-at : (x : ℕ) (xs : List ℕ) (k : ℕ) → k < length xs → x ≡ getD xs k 0 → member x xs ≡ true
-member-at x xs k h e = by (member x xs) refl
-  where
-    by : (b : Bool) → member x xs ≡ b → b ≡ true
-    by true i = refl
-    by false i = absurd (none-tells x xs .holds (ap not i) k h e)
-
-pub no-member : (x : ℕ) (xs : List ℕ) → ((k : ℕ) → k < length xs → x ≡ getD xs k 0 → ⊥) → member x xs ≡ false
-no-member x xs h = by (member x xs) (none-tells x xs .shown h)
-  where
-    by : (b : Bool) → not b ≡ true → b ≡ false
-    by true i = sym i
-    by false i = refl
-
-distinct-tells : (xs : List ℕ) → Tells (distinct xs) ((a b : ℕ) → a < b → b < length xs → getD xs a 0 ≡ getD xs b 0 → ⊥)
-unfolding distinct
-distinct-tells [] = record { holds = λ e a b h l. absurd (omega arith); shown = λ h. refl }
-distinct-tells (x ∷ xs) =
-    told (and-tells (none-tells x xs) (distinct-tells xs)) at (λ h. (λ k l. h 0 (suc k) (omega arith) (omega arith), λ a b l m. h (suc a) (suc b) (omega arith) (omega arith)))
-  where
-    at : ((k : ℕ) → k < length xs → x ≡ getD xs k 0 → ⊥) × ((a b : ℕ) → a < b → b < length xs → getD xs a 0 ≡ getD xs b 0 → ⊥)
-        → (a b : ℕ) → a < b → b < suc (length xs) → getD (x ∷ xs) a 0 ≡ getD (x ∷ xs) b 0 → ⊥
-    at h a zero l m = absurd (omega arith)
-    at h zero (suc b) l m = h .0 b (omega arith)
-    at h (suc a) (suc b) l m = h .1 a b (omega arith) (omega arith)
 
 -- ---- 2, of the moves
 
@@ -122,10 +55,10 @@ module _ (j : Job) (bytes : List ℕ) where
   fair-tells current x = told (and-tells (and-tells (is-tells (free f x)) (is-tells (not (atGoal j bytes x)))) (ne-tells x current)) to from
     where
       to : ((free f x ≡ true) × (not (atGoal j bytes x) ≡ true)) × (x ≡ current → ⊥) → Fair j bytes current x
-      to h = record { free = h .0 .0; away = eqb-false x (j .goal) (sym (at-goal j bytes x (h .0 .0)) ∙ not-true _ (h .0 .1)); other = h .1 }
+      to h = record { free = h .0 .0; away = sym (at-goal j bytes x (h .0 .0)) ∙ not-true _ (h .0 .1); other = h .1 }
 
       from : Fair j bytes current x → ((free f x ≡ true) × (not (atGoal j bytes x) ≡ true)) × (x ≡ current → ⊥)
-      from h = ((h .free, ap not (at-goal j bytes x (h .free) ∙ ne-eqb x (j .goal) (h .away))), h .other)
+      from h = ((h .free, ap not (at-goal j bytes x (h .free) ∙ h .away)), h .other)
 
   module _ (s : State) (path : List ℕ) (wide : size f ≤ length path) where
     abbrev All-fair : Type 0

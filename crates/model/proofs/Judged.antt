@@ -1,5 +1,5 @@
 -- The whole decision call is never refused in a trial: its checks hold wherever a ride stands.
--- Every cell of the path can reach the goal, so it is free; none is the goal, none comes twice, and none is the current cell.
+-- Every cell of the path can reach a goal, so it is free; none is a goal, none comes twice, and none is the current cell.
 use Prim.Native.Nat.{ℕ, _+_, _≤_, _<_}
 use mathlib.Core.Path.{_≡_, refl, ap, ap₂, _∙_}
 use mathlib.Core.Logic.{_≢_}
@@ -22,13 +22,13 @@ use Rattle.answers.specs.declared.Verdict.the-variants as Vd
 use Rattle.model.specs.Basics.{every, member, distinct, unless}
 use Rattle.model.specs.Floor.{size, free}
 use Rattle.model.specs.Grounds.{price-free}
-use Rattle.model.specs.Checks.{ceiling, floorOf, groundIn, settings, places, figures}
+use Rattle.model.specs.Checks.{ceiling, floorOf, goals, groundIn, settings, places, figures}
 use Rattle.model.specs.Decision.{atGoal, onPath, movesRoom, stateHolds, judge}
 use Rattle.model.specs.Ride.{learningJob}
 use Rattle.model.proofs.Moves.{is-true}
-use Rattle.model.proofs.Accepted.{then-next, sizes-judges, path-judges, settings-judges, places-judges, naming-done}
+use Rattle.model.proofs.Accepted.{then-next, sizes-judges, path-judges, settings-judges, naming-done}
+use Rattle.model.proofs.Benches.{places-judges, goals-judges, goal-means, goal-free}
 use Rattle.model.proofs.Openings.{Held}
-use Rattle.model.proofs.Meaning.{goal-means}
 use Rattle.model.proofs.Steps.{asState, short, here, is-false}
 
 -- ---- tests over lists
@@ -55,12 +55,12 @@ all-and (also h k) (also i l) = also (h, i) (all-and k l)
 -- ---- in a trial
 
 module _ (j : Job) (bytes : List ℕ) (H : Held j bytes) where
-  -- a cell that can reach the goal is free
+  -- a cell that can reach a goal is free
   reach-free : (x : ℕ) → CanReach (learningJob j bytes) x → free (floorOf j bytes) x ≡ true
   reach-free x (c, (z, g, (n, t))) = by g t
     where
       by : {z c n : ℕ} → Goal (groundIn j bytes) z → Walk (netOf (groundIn j bytes)) Any x z c n → free (floorOf j bytes) x ≡ true
-      by g (stop s) = ap (free (floorOf j bytes)) (goal-means (floorOf j bytes) (j .goal) x g) ∙ H .bench
+      by g (stop s) = goal-free (floorOf j bytes) (goals j) (H .benches) x (goal-means (floorOf j bytes) (goals j) x g)
       by g (move {b = b} s e k) = is-true _ (price-free (floorOf j bytes) x b (omega (arith, e .0, e .1)))
 
   module _ {start : ℕ} (s : State) (table path : List ℕ) (k : Keeps (learningJob j bytes) start (asState s table path)) (room : size (floorOf j bytes) ≤ length path) where
@@ -87,6 +87,7 @@ module _ (j : Job) (bytes : List ℕ) (H : Held j bytes) where
         ∙ then-next _ (path-judges f (length path) .done room)
         ∙ then-next _ (ap (λ b. unless b 2) (le-leb (from + 288) places more))
         ∙ then-next _ (settings-judges j .done (H .settings))
-        ∙ then-next _ (places-judges f (s .current) (j .goal) .done (reach-free (s .current) (here j bytes H s table path k room), H .bench))
+        ∙ then-next _ (places-judges f (s .current) (goals j) .done (reach-free (s .current) (here j bytes H s table path k room), H .benches))
+        ∙ then-next _ (goals-judges (j .goals) .done (H .order))
         ∙ then-next _ (naming-done (size f) (λ x. ltb ceiling (getD table x 0)) 5 (λ x h. le-ltb ceiling (getD table x 0) (fits x h)))
         ∙ state-holds

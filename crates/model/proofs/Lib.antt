@@ -3,8 +3,10 @@
 pub mod Cells
 pub mod Moves
 pub mod Parts
--- What each check says and gives; the path that a decision is handed; an accepted job; 6 and 7 by walks.
+-- What each check says and gives; tests over lists; the goals; the path that a decision is handed; an accepted job; 6 and 7 by walks.
 pub mod Accepted
+pub mod Lists
+pub mod Benches
 pub mod Held
 pub mod Soundness
 pub mod Openings
@@ -32,6 +34,8 @@ pub mod PlainFloors
 pub mod Demand
 -- Document 02 on corners: what a move needs free; learned tables stay sound.
 pub mod Corners
+-- Document 02 on several benches: where one closes, learned tables stay sound.
+pub mod Closing
 -- The table file: its checks and its records; what a refused record means; the round trip of demand 2.
 pub mod Files
 pub mod Records

@@ -8,8 +8,7 @@ use mathlib.Core.List.{List, [], _∷_, _++_}
 use native.Mathlib.Nat.{le-trans}
 use native.Mathlib.Decide.{decLe}
 use native.Mathlib.Omega.{arith}
-use borrow.Author.Tests.{lt-ltb}
-use lib.Dec.{T, ltb, eqb, eqb→eq, eqb-refl}
+use lib.Dec.{T}
 use lib.ListN.{length, getD}
 use Rattle.learning.specs.Walk.{Network, Walk, Any, Least, Leads, Arrives}
 use Rattle.learning.specs.Ahead.{Window, Ahead}
@@ -17,24 +16,21 @@ use Rattle.learning.specs.Ground.{Goal, netOf, distIn, distOf, viewOf, ringOf, 
 use Rattle.learning.specs.Route.{Chain, priorIn}
 use Rattle.learning.proofs.Walks.{turn}
 use Rattle.learning.proofs.Sound.{ring-self, crosses}
-use Rattle.learning.proofs.Spread.{second-true}
 use Rattle.learning.proofs.Ground.{dist-least, window, ring-low, ring-walk}
 use Rattle.learning.proofs.Look.{answer-if, walk-inside}
 use Rattle.learning.proofs.Route.{leg-moves}
 use Rattle.learning.proofs.Routes.{chain-walk, route-none, route-more}
 use Rattle.learning.proofs.Finer.{into-fine, fewest-moves, route-fewest, prior-fewest, prior-goes}
 use Rattle.answers.specs.declared.Job.{Job}
-use Rattle.model.specs.Basics.{member}
-use Rattle.model.specs.Floor.{Floor, size, Sized, dearestPrice, doubled, slowly, price, ahead, allowed, goalsOf}
+use Rattle.model.specs.Floor.{Floor, size, Sized, dearestPrice, doubled, slowly, price, ahead, allowed}
 use Rattle.model.specs.Checks.{deepest, floorOf, groundIn}
 use Rattle.model.specs.Lookahead.{seen, ring, w, emptyRing, newFigure, target, fineness, fineIn, route, mostMoves}
 use Rattle.model.specs.Opening.{distances, reaches}
 use Rattle.model.specs.Decision.{atGoal}
 use Rattle.model.proofs.Moves.{toll, price-move, price-toll, allowed-inside, allowed-some}
-use Rattle.model.proofs.Held.{or-false}
 use Rattle.model.proofs.Soundness.{reaches-of, reaches-means}
 use Rattle.model.proofs.Rings.{Bare, empty-none, empty-some, empty-full, empty-of}
-use Rattle.model.specs.Grounds.{price-high, groundOf}
+use Rattle.model.specs.Grounds.{price-high}
 
 -- ---- "A move is allowed when the cell moved into is on the floor and free. A straight move costs 10, a diagonal one 14.
 -- A move that begins or ends in a slow cell costs double, 20 or 28, the same each way."
@@ -46,23 +42,13 @@ price-means f z x y h =
     let (m, l, a, e) = price-move f z x y h in
     (m, l, a, e, subst (λ c. price f x c ≡ doubled (slowly f x c) (toll m)) e (price-toll f z x m l (allowed-inside f z x m a) (allowed-some f z x m a)))
 
--- ---- the goal
-
-pub goal-means : (f : Floor) (goal x : ℕ) → Goal (groundOf f (goalsOf goal)) x → x ≡ goal
-unfolding member
-goal-means f goal x t = eqb→eq x goal (subst T (or-false (eqb x goal)) (second-true (ltb x (size f)) _ t))
-
-pub goal-is : (f : Floor) (goal : ℕ) → goal < size f → Goal (groundOf f (goalsOf goal)) goal
-unfolding member
-goal-is f goal h = rw (lt-ltb goal (size f) h, or-false (eqb goal goal)) (eqb-refl goal)
-
 -- ---- "The true distance of a free cell is the least cost of any walk of allowed moves to the goal."
 
 -- the walks of a floor
 abbrev pub net : Job → List ℕ → Network
 net j bytes = netOf (groundIn j bytes)
 
--- some walk leads from x to the goal at cost c
+-- some walk leads from x to a goal at cost c
 abbrev pub Gets : Job → List ℕ → ℕ → ℕ → Type 0
 Gets j bytes x c = Arrives (net j bytes) (Goal (groundIn j bytes)) x c
 

@@ -10,7 +10,7 @@ use native.Mathlib.Omega.{arith}
 use native.Mathlib.Decide.{decLe}
 use borrow.Author.Tests.{eqb-true, le-ltb}
 use lib.Dec.{T, ltb, eqb}
-use lib.ListN.{getD}
+use lib.ListN.{length, getD}
 use Rattle.learning.specs.Walk.{Any, Reaches}
 use Rattle.learning.specs.Ground.{Goal, netOf, distOf}
 use Rattle.learning.proofs.Route.{closed-low}
@@ -18,15 +18,16 @@ use Rattle.learning.proofs.Spread.{list-at, second-true}
 use Rattle.learning.proofs.Ground.{on-floor, dist-least}
 use Rattle.answers.specs.declared.Job.{Job}
 use Rattle.answers.specs.declared.Verdict.the-variants as Vd
-use Rattle.model.specs.Basics.{member, then}
-use Rattle.model.specs.Floor.{Floor, size, Sized, column, row, free, apart, tariff, clear, octile, opening, openingTable, straight, diagonal, goalsOf}
+use Rattle.model.specs.Basics.{member}
+use Rattle.model.specs.Floor.{Floor, size, Sized, column, row, free, apart, tariff, clear, octile, opening, openingTable, straight, diagonal}
 use Rattle.model.specs.Grounds.{groundOf}
-use Rattle.model.specs.Checks.{ceiling, floorOf, goals, groundIn, figures, finest}
-use Rattle.model.specs.Opening.{soundness, accepts}
+use Rattle.model.specs.Checks.{ceiling, floorOf, goals, groundIn, finest, Benched}
+use Rattle.model.specs.Opening.{accepts}
 use Rattle.model.proofs.Cells.{row-lt}
-use Rattle.model.proofs.Moves.{fared, free-below}
+use Rattle.model.proofs.Moves.{fared}
 use Rattle.model.proofs.SlowZones.{ordinaryPrice, asOrdinary, reached-as-ordinary, slow-distances-only-grow}
-use Rattle.model.proofs.Accepted.{then-next, figures-done, places-judges}
+use Rattle.model.proofs.Accepted.{then-next, figures-done}
+use Rattle.model.proofs.Benches.{AllFree, places-judges, InOrder, goals-judges, benched}
 use Rattle.model.proofs.Soundness.{CanReach, Above, sound}
 
 -- ---- how large
@@ -34,9 +35,9 @@ use Rattle.model.proofs.Soundness.{CanReach, Above, sound}
 pub gap-lt : (n a b : ℕ) → a < n → b < n → apart a b < n
 gap-lt n a b h k = omega arith
 
-pub opening-high : (f : Floor) → 1 ≤ f .width → f .width ≤ 64 → f .height ≤ 64 → (q g x : ℕ) → q ≤ 16 → g < size f → x < size f → opening f q (goalsOf g) x ≤ finest * (diagonal * 63)
-unfolding opening octile
-opening-high f some narrow low q g x fine hg hx =
+octile-high : (f : Floor) → 1 ≤ f .width → f .width ≤ 64 → f .height ≤ 64 → (q g x : ℕ) → q ≤ 16 → g < size f → x < size f → octile f q g x ≤ finest * (diagonal * 63)
+unfolding octile
+octile-high f some narrow low q g x fine hg hx =
     let dx : apart (column f x) (column f g) < 64 = gap-lt 64 (column f x) (column f g) (omega (arith, mod-lt x {m = f .width} some)) (omega (arith, mod-lt g {m = f .width} some)) in
     let dy : apart (row f x) (row f g) < 64 =
     gap-lt 64 (row f x) (row f g) (omega (arith, row-lt (f .width) (f .height) x some hx)) (omega (arith, row-lt (f .width) (f .height) g some hg)) in
@@ -45,9 +46,17 @@ opening-high f some narrow low q g x fine hg hx =
     far : (dx dy : ℕ) → dx < 64 → dy < 64 → diagonal * min dx dy + straight * apart dx dy ≤ diagonal * 63
     far dx dy h k = omega arith
 
+-- the least of several is no higher
+pub opening-high : (f : Floor) → 1 ≤ f .width → f .width ≤ 64 → f .height ≤ 64 → (q : ℕ) (gs : List ℕ) (x : ℕ) → q ≤ 16
+    → ((i : ℕ) → i < length gs → getD gs i 0 < size f) → x < size f → opening f q gs x ≤ finest * (diagonal * 63)
+unfolding opening
+opening-high f some narrow low q [] x fine on hx = omega arith
+opening-high f some narrow low q (g ∷ []) x fine on hx = octile-high f some narrow low q g x fine (on 0 (omega arith)) hx
+opening-high f some narrow low q (g ∷ h ∷ gs) x fine on hx = omega (arith, octile-high f some narrow low q g x fine (on 0 (omega arith)) hx)
+
 -- so within the ceiling
-pub opening-within : (f : Floor) (q g x : ℕ) → Sized f → q ≤ 16 → g < size f → x < size f → opening f q (goalsOf g) x ≤ ceiling
-opening-within f q g x z fine hg hx = omega (arith, opening-high f (z .wide) (z .narrow) (z .low) q g x fine hg hx)
+pub opening-within : (f : Floor) (q : ℕ) (gs : List ℕ) (x : ℕ) → Sized f → q ≤ 16 → Benched (size f) gs → x < size f → opening f q gs x ≤ ceiling
+opening-within f q gs x z fine b hx = omega (arith, opening-high f (z .wide) (z .narrow) (z .low) q gs x fine (b .on) hx)
 
 -- ---- no move between ordinary cells lowers the octile distance by more than its price
 
@@ -163,14 +172,15 @@ module _ (j : Job) (bytes : List ℕ) where
   opening-sound x (r, l) = omega (arith, figure-is x (on-floor (groundIn j bytes) x r), opening-low (floorOf j bytes) (j .q) (goals j) x r)
 
   -- nor by 5, so a job opens with it just where a walk exists
-  pub opening-opens : (start : ℕ) → Sized (floorOf j bytes) → j .q ≤ 16 → free (floorOf j bytes) start ≡ true → free (floorOf j bytes) (j .goal) ≡ true → CanReach j bytes start
-      → accepts j bytes start opened ≡ Vd.Done
+  pub opening-opens : (start : ℕ) → Sized (floorOf j bytes) → j .q ≤ 16 → free (floorOf j bytes) start ≡ true → AllFree (floorOf j bytes) (goals j) → InOrder (j .goals)
+      → CanReach j bytes start → accepts j bytes start opened ≡ Vd.Done
   unfolding accepts
-  opening-opens start z fine here bench r =
+  opening-opens start z fine here benches order r =
       let f = floorOf j bytes in
-      then-next (then (figures f opened) (soundness j bytes start opened)) (places-judges f start (j .goal) .done (here, bench))
-      ∙ then-next (soundness j bytes start opened) (figures-done f opened (λ x h. le-ltb ceiling (getD opened x 0) (small x h)))
+      then-next _ (places-judges f start (goals j) .done (here, benches))
+      ∙ then-next _ (goals-judges (j .goals) .done order)
+      ∙ then-next _ (figures-done f opened (λ x h. le-ltb ceiling (getD opened x 0) (small x h)))
       ∙ sound j bytes start opened r opening-sound
     where
       small : (x : ℕ) → x < size (floorOf j bytes) → getD opened x 0 ≤ ceiling
-      small x h = omega (arith, figure-is x h, opening-within (floorOf j bytes) (j .q) (j .goal) x z fine (free-below (floorOf j bytes) (j .goal) bench) h)
+      small x h = omega (arith, figure-is x h, opening-within (floorOf j bytes) (j .q) (goals j) x z fine (benched (floorOf j bytes) (j .goals) benches order) h)

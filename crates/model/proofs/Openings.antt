@@ -1,4 +1,4 @@
--- What an accepted job is: a lawful job of `learning`, with a sound table and a start that can reach the goal.
+-- What an accepted job is: a lawful job of `learning`, with a sound table and a start that can reach a goal.
 -- The checks 1 to 7 give just this, and whatever is this passes them: so acceptance can be carried from trial to trial.
 use Prim.Native.Nat.{ℕ, _*_, _≤_, _<_}
 use mathlib.Core.Path.{_≡_, refl, _∙_}
@@ -14,10 +14,11 @@ use Rattle.learning.proofs.Ground.{lawful}
 use Rattle.answers.specs.declared.Job.{Job}
 use Rattle.answers.specs.declared.Verdict.the-variants as Vd
 use Rattle.model.specs.Floor.{size, Sized, free}
-use Rattle.model.specs.Checks.{ceiling, floorOf, goals, groundIn, sizes, pathRoom, settings, places, figures}
+use Rattle.model.specs.Checks.{ceiling, floorOf, goals, groundIn, sizes, pathRoom, settings, places, goalsHold, figures}
 use Rattle.model.specs.Opening.{accepts, openJob, openTrial, reportsRoom, trialsHold, openRun}
 use Rattle.model.specs.Ride.{learningJob}
-use Rattle.model.proofs.Accepted.{then-next, then-done, Settings, sizes-judges, path-judges, reports-judges, settings-judges, trials-judges, places-judges, naming-done, figures-accepted}
+use Rattle.model.proofs.Accepted.{then-next, then-done, Settings, sizes-judges, path-judges, reports-judges, settings-judges, trials-judges, naming-done, figures-accepted}
+use Rattle.model.proofs.Benches.{AllFree, places-judges, InOrder, goals-judges}
 use Rattle.model.proofs.Soundness.{sound, sound-only}
 
 -- ---- what acceptance gives
@@ -26,7 +27,8 @@ use Rattle.model.proofs.Soundness.{sound, sound-only}
 pub record Held (j : Job) (bytes : List ℕ) : Type 0 where
   pub sized : Sized (floorOf j bytes)
   pub settings : Settings j
-  pub bench : free (floorOf j bytes) (j .goal) ≡ true
+  pub benches : AllFree (floorOf j bytes) (goals j)
+  pub order : InOrder (j .goals)
   pub lawful : Lawful (learningJob j bytes)
 
 -- and of the start and the table
@@ -63,14 +65,16 @@ module _ (j : Job) (bytes : List ℕ) (start : ℕ) (table : List ℕ) where
   from-accepts z l s e =
       let f = floorOf j bytes in
       let (p, rest) = then-done (places f start (goals j)) _ e in
-      let (g, judged) = then-done (figures f table) _ rest in
+      let (o, more) = then-done (goalsHold (j .goals)) _ rest in
+      let (g, judged) = then-done (figures f table) _ more in
       let (way, none) = sound-only j bytes start table judged in
-      let free-both = places-judges f start (j .goal) .gives p in
+      let free-both = places-judges f start (goals j) .gives p in
       record {
         held = record {
           sized = z;
           settings = s;
-          bench = free-both .1;
+          benches = free-both .1;
+          order = goals-judges (j .goals) .gives o;
           lawful = lawful (groundIn j bytes) (j .depth) (j .p) (j .q) (j .quota) (s .deep) (s .light) (s .weight);
         };
         long = l;
@@ -84,7 +88,8 @@ module _ (j : Job) (bytes : List ℕ) (start : ℕ) (table : List ℕ) where
   unfolding accepts figures
   to-accepts o =
       let f = floorOf j bytes in
-      then-next _ (places-judges f start (j .goal) .done (o .free-start, o .held .bench))
+      then-next _ (places-judges f start (goals j) .done (o .free-start, o .held .benches))
+      ∙ then-next _ (goals-judges (j .goals) .done (o .held .order))
       ∙ then-next _ (naming-done (size f) (λ x. ltb ceiling (getD table x 0)) 5 (λ x h. le-ltb ceiling (getD table x 0) (o .fits x h)))
       ∙ sound j bytes start table (o .reach) (λ x (r, h). omega (arith, o .sound .low x r))
 

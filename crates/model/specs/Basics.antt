@@ -17,10 +17,14 @@ choose false a b = b
 abbrev pub between : ℕ → ℕ → ℕ → Bool
 between a x b = leb a x && leb x b
 
--- whether every entry passes the test; whether x stands in a list; whether no entry stands in it twice
+-- whether every entry passes the test; whether one does; whether x stands in a list; whether no entry stands in it twice; whether each is above the one before
 unfoldable pub every : (ℕ → Bool) → List ℕ → Bool
 every test [] = true
 every test (x ∷ xs) = test x && every test xs
+
+unfoldable pub any : (ℕ → Bool) → List ℕ → Bool
+any test [] = false
+any test (x ∷ xs) = test x || any test xs
 
 unfoldable pub member : ℕ → List ℕ → Bool
 member x [] = false
@@ -29,6 +33,11 @@ member x (y ∷ ys) = eqb x y || member x ys
 unfoldable pub distinct : List ℕ → Bool
 distinct [] = true
 distinct (x ∷ xs) = not (member x xs) && distinct xs
+
+unfoldable pub rising : List ℕ → Bool
+rising [] = true
+rising (x ∷ []) = true
+rising (x ∷ y ∷ ys) = ltb x y && rising (y ∷ ys)
 
 -- one check after another: the first refusal stands
 abbrev pub then : Verdict → Verdict → Verdict

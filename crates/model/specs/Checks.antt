@@ -1,13 +1,14 @@
--- The settings and the numbers that several calls answer: 1, 2, 3, 4 and 5.
-use Prim.Native.Nat.{ℕ, _*_}
+-- The settings and the numbers that several calls answer: 1, 2, 3, 4, 27 and 5.
+use Prim.Native.Nat.{ℕ, suc, _*_, _≤_, _<_}
 use mathlib.Core.Bool.{_&&_}
-use mathlib.Core.List.{List, [], _∷_}
+use mathlib.Core.List.{List}
 use lib.Dec.{leb, ltb, eqb}
 use lib.ListN.{length, getD}
 use Rattle.learning.specs.Ground.{Ground}
+use Rattle.answers.specs.declared.Goals.{Goals}
 use Rattle.answers.specs.declared.Job.{Job}
 use Rattle.answers.specs.declared.Verdict.{Verdict}
-use Rattle.model.specs.Basics.{between, every, unless, naming}
+use Rattle.model.specs.Basics.{between, every, rising, unless, naming}
 use Rattle.model.specs.Floor.{Floor, size, dearestPrice, free, goalsOf}
 use Rattle.model.specs.Grounds.{groundOf}
 
@@ -35,7 +36,7 @@ abbrev pub floorOf : Job → List ℕ → Floor
 floorOf j bytes = record { width = j .width; height = j .height; bytes = bytes }
 
 abbrev pub goals : Job → List ℕ
-goals j = goalsOf (j .goal)
+goals j = goalsOf (j .goals)
 
 abbrev pub groundIn : Job → List ℕ → Ground
 groundIn j bytes = groundOf (floorOf j bytes) (goals j)
@@ -56,12 +57,25 @@ settings j = unless (between 1 (j .depth) deepest && leb 1 (j .p) && leb (j .p) 
 unfoldable pub scale : ℕ → Verdict
 scale q = unless (between 1 q finest) 3
 
--- 4: start, current cell or goal off the floor or blocked; the table calls take the goals alone
+-- 4: start, current cell or a goal off the floor or blocked; the table calls take the goals alone
 unfoldable pub benches : Floor → List ℕ → Verdict
 benches f gs = unless (every (free f) gs) 4
 
 unfoldable pub places : Floor → ℕ → List ℕ → Verdict
 places f x gs = unless (free f x && every (free f) gs) 4
+
+-- "27 goals equal, out of order, none or more than four, after 4"
+abbrev pub mostGoals : ℕ
+mostGoals = 4
+
+unfoldable pub goalsHold : Goals → Verdict
+goalsHold g = unless (between 1 (g .count) mostGoals && rising (goalsOf g)) 27
+
+-- what 4 and 27 leave of a job's goals on a floor of n cells: there is one, each is a cell, and they rise
+pub record Benched (n : ℕ) (gs : List ℕ) : Type 0 where
+  pub one : 1 ≤ length gs
+  pub on : (i : ℕ) → i < length gs → getD gs i 0 < n
+  pub rise : (i : ℕ) → suc i < length gs → getD gs i 0 < getD gs (suc i) 0
 
 -- 5: a table figure above the ceiling; names the lowest such cell
 unfoldable pub figures : Floor → List ℕ → Verdict

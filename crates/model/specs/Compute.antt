@@ -3,14 +3,14 @@ use native.Mathlib.Decide.{decLe, ℕ-discrete}
 use Rattle.learning.specs.Ground.{settle, spread, distsOf, reachOf, distOf, viewOf, ringOf, lastOf, legOf}
 use Rattle.learning.specs.Look.{bestOn, newOver, targetOver, newIn, targetIn}
 use Rattle.learning.specs.Route.{priorIn, routeFrom, routeIn}
-use Rattle.model.specs.Basics.{every, member, distinct, naming}
-use Rattle.model.specs.Floor.{free, slow, clear, price, ahead, inside, allowed, heading, octile, opening, openingTable}
-use Rattle.model.specs.Checks.{sizes, pathRoom, settings, scale, benches, places, figures}
+use Rattle.model.specs.Basics.{every, any, member, distinct, rising, naming}
+use Rattle.model.specs.Floor.{free, slow, clear, price, ahead, inside, allowed, heading, octile, goalsOf, opening, openingTable}
+use Rattle.model.specs.Checks.{sizes, pathRoom, settings, scale, benches, places, goalsHold, figures}
 use Rattle.model.specs.Lookahead.{emptyRing, route, movesAlong}
 use Rattle.model.specs.Decision.{movesRoom, stateHolds, judge, forwardBy, backOutBy, stay, goBackBy, learnBy, actBy, decideBy}
 use Rattle.model.specs.Opening.{soundness, accepts, openJob, openTrial, reportsRoom, trialsHold, openRun, openTable}
 use Rattle.model.specs.Ride.{nextBy, rideFromBy, bound, rideBy, kept, trialBy, courseFromBy, runBy}
-use Rattle.model.specs.TableFile.{trailerHolds, checkTrailer, findRecords, sameJob, recordFault, judgeRecords, applied, readVerdict, readTable, changed, recordsOf, trailerOf, fileOf}
+use Rattle.model.specs.TableFile.{holdsAs, checkFirst, secondHolds, trailerHolds, checkTrailer, findRecords, firstNames, placesNamed, secondNames, sameJob, recordFault, judgeRecords, applied, readVerdict, readTable, changed, recordsOf, trailerOf, fileOf}
 use Rattle.model.specs.TableFile.{unlike, writeVerdict, writeTable}
 use Rattle.model.specs.Writing.{fileRoom}
 use Rattle.model.specs.FloorText.{begins, sizeIn, header, rowHolds, rows, cellsOf, floorVerdict, readFloor}
@@ -21,14 +21,14 @@ unfoldable pub compute : Unit {0}
 unfolding decLe ℕ-discrete
     settle spread distsOf reachOf distOf viewOf ringOf lastOf legOf
     bestOn newOver targetOver newIn targetIn priorIn routeFrom routeIn
-    every member distinct naming
-    free slow clear price ahead inside allowed heading octile opening openingTable
-    sizes pathRoom settings scale benches places figures
+    every any member distinct rising naming
+    free slow clear price ahead inside allowed heading octile goalsOf opening openingTable
+    sizes pathRoom settings scale benches places goalsHold figures
     emptyRing route movesAlong
     movesRoom stateHolds judge forwardBy backOutBy stay goBackBy learnBy actBy decideBy
     soundness accepts openJob openTrial reportsRoom trialsHold openRun openTable
     nextBy rideFromBy bound rideBy kept trialBy courseFromBy runBy
-    trailerHolds checkTrailer findRecords sameJob recordFault judgeRecords applied readVerdict readTable changed recordsOf trailerOf fileOf unlike fileRoom writeVerdict writeTable
+    holdsAs checkFirst secondHolds trailerHolds checkTrailer findRecords firstNames placesNamed secondNames sameJob recordFault judgeRecords applied readVerdict readTable changed recordsOf trailerOf fileOf unlike fileRoom writeVerdict writeTable
     begins sizeIn header rowHolds rows cellsOf floorVerdict readFloor
     rowsOf textOf textVerdict writeFloor
     numbersIn afterLine readLine decimalIn movesField trialLine trialLines courseLines refusalLine judgeAisle aisle

@@ -16,7 +16,7 @@ use Rattle.answers.specs.declared.Answer.the-variants as A
 use Rattle.model.specs.Basics.{choose, every, distinct, then, unless}
 use Rattle.model.specs.Floor.{size, free, opposite}
 use Rattle.model.specs.Grounds.{isGoal}
-use Rattle.model.specs.Checks.{ceiling, floorOf, goals, sizes, pathRoom, settings, places, figures}
+use Rattle.model.specs.Checks.{ceiling, floorOf, goals, sizes, pathRoom, settings, places, goalsHold, figures}
 use Rattle.model.specs.Lookahead.{seen, ring, w, emptyRing, newFigure, target, route, movesAlong}
 
 -- whether a cell is a goal of the job
@@ -31,14 +31,14 @@ onPath s path = take (s .length) path
 unfoldable pub movesRoom : ℕ → ℕ → Verdict
 movesRoom room from = unless (leb (from + 288) room) 2
 
--- 8, its first part: u above q × T; path longer than width × height; a path cell off the floor, blocked, the goal, repeated or equal to the current one
+-- 8, its first part: u above q × T; path longer than width × height; a path cell off the floor, blocked, a goal, repeated or equal to the current one
 unfoldable pub stateHolds : Job → List ℕ → State → List ℕ → Verdict
 stateHolds j bytes s path =
     unless (leb (s .learned) (j .q * j .quota) && leb (s .length) (size (floorOf j bytes))
     && every (λ x. free (floorOf j bytes) x && not (atGoal j bytes x) && not (eqb x (s .current))) (onPath s path)
     && distinct (onPath s path)) 8
 
--- the checks ahead of the lookahead, lower number first
+-- the checks ahead of the lookahead, in their order
 unfoldable pub judge : Job → List ℕ → State → (table path : List ℕ) → (room from : ℕ) → Verdict
 judge j bytes s table path room from =
     let f = floorOf j bytes in
@@ -47,8 +47,9 @@ judge j bytes s table path room from =
     (then (movesRoom room from)
     (then (settings j)
     (then (places f (s .current) (goals j))
+    (then (goalsHold (j .goals))
     (then (figures f table)
-    (stateHolds j bytes s path))))))
+    (stateHolds j bytes s path)))))))
 
 -- What a decision past these checks comes to: its answer, the state and the lists after it, its moves and what they cost.
 pub record Deed : Type 0 where
@@ -140,7 +141,7 @@ learnBy choice j bytes s v table path new t =
       ]
     ]
 
--- 1 and 2: done at the goal, else the lookahead. 9: a ring up to d is empty and the goal is in none before it
+-- 1 and 2: done at a goal, "arriving at any of them ends the trial"; else the lookahead. 9: a ring up to d is empty and no goal is in one before it
 unfoldable pub actBy : Choice → Job → List ℕ → State → (table path : List ℕ) → Deed
 actBy choice j bytes s table path =
     let v = seen j bytes (s .current) in

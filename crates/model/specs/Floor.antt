@@ -4,9 +4,10 @@ use mathlib.Core.Path.{_≡_}
 use mathlib.Core.Bool.{Bool, true, false, _&&_, _||_}
 use mathlib.Core.List.{List, [], _∷_}
 use lib.Dec.{ltb, leb, eqb}
-use lib.ListN.{length, getD}
+use lib.ListN.{length, getD, take}
 use Rattle.learning.specs.Ground.{pick, listOf}
 use Rattle.learning.specs.Look.{lowest}
+use Rattle.answers.specs.declared.Goals.{Goals}
 
 pub record Floor : Type 0 where
   pub width : ℕ
@@ -131,11 +132,17 @@ octile f q g x =
     let dy = apart (row f x) (row f g) in
     q * (diagonal * min dx dy + straight * apart dx dy)
 
--- the goals as a list: document 01 names one, and a list of several changes no other definition
-abbrev pub goalsOf : ℕ → List ℕ
-goalsOf goal = goal ∷ []
+-- "A job may name 1 to 4 goals": the places that a job has for them, and those of the goals that it names, four at most. One goal is a job's that names no other
+abbrev pub placesFor : Goals → List ℕ
+placesFor g = g .first ∷ g .second ∷ g .third ∷ g .fourth ∷ []
 
--- the least over the goals
+unfoldable pub goalsOf : Goals → List ℕ
+goalsOf g = take (g .count) (placesFor g)
+
+abbrev pub oneGoal : ℕ → Goals
+oneGoal goal = record { count = 1; first = goal; second = 0; third = 0; fourth = 0 }
+
+-- "the opening figure is the least over them"
 unfoldable pub opening : Floor → ℕ → List ℕ → ℕ → ℕ
 opening f q [] x = 0
 opening f q (g ∷ []) x = octile f q g x

@@ -13,7 +13,7 @@ use Rattle.answers.specs.declared.Settings.{Settings}
 use Rattle.answers.specs.declared.Verdict.{Verdict}
 use Rattle.answers.specs.declared.Verdict.the-variants as Vd
 use Rattle.model.specs.Basics.{choose, then}
-use Rattle.model.specs.Floor.{openingTable}
+use Rattle.model.specs.Floor.{oneGoal, openingTable}
 use Rattle.model.specs.Checks.{floorOf, goals, settings, largestQuota}
 use Rattle.model.specs.Opening.{trialsHold, openJob}
 use Rattle.model.specs.Ride.{Ride, Course, kept, courseFrom}
@@ -62,7 +62,7 @@ readLine input = elim (numbersIn 0 0 input) [ none ↦ none | some ns ↦ settin
 
 -- the job that a line and a floor of that width and height make
 abbrev pub jobIn : Settings → (width height : ℕ) → Job
-jobIn s width height = record { width = width; height = height; goal = s .goal; depth = s .depth; p = s .p; q = s .q; quota = s .quota }
+jobIn s width height = record { width = width; height = height; goals = oneGoal (s .goal); depth = s .depth; p = s .p; q = s .q; quota = s .quota }
 
 -- a number in decimal; 20 digits are enough for any count (`counts-fit` of Rides)
 unfoldable pub decimalIn : (most n : ℕ) → List ℕ

@@ -12,7 +12,7 @@ use Rattle.model.specs.Floor.{Floor, size, leastPrice, dearestPrice, hea
 use Rattle.model.specs.Grounds.{groundOf}
 use Rattle.model.specs.Checks.{deepest, finest, ceiling, floorOf, goals, groundIn}
 
--- 1: "A cell's ring is the fewest moves to it from s. The last ring m is d, or the goal's ring if that is smaller. The window is all cells of ring
+-- 1: "A cell's ring is the fewest moves to it from s. The last ring m is d, or the goal's ring if that is smaller", that being "the nearest goal's". "The window is all cells of ring
 -- 0 to m." 2: "w(x) is the least cost of a walk from s to x that stays in the window. It may use more moves than x's ring."
 abbrev pub seen : Job → List ℕ → ℕ → View
 seen j bytes s = viewOf (groundIn j bytes) (j .depth) s
@@ -24,7 +24,7 @@ ring j bytes v x = ringIn (groundIn j bytes) (j .depth) (v .rings) x
 abbrev pub w : Job → List ℕ → View → ℕ → ℕ
 w j bytes v x = costIn (groundIn j bytes) (v .costs) x
 
--- whether one of the rings 1 to k is empty. Number 9 asks it of the last ring, which is the depth's or the goal's (`nine-means`)
+-- whether one of the rings 1 to k is empty. Number 9 asks it of the last ring, which is the depth's or the nearest goal's (`nine-means`)
 unfoldable pub emptyRing : Job → List ℕ → View → ℕ → Bool
 emptyRing j bytes v zero = false
 emptyRing j bytes v (suc k) =

@@ -1,14 +1,16 @@
 -- The table file: records of the figures that differ from the opening figure, then a trailer that points back. Numbers are big-endian.
+-- Its edition 1 is read, edition 2 is read and written; they differ in the trailer alone.
 use Prim.Native.Nat.{ℕ, zero, suc, _+_, _-_, _*_, _/_, _%_}
-use mathlib.Core.Bool.{Bool, true, false, not, _&&_}
+use mathlib.Core.Bool.{Bool, true, false, not, _&&_, _||_}
 use mathlib.Core.List.{List, [], _∷_, _++_}
 use lib.Dec.{leb, ltb, eqb}
 use lib.ListN.{length, getD, set, take, drop}
+use Rattle.answers.specs.declared.Goals.{Goals}
 use Rattle.answers.specs.declared.Place.the-variants as P
 use Rattle.answers.specs.declared.Verdict.{Verdict}
 use Rattle.answers.specs.declared.Verdict.the-variants as Vd
-use Rattle.model.specs.Basics.{choose, then, refuseAt, unless, naming}
-use Rattle.model.specs.Floor.{Floor, size, free, opening, openingTable}
+use Rattle.model.specs.Basics.{choose, every, then, refuseAt, unless, naming}
+use Rattle.model.specs.Floor.{Floor, size, free, goalsOf, opening, openingTable}
 use Rattle.model.specs.Checks.{ceiling, figures}
 use Rattle.model.specs.Opening.{openTable}
 use Rattle.model.specs.Writing.{fileRoom, WriteOutcome, writeOf}
@@ -26,24 +28,55 @@ half n = n / 256 % 256 ∷ n % 256 ∷ []
 abbrev pub word : ℕ → List ℕ
 word n = half (n / 65536) ++ half n
 
--- The trailer, the last 16 bytes: width (1), height (1), goal (2), q (1), edition 1 (1), count (2), back (4), the letters PDLT.
-abbrev pub trailer : List ℕ → List ℕ
-trailer file = drop (length file - 16) file
+-- The trailer: the last 16 bytes in edition 1, which names one goal, and "24 bytes" in edition 2. Its last 12 bytes are the same in both:
+-- q (1), edition (1), count (2), back (4), the letters PDLT.
+abbrev pub firstLong : ℕ
+firstLong = 16
+
+abbrev pub secondLong : ℕ
+secondLong = 24
+
+abbrev pub trailer : (long : ℕ) → List ℕ → List ℕ
+trailer long file = drop (length file - long) file
+
+abbrev pub ending : List ℕ → List ℕ
+ending file = trailer 12 file
+
+abbrev pub scaleIn : List ℕ → ℕ
+scaleIn file = getD (ending file) 0 0
+
+abbrev pub editionIn : List ℕ → ℕ
+editionIn file = getD (ending file) 1 0
 
 abbrev pub countIn : List ℕ → ℕ
-countIn file = halfAt (trailer file) 6
+countIn file = halfAt (ending file) 2
 
 abbrev pub backIn : List ℕ → ℕ
-backIn file = wordAt (trailer file) 8
+backIn file = wordAt (ending file) 4
 
 abbrev pub isLetters : List ℕ → Bool
-isLetters t = eqb (getD t 12 0) 80 && eqb (getD t 13 0) 68 && eqb (getD t 14 0) 76 && eqb (getD t 15 0) 84
+isLetters t = eqb (getD t 8 0) 80 && eqb (getD t 9 0) 68 && eqb (getD t 10 0) 76 && eqb (getD t 11 0) 84
 
--- 13: under 16 bytes, letters, edition, `back` not 16 + 6 × count, or `back` past the file's start
+-- an edition whose trailer is so long: not under so many bytes, letters, edition, `back` being so many + 6 × count, and not past the file's start
+unfoldable pub holdsAs : (edition long : ℕ) → List ℕ → Bool
+holdsAs edition long file =
+    leb long (length file) && isLetters (ending file) && eqb (editionIn file) edition
+    && eqb (backIn file) (long + 6 * countIn file) && leb (backIn file) (length file)
+
+-- 13 of an edition 1 reader, which knows no other
+abbrev pub firstHolds : List ℕ → Bool
+firstHolds file = holdsAs 1 firstLong file
+
+unfoldable pub checkFirst : List ℕ → Verdict
+checkFirst file = unless (firstHolds file) 13
+
+-- "13 also where the zero byte isn't 0"
+unfoldable pub secondHolds : List ℕ → Bool
+secondHolds file = holdsAs 2 secondLong file && eqb (getD (trailer secondLong file) 3 0) 0
+
+-- 13: "The reader takes both editions"
 unfoldable pub trailerHolds : List ℕ → Bool
-trailerHolds file =
-    leb 16 (length file) && isLetters (trailer file) && eqb (getD (trailer file) 5 0) 1
-    && eqb (backIn file) (16 + 6 * countIn file) && leb (backIn file) (length file)
+trailerHolds file = firstHolds file || secondHolds file
 
 unfoldable pub checkTrailer : List ℕ → Verdict
 checkTrailer file = unless (trailerHolds file) 13
@@ -53,11 +86,30 @@ checkTrailer file = unless (trailerHolds file) 13
 unfoldable pub findRecords : List ℕ → List ℕ
 findRecords file = choose (trailerHolds file) (take (6 * countIn file) (drop (length file - backIn file) file)) []
 
--- 14: width, height, goal or q not this job's
+-- a goal place of edition 2: "rising, unused ones FF FF"
+abbrev pub unused : ℕ
+unused = 65535
+
+abbrev pub goalPlace : List ℕ → ℕ → ℕ
+goalPlace gs i = getD gs i unused
+
+-- The trailer's job, ahead of the last 12 bytes. Edition 1: width (1), height (1), goal (2). It is this job's where that is its one goal.
+unfoldable pub firstNames : Floor → List ℕ → List ℕ → Bool
+firstNames f gs t = eqb (getD t 0 0) (f .width) && eqb (getD t 1 0) (f .height) && eqb (halfAt t 2) (getD gs 0 0) && eqb (length gs) 1
+
+-- Edition 2: width (1), height (1), "goal count (1), a zero byte and four goal places (2 each ..) in place of the one goal".
+unfoldable pub placesNamed : List ℕ → List ℕ → Bool
+placesNamed gs t = every (λ i. eqb (halfAt t (4 + 2 * i)) (goalPlace gs i)) (0 ∷ 1 ∷ 2 ∷ 3 ∷ [])
+
+unfoldable pub secondNames : Floor → List ℕ → List ℕ → Bool
+secondNames f gs t = eqb (getD t 0 0) (f .width) && eqb (getD t 1 0) (f .height) && eqb (getD t 2 0) (length gs) && placesNamed gs t
+
+abbrev pub named : Floor → List ℕ → List ℕ → Bool
+named f gs file = choose (eqb (editionIn file) 1) (firstNames f gs (trailer firstLong file)) (secondNames f gs (trailer secondLong file))
+
+-- 14: width, height or q not this job's; "14 also where the goal count or a goal place, an unused one included, isn't what the writer would give for this job"
 unfoldable pub sameJob : Floor → ℕ → List ℕ → List ℕ → Verdict
-sameJob f q gs file =
-    let t = trailer file in
-    unless (eqb (getD t 0 0) (f .width) && eqb (getD t 1 0) (f .height) && eqb (halfAt t 2) (getD gs 0 0) && eqb (getD t 4 0) q) 14
+sameJob f q gs file = unless (named f gs file && eqb (scaleIn file) q) 14
 
 -- A record, 6 bytes: cell (2), figure (4).
 abbrev pub cellIn : List ℕ → ℕ
@@ -92,21 +144,21 @@ unfoldable pub applied : (n : ℕ) → (part table : List ℕ) → List ℕ
 applied zero part table = table
 applied (suc n) part table = applied n (drop 6 part) (set table (cellIn part) (figureIn part))
 
--- the table calls judge 1, 3 (q alone) and 4 (goals alone) first, as filling a table does
-unfoldable pub readVerdict : Floor → ℕ → List ℕ → (file : List ℕ) → (figures : ℕ) → Verdict
-readVerdict f q gs file figures =
-    then (openTable f q gs figures)
+-- the table calls judge 1, 3 (q alone), 4 (goals alone) and 27 first, as filling a table does
+unfoldable pub readVerdict : Floor → ℕ → Goals → (file : List ℕ) → (figures : ℕ) → Verdict
+readVerdict f q g file figures =
+    then (openTable f q g figures)
     (then (checkTrailer file)
-    (then (sameJob f q gs file)
-    (judgeRecords f q gs (countIn file) 0 0 (findRecords file))))
+    (then (sameJob f q (goalsOf g) file)
+    (judgeRecords f q (goalsOf g) (countIn file) 0 0 (findRecords file))))
 
 -- The reader: the table after. Every cell without a record has its opening figure; a refusal leaves the table as lent.
-abbrev pub readOf : Verdict → Floor → ℕ → List ℕ → (file table : List ℕ) → List ℕ
-readOf Vd.Done f q gs file table = applied (countIn file) (findRecords file) (openingTable f q gs)
-readOf (Vd.Refused r) f q gs file table = table
+abbrev pub readOf : Verdict → Floor → ℕ → Goals → (file table : List ℕ) → List ℕ
+readOf Vd.Done f q g file table = applied (countIn file) (findRecords file) (openingTable f q (goalsOf g))
+readOf (Vd.Refused r) f q g file table = table
 
-unfoldable pub readTable : Floor → ℕ → List ℕ → (file table : List ℕ) → List ℕ
-readTable f q gs file table = readOf (readVerdict f q gs file (length table)) f q gs file table
+unfoldable pub readTable : Floor → ℕ → Goals → (file table : List ℕ) → List ℕ
+readTable f q g file table = readOf (readVerdict f q g file (length table)) f q g file table
 
 -- The writer. The cells whose figure differs from the opening figure, of the n cells from x on, rising; their records; and the whole file.
 unfoldable pub changed : Floor → ℕ → List ℕ → (table : List ℕ) → (n x : ℕ) → List ℕ
@@ -118,9 +170,12 @@ unfoldable pub recordsOf : (table cells : List ℕ) → List ℕ
 recordsOf table [] = []
 recordsOf table (x ∷ xs) = half x ++ (word (getD table x 0) ++ recordsOf table xs)
 
+-- "the writer writes 2"
 unfoldable pub trailerOf : Floor → ℕ → List ℕ → (count : ℕ) → List ℕ
 trailerOf f q gs count =
-    f .width ∷ f .height ∷ (half (getD gs 0 0) ++ (q ∷ 1 ∷ (half count ++ (word (16 + 6 * count) ++ (80 ∷ 68 ∷ 76 ∷ 84 ∷ [])))))
+    f .width ∷ f .height ∷ length gs ∷ 0
+    ∷ (half (goalPlace gs 0) ++ (half (goalPlace gs 1) ++ (half (goalPlace gs 2) ++ (half (goalPlace gs 3)
+    ++ (q ∷ 2 ∷ (half count ++ (word (secondLong + 6 * count) ++ (80 ∷ 68 ∷ 76 ∷ 84 ∷ []))))))))
 
 unfoldable pub fileOf : Floor → ℕ → List ℕ → (table : List ℕ) → List ℕ
 fileOf f q gs table = let cells = changed f q gs table (size f) 0 in recordsOf table cells ++ trailerOf f q gs (length cells)
@@ -131,13 +186,13 @@ unlike f q gs table x =
     let figure = getD table x 0 in
     choose (free f x) (ltb figure (opening f q gs x)) (not (eqb figure (opening f q gs x)))
 
-unfoldable pub writeVerdict : Floor → ℕ → List ℕ → (table : List ℕ) → (room : ℕ) → Verdict
-writeVerdict f q gs table room =
-    then (openTable f q gs (length table))
+unfoldable pub writeVerdict : Floor → ℕ → Goals → (table : List ℕ) → (room : ℕ) → Verdict
+writeVerdict f q g table room =
+    then (openTable f q g (length table))
     (then (figures f table)
-    (then (naming (size f) (unlike f q gs table) 16)
-    (fileRoom (length (fileOf f q gs table)) room)))
+    (then (naming (size f) (unlike f q (goalsOf g) table) 16)
+    (fileRoom (length (fileOf f q (goalsOf g) table)) room)))
 
 -- It fills the list from the first byte, answers the length and touches nothing beyond.
-unfoldable pub writeTable : Floor → ℕ → List ℕ → (table buffer : List ℕ) → WriteOutcome
-writeTable f q gs table buffer = writeOf (writeVerdict f q gs table (length buffer)) (fileOf f q gs table) buffer
+unfoldable pub writeTable : Floor → ℕ → Goals → (table buffer : List ℕ) → WriteOutcome
+writeTable f q g table buffer = writeOf (writeVerdict f q g table (length buffer)) (fileOf f q (goalsOf g) table) buffer

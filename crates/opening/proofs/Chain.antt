@@ -1,13 +1,14 @@
--- The queue linked inside the list of distances: what a store does to the distances and to the links, and what the moves of one cost from a cell do.
--- Assumes nothing.
-use Prim.Native.Nat.{ℕ, _+_, _-_, _/_, _%_, _≤_, _<_}
-use mathlib.Core.Path.{_≡_, sym, ap, _∙_, subst}
+-- The queue linked inside the list of distances: what a store does to the distances and to the links, what the moves of one cost from a cell do,
+-- and the goals entered one after another. Assumes nothing.
+use Prim.Native.Nat.{ℕ, zero, suc, _+_, _-_, _/_, _%_, _≤_, _<_}
+use mathlib.Core.Path.{_≡_, refl, sym, ap, ap₂, _∙_, subst}
 use mathlib.Core.Bool.{false}
 use mathlib.Core.List.{List}
 use native.Mathlib.Decide.{ℕ-discrete}
+use native.Mathlib.Numerals.{unary-clauses}
 use native.Mathlib.Omega.{arith}
 use borrow.Author.Tests.{lt-ltb, le-ltb}
-use lib.ListN.{length, set, length-set}
+use lib.ListN.{length, getD, set, length-set}
 use lib.Seq.{getD-set-same, getD-set-other}
 use Rattle.learning.specs.Ground.{pick}
 use Rattle.model.specs.Floor.{Floor, size, Sized, free}
@@ -18,29 +19,35 @@ use Rattle.floor.specs.Moves.{allKinds, cost, canCost, stepOf}
 use Rattle.floor.specs.declared.Step.{Step}
 use Rattle.floor.proofs.Steps.{stepped, step-can}
 use Rattle.opening.specs.Search.{none, Queue}
-use Rattle.opening.specs.Chain.{links, end, entry, distAt, nextAt, cellAt, Chain, entered, Entered, stays, enters, Enterable, Follows}
+use Rattle.opening.specs.Chain.{links, end, entry, distAt, nextAt, cellAt, Chain, entered, lined, Entered, stays, enters, Enterable, Follows}
 use Rattle.opening.proofs.Queue.{Put, put-at, queue-near, followed-none, followed-stays, followed-enters, followed-blocked}
 
 -- ---- entries
 
 module _ (l : List ℕ) (x v y : ℕ) (h : x < length l) (s : y < links) where
-  pub dist-here : distAt (set l x (entry v y)) x ≡ v
+  dist-here : distAt (set l x (entry v y)) x ≡ v
   unfolding distAt
   dist-here = ap (λ w. w / links) (getD-set-same l x (entry v y) 0 h) ∙ row-at links y v s
 
-  pub next-here : nextAt (set l x (entry v y)) x ≡ y
+  next-here : nextAt (set l x (entry v y)) x ≡ y
   unfolding nextAt
   next-here = ap (λ w. w % links) (getD-set-same l x (entry v y) 0 h) ∙ col-at links y v s
 
-pub dist-else : (l : List ℕ) (x w y : ℕ) → (y ≡ x → ⊥) → distAt (set l x w) y ≡ distAt l y
+dist-else : (l : List ℕ) (x w y : ℕ) → (y ≡ x → ⊥) → distAt (set l x w) y ≡ distAt l y
 unfolding distAt
 dist-else l x w y e = ap (λ w. w / links) (getD-set-other l x y w 0 e)
+
+pub dist-set : (l : List ℕ) (x v y : ℕ) → x < length l → y < links → Put (distAt l) x v (distAt (set l x (entry v y)))
+dist-set l x v y h s = record { here = dist-here l x v y h s; else = dist-else l x (entry v y) }
 
 next-else : (l : List ℕ) (x w y : ℕ) → (y ≡ x → ⊥) → nextAt (set l x w) y ≡ nextAt l y
 unfolding nextAt
 next-else l x w y e = ap (λ w. w % links) (getD-set-other l x y w 0 e)
 
--- the cell b gets the distance v and is linked to the last
+-- the cell b gets the distance v and is linked to the last, in a list as long
+pub entered-long : (l : List ℕ) (last b v : ℕ) → length (entered l last b v) ≡ length l
+entered-long l last b v = length-set (set l last (entry (distAt l last) b)) b (entry v end) ∙ length-set l last (entry (distAt l last) b)
+
 module _ (l : List ℕ) (last b v : ℕ) (fits : last < length l) (inside : b < length l) (small : b < links) (apart : last ≡ b → ⊥) where
   abbrev linked : List ℕ
   linked = set l last (entry (distAt l last) b)
@@ -72,6 +79,14 @@ cell-in q n i h = ap (λ b. pick b (q i) end) (lt-ltb i n h)
 pub cell-out : (q : ℕ → ℕ) (n i : ℕ) → n ≤ i → cellAt q n i ≡ end
 cell-out q n i h = ap (λ b. pick b (q i) end) (le-ltb i n h)
 
+-- a queue of one
+pub chain-one : (l : List ℕ) (q : ℕ → ℕ) (v : ℕ) → q 0 < length l → Chain (set l (q 0) (entry v end)) q 1 (q 0)
+chain-one l q v h = record {
+  some = omega arith;
+  final = refl;
+  linked = λ i o. let e : i ≡ 0 = omega arith in ap (λ j. nextAt (set l (q 0) (entry v end)) (q j)) e ∙ next-here l (q 0) v end h (omega arith) ∙ sym (cell-out q 1 (i + 1) (omega arith));
+}
+
 -- the queue's last is a cell
 pub chain-last : {f : Floor} {l : List ℕ} {q : ℕ → ℕ} {n last v : ℕ} → Queue f (distAt l) q n v → Chain l q n last → last < size f
 chain-last {n = n} Q C = omega (arith, C .final, Q .on (n - 1) (omega (arith, C .some)))
@@ -93,10 +108,10 @@ module _ {f : Floor} (z : Sized f) where
     small : b < links
     small = omega (arith, sized-cells z)
 
-    dist-push : (w : ℕ) → Put (distAt l) b w (distAt (entered l last b w))
+    pub dist-push : (w : ℕ) → Put (distAt l) b w (distAt (entered l last b w))
     dist-push w = dist-entered l last b w last-on (omega arith) small not-last
 
-    chain-push : {q′ : ℕ → ℕ} → Put q n b q′ → (w : ℕ) → Chain (entered l last b w) q′ (n + 1) b
+    pub chain-push : {q′ : ℕ → ℕ} → Put q n b q′ → (w : ℕ) → Chain (entered l last b w) q′ (n + 1) b
     chain-push {q′} R w = record {
       some = omega arith;
       final = (let e : n + 1 - 1 ≡ n = omega arith in ap q′ e) ∙ R .here;
@@ -141,7 +156,7 @@ module _ {f : Floor} (z : Sized f) where
     follows-more {m} {l′} {l″} {last′} F (enters b t new) =
         let inside = free-below f b (stepped f z x m b c t .free) in
         record {
-          long = length-set (set l′ last′ (entry (distAt l′ last′) b)) b (entry v end) ∙ length-set l′ last′ (entry (distAt l′ last′) b) ∙ F .long;
+          long = entered-long l′ last′ b v ∙ F .long;
           final = inside;
           keeps = λ q n Q C slow.
               let (q′, n′, G, K) = F .keeps q n Q C slow in
@@ -159,3 +174,38 @@ module _ {f : Floor} (z : Sized f) where
 -- a move that cannot have the cost is passed over
 pub passed-over : {f : Floor} {v last : ℕ} {l : List ℕ} → Sized f → (x m k : ℕ) → m < 8 → k < allKinds → canCost m k ≡ false → Entered (stepOf f x m) (cost k) v l last l last
 passed-over z x m k l h e = stays (λ b t. absurd (never (step-can z x m b k l h t) e))
+
+-- ---- the goals, one after another
+
+pub lined-long : (l gs : List ℕ) (k : ℕ) → length (lined l gs k) ≡ length l
+unfolding lined
+lined-long l gs zero = refl
+lined-long l gs (suc zero) = length-set l (getD gs 0 0) (entry 0 end)
+lined-long l gs (suc (suc k)) = entered-long (lined l gs (suc k)) (getD gs k 0) (getD gs (suc k) 0) 0 ∙ lined-long l gs (suc k)
+
+pub lined-more : (l gs : List ℕ) (k : ℕ) → 1 ≤ k → lined l gs (k + 1) ≡ entered (lined l gs k) (getD gs (k - 1) 0) (getD gs k 0) 0
+unfolding lined
+lined-more l gs zero h = absurd (omega arith)
+lined-more l gs (suc k) h = simp unary-clauses refl
+
+-- the first i goals have been entered: l₁ is whatever list with the first of them entered, and l is that list now
+pub record Lining (l₁ gs l : List ℕ) (last i : ℕ) : Type 0 where
+  -- one at least, and not more than there are
+  pub some : 1 ≤ i
+  pub upto : i ≤ length gs
+  -- what the list holds
+  pub list : (l₀ : List ℕ) → l₁ ≡ lined l₀ gs 1 → l ≡ lined l₀ gs i
+  -- which of them is the last
+  pub final : last ≡ getD gs (i - 1) 0
+
+module _ (l₁ gs : List ℕ) where
+  pub lining-one : {g : ℕ} → 1 ≤ length gs → g ≡ getD gs 0 0 → Lining l₁ gs l₁ g 1
+  lining-one h e = record { some = omega arith; upto = h; list = λ l₀ t. t; final = e }
+
+  pub lining-more : {l l′ : List ℕ} {last g i : ℕ} → Lining l₁ gs l last i → i < length gs → g ≡ getD gs i 0 → l′ ≡ entered l last g 0 → Lining l₁ gs l′ g (i + 1)
+  lining-more {l} {l′} {last} {g} {i} L h e t = record {
+    some = omega arith;
+    upto = omega arith;
+    list = λ l₀ b. t ∙ ap (λ l. entered l last g 0) (L .list l₀ b) ∙ ap₂ (λ x y. entered (lined l₀ gs i) x y 0) (L .final) e ∙ sym (lined-more l₀ gs i (L .some));
+    final = let back : i ≡ i + 1 - 1 = omega arith in e ∙ ap (λ k. getD gs k 0) back;
+  }

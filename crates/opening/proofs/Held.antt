@@ -1,64 +1,113 @@
 -- What the search keeps in its list and its places: the start, the least offer, a step, and the end, where the distances are true.
 -- Assumes nothing.
-use Prim.Native.Nat.{ℕ, _+_, _-_, _*_, _/_, _≤_, _<_}
+use Prim.Native.Nat.{ℕ, zero, suc, _+_, _-_, _*_, _/_, _≤_, _<_}
 use mathlib.Core.Path.{_≡_, refl, sym, ap, _∙_, subst}
 use mathlib.Core.Bool.{Bool, true, false}
 use mathlib.Core.List.{List}
-use native.Mathlib.Decide.{ℕ-discrete}
+use native.Mathlib.Decide.{ℕ-discrete, decLe}
+use native.Mathlib.Numerals.{add-one}
 use native.Mathlib.Omega.{arith}
 use borrow.Author.Tests.{lt-ltb, le-ltb, eq-eqb, ne-eqb}
-use lib.ListN.{length, getD, set, length-set, replicate, length-replicate, getD-replicate}
+use lib.ListN.{length, getD, length-set, replicate, length-replicate, getD-replicate}
 use lib.Seq.{getD-set-same, getD-set-other}
 use Rattle.learning.specs.Ground.{pick, listOf, reachOf, distOf}
 use Rattle.learning.proofs.Certificate.{Certified, certificate}
 use Rattle.learning.proofs.Spread.{list-at, list-length}
 use Rattle.learning.proofs.Sums.{total-each, total-part}
-use Rattle.model.specs.Floor.{Floor, size, Sized, goalsOf}
+use Rattle.model.specs.Floor.{Floor, size, Sized}
 use Rattle.model.specs.Grounds.{groundOf}
+use Rattle.model.specs.Checks.{Benched}
 use Rattle.floor.specs.Moves.{allKinds, kinds, cost}
 use Rattle.floor.proofs.Steps.{kinds-between, kind-fits}
 use Rattle.opening.specs.Distances.{far, Distances}
 use Rattle.opening.specs.Search.{none, Followed, offer, Next}
-use Rattle.opening.specs.Chain.{links, end, entry, distAt, nextAt, blank, cellAt, Chain, Follows, Readable, offerOf, Offered, Least, caught, movedOn, Held, plain}
-use Rattle.opening.proofs.Queue.{Put, put-at, none-large, queue-few}
+use Rattle.opening.specs.Chain.{links, end, entry, distAt, nextAt, blank, cellAt, Chain, entered, lastOf, lined, Begun, Follows, Readable, offerOf, Offered, Least, caught, movedOn, Held, plain}
+use Rattle.opening.proofs.Queue.{Put, put-at, put-same, none-large, queue-none, queue-few, queue-push}
 use Rattle.opening.proofs.Rising.{searching-start, step-queue, step-slow, searching-step, all-followed, step-falls, none-left, next}
-use Rattle.opening.proofs.Chain.{dist-here, dist-else, next-here, cell-in, cell-out, chain-last}
+use Rattle.opening.proofs.Chain.{dist-set, entered-long, lined-more, cell-in, chain-one, chain-last, dist-push, chain-push}
 use Rattle.opening.proofs.Truth.{true-farthest}
 use Rattle.opening.proofs.Offers.{place-before, place-end, place-readable, place-offer}
 
 -- ---- what the search keeps
 
--- the start: the goal alone, and each place at it
-started : {f : Floor} {goal : ℕ} {l : List ℕ} → Sized f → goal < size f → l ≡ listOf (size f) (λ x. blank) → (n : ℕ) → n ≡ kinds (f .bytes)
-    → Held f (goalsOf goal) (set l goal (entry 0 end)) goal (replicate n goal) (n * size f)
-unfolding distAt
-started {f} {goal} {l} z inside empty k whole =
-    let fits : goal < length l = omega (arith, ap length empty, list-length (size f) (λ x. blank)) in
-    let (q, R) = put-at (λ i. 0) 0 goal in
-    let next = next-here l goal 0 end fits (omega arith) in
-    record {
-      sized = z;
-      long = length-set l goal (entry 0 end) ∙ ap length empty ∙ list-length (size f) (λ x. blank);
-      whole = length-replicate k goal ∙ whole;
-      q = q;
-      n = 1;
-      p = λ k. 0;
-      searching = searching-start z goal inside {b = distAt l} (λ x h. ap (λ w. w / links) (ap (λ y. getD y x 0) empty ∙ list-at (size f) (λ x. blank) x 0 h))
-          (record { here = dist-here l goal 0 end fits (omega arith); else = dist-else l goal (entry 0 end) }) R (λ k. 0) (λ k h. refl);
-      chain = record {
-        some = omega arith;
-        final = R .here;
-        linked = λ i h. let e : i ≡ 0 = omega arith in ap (nextAt (set l goal (entry 0 end))) (ap q e ∙ R .here) ∙ next ∙ sym (cell-out q 1 (i + 1) (omega arith));
-      };
-      stands = λ i h. getD-replicate k i goal 0 (omega arith) ∙ sym (R .here);
-      steps = ap (λ n. n * size f) whole ∙ sym (total-each (kinds (f .bytes)) (size f) (λ k. size f - 0) (λ k h. omega arith));
-    }
+-- the start: the goals one after another
+module _ {f : Floor} (z : Sized f) {gs : List ℕ} (B : Benched (size f) gs) where
+  -- each is above all before it
+  above : (j i : ℕ) → i < j → j < length gs → getD gs i 0 < getD gs j 0
+  above zero i h l = absurd (omega arith)
+  above (suc j) i h l = by (above j i) (ℕ-discrete i j)
+    where
+      by : (i < j → j < length gs → getD gs i 0 < getD gs j 0) → Dec (i ≡ j) → getD gs i 0 < getD gs (suc j) 0
+      by rest (yes e) = omega (arith, ap (λ (k : ℕ). getD gs k 0) e, B .rise j l)
+      by rest (no e) = omega (arith, rest (omega arith) (omega arith), B .rise j l)
 
-pub held-start : {f : Floor} {goal e : ℕ} {l : List ℕ} → Sized f → goal < size f → l ≡ listOf (size f) (λ x. blank) → e ≡ entry 0 end → (n : ℕ) → n ≡ kinds (f .bytes)
-    → Held f (goalsOf goal) (set l goal e) goal (replicate n goal) (n * size f)
-held-start {f} {goal} {e} {l} z inside empty is n whole = subst (λ w. Held f (goalsOf goal) (set l goal w) goal (replicate n goal) (n * size f)) (sym is) (started z inside empty n whole)
+  -- so the next one has no distance yet
+  unmet : {l : List ℕ} {k : ℕ} → Begun f gs l k → k < length gs → none ≤ distAt l (getD gs k 0)
+  unmet {l} {k} S h = by (decLe none (distAt l (getD gs k 0)))
+    where
+      by : Dec (none ≤ distAt l (getD gs k 0)) → none ≤ distAt l (getD gs k 0)
+      by (yes e) = e
+      by (no e) = let (i, o, u) = S .queue .found (getD gs k 0) (B .on k h) (omega arith) in absurd (omega (arith, u, above k i o h))
+
+  module _ {l : List ℕ} (empty : l ≡ listOf (size f) (λ x. blank)) where
+    long : length l ≡ size f
+    long = ap length empty ∙ list-length (size f) (λ x. blank)
+
+    -- the first, then one more
+    begun-one : Begun f gs (lined l gs 1) 1
+    unfolding distAt lined
+    begun-one =
+        let on = B .on 0 (B .one) in
+        let fits : getD gs 0 0 < length l = omega (arith, long) in
+        let blank-at : (x : ℕ) → x < size f → distAt l x ≡ none = λ x h. ap (λ w. w / links) (ap (λ y. getD y x 0) empty ∙ list-at (size f) (λ x. blank) x 0 h) in
+        record {
+          long = length-set l (getD gs 0 0) (entry 0 end) ∙ long;
+          queue = queue-push z (queue-none z (distAt l) (λ i. getD gs i 0) blank-at) (getD gs 0 0) on (omega (arith, blank-at (getD gs 0 0) on)) (omega arith)
+              (dist-set l (getD gs 0 0) 0 end fits (omega arith)) (put-same _ 0);
+          chain = chain-one l (λ i. getD gs i 0) 0 fits;
+        }
+
+    begun-more : (k : ℕ) → 1 ≤ k → k < length gs → Begun f gs (lined l gs k) k → Begun f gs (lined l gs (k + 1)) (k + 1)
+    begun-more k o h S =
+        let on = B .on k h in
+        let new = unmet S h in
+        let back : k ≡ k + 1 - 1 = omega arith in
+        rw (lined-more l gs k o)
+        (record {
+          long = entered-long (lined l gs k) (getD gs (k - 1) 0) (getD gs k 0) 0 ∙ S .long;
+          queue = queue-push z (S .queue) (getD gs k 0) on new (omega arith) (dist-push z (S .long) (S .queue) (S .chain) on new 0) (put-same _ k);
+          chain = subst (λ i. Chain (entered (lined l gs k) (getD gs (k - 1) 0) (getD gs k 0) 0) (λ i. getD gs i 0) (k + 1) (getD gs i 0)) back
+              (chain-push z (S .long) (S .queue) (S .chain) on new (put-same _ k) 0);
+        })
+
+    begun : (k : ℕ) → 1 ≤ k → k ≤ length gs → Begun f gs (lined l gs k) k
+    begun zero o h = absurd (omega arith)
+    begun (suc zero) o h = begun-one
+    begun (suc (suc k)) o h = subst (λ k. Begun f gs (lined l gs k) k) (add-one (suc k)) (begun-more (suc k) (omega arith) (omega arith) (begun (suc k) (omega arith) (omega arith)))
+
+    -- all of them, and each place at the first
+    pub held-start : {l′ : List ℕ} {first : ℕ} → l′ ≡ lined l gs (length gs) → first ≡ getD gs 0 0 → (n : ℕ) → n ≡ kinds (f .bytes)
+        → Held f gs l′ (lastOf gs) (replicate n first) (n * size f)
+    held-start {l′} {first} e at n whole =
+        let S = subst (λ l. Begun f gs l (length gs)) (sym e) (begun (length gs) (B .one) (omega arith)) in
+        record {
+          sized = z;
+          long = S .long;
+          whole = length-replicate n first ∙ whole;
+          q = λ i. getD gs i 0;
+          n = length gs;
+          p = λ k. 0;
+          searching = searching-start z (S .queue);
+          chain = S .chain;
+          stands = λ k h. getD-replicate n k first 0 (omega arith) ∙ at ∙ sym (cell-in (λ i. getD gs i 0) (length gs) 0 (B .one));
+          steps = ap (λ n. n * size f) whole ∙ sym (total-each (kinds (f .bytes)) (size f) (λ k. size f - 0) (λ k h. omega arith));
+        }
 
 module _ {f : Floor} {goals l : List ℕ} {last : ℕ} {ps : List ℕ} {left : ℕ} (H : Held f goals l last ps left) where
+  -- by another word for the queue's last
+  pub held-same : {g : ℕ} → g ≡ last → Held f goals l g ps left
+  held-same e = subst (λ g. Held f goals l g ps left) (sym e) H
+
   pub held-readable : (k : ℕ) → k < kinds (f .bytes) → Readable l (getD ps k 0)
   held-readable k h = place-readable (H .sized) l (H .long) (H .searching .queue) (H .p k) (H .stands k h)
 

@@ -6,12 +6,13 @@ use mathlib.Core.List.{List}
 use native.Mathlib.Omega.{arith}
 use lib.ListN.{length}
 use Rattle.answers.specs.Says.{saysVerdict}
+use Rattle.answers.specs.declared.Goals.{Goals}
 use Rattle.answers.specs.declared.Job.{Job}
 use Rattle.answers.specs.declared.Refusal.{Refusal}
 use Rattle.answers.specs.declared.Verdict.{Verdict}
 use Rattle.answers.specs.declared.Verdict.the-variants.{Done, Refused}
 use Rattle.model.specs.Basics.{then}
-use Rattle.model.specs.Floor.{Floor, openingTable}
+use Rattle.model.specs.Floor.{Floor, goalsOf, openingTable}
 use Rattle.model.specs.Checks.{floorOf, sizes, pathRoom, settings}
 use Rattle.model.specs.Opening.{accepts, openJob, openTrial, reportsRoom, trialsHold, openRun, openTable, filled}
 use Rattle.model.proofs.Accepted.{then-next, sizes-judges, path-judges}
@@ -20,12 +21,12 @@ use Rattle.opening.specs.Promise.{Answers, Fills}
 pub answered : {r v : Verdict} → r ≡ v → Answers r v
 answered e = record { is = e; says = ap saysVerdict e }
 
-module _ (f : Floor) (q : ℕ) (gs table : List ℕ) where
-  pub fills-refused : {r : Verdict} {x : Refusal} → r ≡ openTable f q gs (length table) → r ≡ Refused x → Fills f q gs table r table
-  fills-refused e t = record { answer = answered e; left = ap (λ v. filled v f q gs table) (sym t ∙ e) }
+module _ (f : Floor) (q : ℕ) (g : Goals) (table : List ℕ) where
+  pub fills-refused : {r : Verdict} {x : Refusal} → r ≡ openTable f q g (length table) → r ≡ Refused x → Fills f q g table r table
+  fills-refused e t = record { answer = answered e; left = ap (λ v. filled v f q g table) (sym t ∙ e) }
 
-  pub fills-done : {after : List ℕ} → Done ≡ openTable f q gs (length table) → after ≡ openingTable f q gs → Fills f q gs table Done after
-  fills-done e t = record { answer = answered e; left = t ∙ ap (λ v. filled v f q gs table) e }
+  pub fills-done : {after : List ℕ} → Done ≡ openTable f q g (length table) → after ≡ openingTable f q (goalsOf g) → Fills f q g table Done after
+  fills-done e t = record { answer = answered e; left = t ∙ ap (λ v. filled v f q g table) e }
 
 -- a check of two is the one, then the other
 pub then-two : (v u w : Verdict) → then (then v u) w ≡ then v (then u w)

@@ -34,6 +34,10 @@ pub put-at : (d : ℕ → ℕ) (b v : ℕ) → (e : ℕ → ℕ) × Put d b v e
 unfolding putAt
 put-at d b v = (putAt d b v, record { here = ap (λ t. pick t v (d b)) (eq-eqb b b refl); else = λ y e. ap (λ t. pick t v (d y)) (ne-eqb y b e) })
 
+-- what stands there already is put there by nothing
+pub put-same : (d : ℕ → ℕ) (b : ℕ) → Put d b (d b) d
+put-same d b = record { here = refl; else = λ y e. refl }
+
 -- what holds of the number stored at b, and of the others as they were, holds of all
 pub put-all : (P : ℕ → ℕ → Type 0) {d e : ℕ → ℕ} {b v : ℕ} → Put d b v e → P b v → ((y : ℕ) → (y ≡ b → ⊥) → P y (d y)) → (y : ℕ) → P y (e y)
 put-all P {d} {e} {b} {v} t new old y = by (ℕ-discrete y b)

@@ -7,34 +7,37 @@ use native.Mathlib.Decide.{decLe}
 use native.Mathlib.Omega.{arith}
 use borrow.Author.Count.{below-more}
 use borrow.Author.Tests.{lt-ltb, le-ltb}
+use lib.ListN.{length, getD}
 use Rattle.learning.specs.Walk.{Arrives, move, stop}
 use Rattle.learning.specs.Ground.{Goal, netOf, pick}
 use Rattle.learning.proofs.Certificate.{Certified}
 use Rattle.learning.proofs.Sums.{total-one}
-use Rattle.model.specs.Floor.{Floor, size, Sized, dearestPrice, price, goalsOf}
+use Rattle.model.specs.Floor.{Floor, size, Sized, dearestPrice, price}
 use Rattle.model.specs.Grounds.{groundOf, price-same, price-free, free-inside}
-use Rattle.model.proofs.Meaning.{goal-means, goal-is}
+use Rattle.model.proofs.Lists.{member-at, member-place}
+use Rattle.model.proofs.Benches.{goal-means, goal-is}
 use Rattle.floor.specs.Moves.{kinds, cost, stepOf}
 use Rattle.floor.specs.declared.Step.the-variants.{To}
 use Rattle.floor.proofs.Steps.{price-step, kind-fits, cost-high, cost-some, price-cost}
 use Rattle.opening.specs.Search.{none, offer, Queue, Searching, Next, Followed, toGo}
-use Rattle.opening.proofs.Queue.{Put, put-all, none-large, queue-none, queue-push, queue-near, queue-few, queue-raise}
+use Rattle.opening.proofs.Queue.{Put, put-all, none-large, queue-near, queue-few, queue-raise}
 
 module _ {f : Floor} (z : Sized f) where
-  -- ---- the start: the goal alone
+  -- ---- the start: the goals alone, each at distance 0, and every place at the first
 
-  module _ (goal : ℕ) (inside : goal < size f) {b d q q′ : ℕ → ℕ} (blank : (x : ℕ) → x < size f → b x ≡ none) (D : Put b goal 0 d) (R : Put q 0 goal q′) where
-    pub searching-start : (p : ℕ → ℕ) → ((k : ℕ) → k < kinds (f .bytes) → p k ≡ 0) → Searching f (goalsOf goal) d q′ 1 p
-    searching-start p h = record {
-      v = 0;
-      queue = queue-push z (queue-none z b q blank) goal inside (omega (arith, blank goal inside)) (omega arith) D R;
-      going = record {
-        zeros = λ y t. omega (arith, ap d (goal-means f goal y t), D .here);
-        met = put-all (λ y w. y < size f → w < none → Arrives (netOf (groundOf f (goalsOf goal))) (Goal (groundOf f (goalsOf goal))) y w) D
-            (λ i near. (goal, goal-is f goal inside, (0, stop tt))) (λ y e i near. absurd (omega (arith, blank y i)));
-      };
-      places = record { upto = λ k l. omega (arith, h k l); done = λ k l i o. absurd (omega (arith, h k l)); ahead = λ k l o. omega arith };
-    }
+  pub searching-start : {goals : List ℕ} {d : ℕ → ℕ} → Queue f d (λ i. getD goals i 0) (length goals) 0 → Searching f goals d (λ i. getD goals i 0) (length goals) (λ k. 0)
+  searching-start {goals} {d} Q = record {
+    v = 0;
+    queue = Q;
+    going = record {
+      zeros = λ y t. let (i, h, e) = member-place y goals (goal-means f goals y t) in omega (arith, ap d e, Q .high i h);
+      met = λ x h near.
+          let (i, o, e) = Q .found x h near in
+          let zero : 0 ≡ d x = omega (arith, ap d e, Q .high i o) in
+          subst (Arrives (netOf (groundOf f goals)) (Goal (groundOf f goals)) x) zero (x, goal-is f goals x h (member-at x goals i o (sym e)), (0, stop tt));
+    };
+    places = record { upto = λ k l. omega arith; done = λ k l i o. absurd (omega arith); ahead = λ k l o. omega arith };
+  }
 
   -- ---- a step
 

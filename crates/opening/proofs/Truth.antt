@@ -1,4 +1,4 @@
--- A list of true distances judges as the model does: below `far` stands just a cell that can reach the goal, at its true distance.
+-- A list of true distances judges as the model does: below `far` stands just a cell that can reach a goal, at its true distance.
 -- Assumes nothing.
 use Prim.Native.Nat.{ℕ, _-_, _*_, _≤_, _<_}
 use mathlib.Core.Path.{_≡_, refl, sym, ap, ap₂, _∙_, subst}

@@ -1,6 +1,6 @@
 -- The search in one list: the entry of a cell is its distance × 8,192 + the next cell of the queue, so that the queue is linked inside the list.
 -- The queue q, its length n and the places p in it are not in the code: the list and the cells that it notes hold them for some q, n and p.
-use Prim.Native.Nat.{ℕ, _+_, _-_, _*_, _/_, _%_, _≤_, _<_}
+use Prim.Native.Nat.{ℕ, zero, suc, _+_, _-_, _*_, _/_, _%_, _≤_, _<_}
 use mathlib.Core.Path.{_≡_}
 use mathlib.Core.List.{List}
 use lib.Dec.{ltb, eqb}
@@ -48,6 +48,24 @@ pub record Chain (l : List ℕ) (q : ℕ → ℕ) (n last : ℕ) : Type 0 where
 -- the cell b gets the distance v and is linked to the last
 abbrev pub entered : List ℕ → (last b v : ℕ) → List ℕ
 entered l last b v = set (set l last (entry (distAt l last) b)) b (entry v end)
+
+-- the last of some cells; and the list with the first k of them entered at distance 0, each linked to the one before
+abbrev pub lastOf : List ℕ → ℕ
+lastOf gs = getD gs (length gs - 1) 0
+
+unfoldable pub lined : List ℕ → (gs : List ℕ) → (k : ℕ) → List ℕ
+lined l gs zero = l
+lined l gs (suc zero) = set l (getD gs 0 0) (entry 0 end)
+lined l gs (suc (suc k)) = entered (lined l gs (suc k)) (getD gs k 0) (getD gs (suc k) 0) 0
+
+-- the search has begun: the first k of the goals stand in the queue, in their order, and no other cell
+pub record Begun (f : Floor) (gs l : List ℕ) (k : ℕ) : Type 0 where
+  -- an entry for each cell
+  pub long : length l ≡ size f
+  -- the queue is those goals, each at distance 0
+  pub queue : Queue f (distAt l) (λ i. getD gs i 0) k 0
+  -- the links are that queue's
+  pub chain : Chain l (λ i. getD gs i 0) k (getD gs (k - 1) 0)
 
 -- what a step comes to: the cell that it leads to at cost c has a distance, or gets v and is linked to the queue's last
 pub data Entered (s : Step) (c v : ℕ) (l : List ℕ) (last : ℕ) : List ℕ → ℕ → Type 0 where

@@ -4,6 +4,7 @@ use mathlib.Core.Path.{_≡_}
 use mathlib.Core.List.{List}
 use lib.ListN.{length}
 use Rattle.answers.specs.Says.{saysVerdict}
+use Rattle.answers.specs.declared.Goals.{Goals}
 use Rattle.answers.specs.declared.Job.{Job}
 use Rattle.answers.specs.declared.Settings.{Settings}
 use Rattle.answers.specs.declared.Verdict.{Verdict}
@@ -18,9 +19,9 @@ pub record Answers (r v : Verdict) : Type 0 where
   pub says : saysVerdict r ≡ saysVerdict v
 
 -- filling a table with opening figures
-pub record Fills (f : Floor) (q : ℕ) (gs table : List ℕ) (r : Verdict) (after : List ℕ) : Type 0 where
-  pub answer : Answers r (openTable f q gs (length table))
-  pub left : after ≡ filled (openTable f q gs (length table)) f q gs table
+pub record Fills (f : Floor) (q : ℕ) (g : Goals) (table : List ℕ) (r : Verdict) (after : List ℕ) : Type 0 where
+  pub answer : Answers r (openTable f q g (length table))
+  pub left : after ≡ filled (openTable f q g (length table)) f q g table
 
 -- 3: the settings of a run; and those of the line, of which the sizes of a floor are no part
 abbrev pub runSettings : Job → (trials : ℕ) → Verdict

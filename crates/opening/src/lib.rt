@@ -1,4 +1,4 @@
-// Opening a job: the checks 1 to 7, of which 6 and 7 are judged by the true distances, and the table of opening figures.
+// Opening a job: the checks 1 to 7 and 27, of which 6 and 7 are judged by the true distances, and the table of opening figures.
 mod search;
 
 ghost use mathlib.Core.Path.{_≡_};
@@ -7,11 +7,13 @@ ghost use Prim.Native.Nat.{ℕ, _*_, _≤_, _<_};
 ghost use lib.ListN.{length, getD};
 ghost use Rattle.model.specs.Basics.{naming};
 ghost use Rattle.model.specs.Floor.{Sized, openingTable, goalsOf};
-ghost use Rattle.model.specs.Checks.{finest, floorOf};
+ghost use Rattle.model.specs.Checks.{finest, floorOf, Benched};
 ghost use Rattle.model.specs.Opening.{soundness, accepts, openJob, openTrial, reportsRoom, trialsHold, openRun, openTable};
+ghost use Rattle.model.specs.Line.{jobIn};
 ghost use Rattle.floor.specs.Moves.{flat};
 ghost use Rattle.opening.specs.Distances.{above, judged, Openable};
 ghost use Rattle.opening.specs.Promise.{Answers, Fills, runSettings, lineHolds};
+use answers::Goals;
 use answers::Job;
 use answers::Place;
 use answers::Settings;
@@ -19,7 +21,7 @@ use answers::Verdict;
 use search::FAR;
 pub use search::find_distances;
 
-// Whether a figure is above the true figure of a cell at distance d, which can reach the goal.
+// Whether a figure is above the true figure of a cell at distance d, which can reach a goal.
 fn is_above(q: usize, d: u32, figure: u32) -> bool
     requires { ⌜ q ≤ finest ⌝ }
     ensures { λ r. ⌜ r ≡ above q d figure ⌝ }
@@ -31,7 +33,7 @@ fn is_above(q: usize, d: u32, figure: u32) -> bool
     }
 }
 
-// 7: a cell that can reach the goal is above its true figure; names the lowest.
+// 7: a cell that can reach a goal is above its true figure; names the lowest.
 fn unsound(q: usize, dist: &[u32], table: &[u32]) -> Verdict
     requires { ⌜ (q ≤ finest) × (length (now dist) ≡ length (now table)) ⌝ }
     ensures { λ r. ⌜ r ≡ naming (length (now (table .entry))) (λ x. above q (getD (now (dist .entry)) x 0) (getD (now (table .entry)) x 0)) 7 ⌝ }
@@ -57,12 +59,12 @@ fn judge_distances(q: usize, start: usize, dist: &[u32], table: &[u32]) -> Verdi
     unsound(q, dist, table)
 }
 
-// 6: no walk from start to goal exists. 7: a figure that the true distances refuse. The list lent is for those distances.
+// 6: no walk from start to a goal exists. 7: a figure that the true distances refuse. The list lent is for those distances.
 fn judge_in(job: Job, floor: &[u8], start: usize, table: &[u32], dist: &mut [u32]) -> Verdict
     requires { ⌜ Openable job (now floor) start (now table) × (length (now dist) ≡ job .width * job .height) ⌝ }
     ensures { λ r. ⌜ r ≡ soundness job (now (floor .entry)) start (now (table .entry)) ⌝ }
 {
-    find_distances(job.width, job.height, floor, job.goal, dist);
+    find_distances(job.width, job.height, floor, job.goals, dist);
     judge_distances(job.q, start, &dist[..], table)
 }
 
@@ -83,12 +85,16 @@ fn soundness(job: Job, floor: &[u8], start: usize, table: &[u32]) -> Verdict
     judge_in(job, floor, start, table, &mut dist[..n])
 }
 
-// 4 to 7, which every opening ends with.
+// 4, 27 and 5 to 7, which every opening ends with.
 fn accepts(job: Job, floor: &[u8], start: usize, table: &[u32]) -> Verdict
     requires { ⌜ Sized (floorOf job (now floor)) × (length (now table) ≡ job .width * job .height) × (job .q ≤ finest) ⌝ }
     ensures { λ r. ⌜ r ≡ accepts job (now (floor .entry)) start (now (table .entry)) ⌝ }
 {
-    let v = checks::places(job.width, job.height, floor, start, job.goal);
+    let v = checks::places(job.width, job.height, floor, start, job.goals);
+    let Verdict::Done = v else {
+        return v;
+    };
+    let v = checks::goals_hold(job.goals);
     let Verdict::Done = v else {
         return v;
     };
@@ -133,22 +139,26 @@ fn run_settings(job: Job, trials: usize) -> Verdict
     trials_hold(trials)
 }
 
+// The job that a line asks for, on a floor of these sizes: its one goal is all that it names.
+pub fn job_in(s: Settings, width: usize, height: usize) -> Job
+    ensures { λ r. ⌜ r ≡ jobIn s width height ⌝ }
+{
+    Job {
+        width: width,
+        height: height,
+        goals: floor::one_goal(s.goal),
+        depth: s.depth,
+        p: s.p,
+        q: s.q,
+        quota: s.quota,
+    }
+}
+
 // 3: the line's settings, before the floor text is looked at: the sizes of a floor are no part of them.
 pub fn settings_hold(s: Settings) -> Verdict
     ensures { λ r. ⌜ r ≡ lineHolds s ⌝ }
 {
-    run_settings(
-        Job {
-            width: 1,
-            height: 1,
-            goal: s.goal,
-            depth: s.depth,
-            p: s.p,
-            q: s.q,
-            quota: s.quota,
-        },
-        s.trials,
-    )
+    run_settings(job_in(s, 1, 1), s.trials)
 }
 
 // The opening of a run: also its path list, its reports and its trials.
@@ -196,16 +206,16 @@ pub fn open(job: Job, floor: &[u8], start: usize, table: &[u32]) -> Verdict
     open_trial(job, floor, start, table, table.len())
 }
 
-// 1, 3 and 4 as the calls on a table alone judge them.
+// 1, 3, 4 and 27 as the calls on a table alone judge them.
 pub fn open_table(
     width: usize,
     height: usize,
-    goal: usize,
+    goals: Goals,
     q: usize,
     floor: &[u8],
     figures: usize,
 ) -> Verdict
-    ensures { λ r. ⌜ r ≡ openTable (flat width height (now (floor .entry))) q (goalsOf goal) figures ⌝ }
+    ensures { λ r. ⌜ r ≡ openTable (flat width height (now (floor .entry))) q goals figures ⌝ }
 {
     let v = checks::sizes(width, height, floor, figures);
     let Verdict::Done = v else {
@@ -215,36 +225,40 @@ pub fn open_table(
     let Verdict::Done = v else {
         return v;
     };
-    checks::bench(width, height, floor, goal)
+    let v = checks::benches(width, height, floor, goals);
+    let Verdict::Done = v else {
+        return v;
+    };
+    checks::goals_hold(goals)
 }
 
 // Fills a table with opening figures.
-pub fn fill_figures(width: usize, height: usize, goal: usize, q: usize, table: &mut [u32])
-    requires { ⌜ (1 ≤ width) × (width ≤ 64) × (height ≤ 64) × (q ≤ finest) × (goal < width * height) × (length (now table) ≡ width * height) ⌝ }
-    ensures { λ r. ⌜ ((bytes : List ℕ) → now (table .exit) ≡ openingTable (flat width height bytes) q (goalsOf goal)) ⌝ }
+pub fn fill_figures(width: usize, height: usize, goals: Goals, q: usize, table: &mut [u32])
+    requires { ⌜ (1 ≤ width) × (width ≤ 64) × (height ≤ 64) × (q ≤ finest) × Benched (width * height) (goalsOf goals) × (length (now table) ≡ width * height) ⌝ }
+    ensures { λ r. ⌜ ((bytes : List ℕ) → now (table .exit) ≡ openingTable (flat width height bytes) q (goalsOf goals)) ⌝ }
 {
     let mut x = 0;
     while x < table.len() {
-        table[x] = floor::opening(width, height, goal, q, x) as u32;
+        table[x] = floor::opening(width, height, goals, q, x) as u32;
         x += 1;
     }
 }
 
-// The table of opening figures: what the checks 1, 3 and 4 say, and a table that they refuse stays as it is.
+// The table of opening figures: what the checks 1, 3, 4 and 27 say, and a table that they refuse stays as it is.
 pub fn fill_opening(
     width: usize,
     height: usize,
-    goal: usize,
+    goals: Goals,
     q: usize,
     floor: &[u8],
     table: &mut [u32],
 ) -> Verdict
-    ensures { λ r. ⌜ Fills (flat width height (now (floor .entry))) q (goalsOf goal) (now (table .entry)) r (now (table .exit)) ⌝ }
+    ensures { λ r. ⌜ Fills (flat width height (now (floor .entry))) q goals (now (table .entry)) r (now (table .exit)) ⌝ }
 {
-    let v = open_table(width, height, goal, q, floor, table.len());
+    let v = open_table(width, height, goals, q, floor, table.len());
     let Verdict::Done = v else {
         return v;
     };
-    fill_figures(width, height, goal, q, table);
+    fill_figures(width, height, goals, q, table);
     Verdict::Done
 }

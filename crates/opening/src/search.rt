@@ -8,17 +8,19 @@ ghost use Rattle.learning.specs.Ground.{listOf};
 ghost use Rattle.learning.proofs.Certificate.{Certified};
 ghost use Rattle.model.specs.Floor.{Sized, goalsOf};
 ghost use Rattle.model.specs.Grounds.{groundOf};
+ghost use Rattle.model.specs.Checks.{Benched};
 ghost use Rattle.floor.specs.Moves.{flat, allKinds, cost, Placed, stepOf};
 ghost use Rattle.opening.specs.Distances.{Distances};
 ghost use Rattle.opening.specs.Search.{none};
-ghost use Rattle.opening.specs.Chain.{links, entry, distAt, nextAt, blank, entered, Entered, Enterable, Follows, Readable, offerOf, Offered, Least, caught, movedOn, Held, plain};
+ghost use Rattle.opening.specs.Chain.{links, entry, distAt, nextAt, blank, entered, Entered, Enterable, Follows, Readable, offerOf, Offered, Least, caught, movedOn, lastOf, lined, Held, plain};
+use answers::Goals;
 use floor::CEILING;
 use floor::KINDS;
 use floor::PLAIN_KINDS;
 use floor::Spot;
 use floor::Step;
 
-// What stands for a distance where no walk to the goal exists: the ceiling, which is more than any distance.
+// What stands for a distance where no walk to a goal exists: the ceiling, which is more than any distance.
 pub const FAR: u32 = CEILING as u32;
 
 // How many links an entry can tell apart; the link of the queue's last cell, which is no cell; what stands for a distance before a cell has one.
@@ -222,21 +224,46 @@ fn move_on(list: &[u32], places: &mut [usize], k: usize, cell: usize, last: usiz
     places[k] = next_at(list, cell);
 }
 
-// From the goal to every cell that can be reached: the least offer is followed, and its place moves on, until every place is at the queue's end.
-// On a floor without slow cells: its two costs have a place each, lent at the goal; together they take so many steps at most.
+// The last goal, with which the queue of goals ends.
+fn last_goal(goals: Goals) -> usize
+    requires { ⌜ 1 ≤ length (goalsOf goals) ⌝ }
+    ensures { λ r. ⌜ r ≡ lastOf (goalsOf goals) ⌝ }
+{
+    floor::goal_at(goals, floor::goals_in(goals) - 1)
+}
+
+// Every goal has the distance 0: they stand in the queue, the first of them first.
+fn begin(goals: Goals, list: &mut [u32])
+    requires { ⌜ Benched (length (now list)) (goalsOf goals) × (length (now list) ≤ links) ⌝ }
+    ensures { λ r. ⌜ now (list .exit) ≡ lined (now (list .entry)) (goalsOf goals) (length (goalsOf goals)) ⌝ }
+{
+    let n = floor::goals_in(goals);
+    let mut last = floor::goal_at(goals, 0);
+    list[last] = entry(0, END);
+    let mut i = 1;
+    while i < n {
+        let goal = floor::goal_at(goals, i);
+        enter(list, last, goal, 0);
+        last = goal;
+        i += 1;
+    }
+}
+
+// From the goals to every cell that can be reached: the least offer is followed, and its place moves on, until every place is at the queue's end.
+// On a floor without slow cells: its two costs have a place each, lent at the first goal; together they take so many steps at most.
 fn spread(
     width: usize,
     height: usize,
     floor: &[u8],
-    goal: usize,
+    goals: Goals,
     steps: usize,
     places: &mut [usize],
     list: &mut [u32],
 )
-    requires { ⌜ Held (flat width height (now floor)) (goalsOf goal) (now list) goal (now places) steps × (length (now places) ≡ 2) ⌝ }
-    ensures { λ r. ⌜ Certified (groundOf (flat width height (now (floor .entry))) (goalsOf goal)) none (distAt (now (list .exit))) ⌝ }
+    requires { ⌜ Held (flat width height (now floor)) (goalsOf goals) (now list) (lastOf (goalsOf goals)) (now places) steps × (length (now places) ≡ 2) × (1 ≤ length (goalsOf goals)) ⌝ }
+    ensures { λ r. ⌜ Certified (groundOf (flat width height (now (floor .entry))) (goalsOf goals)) none (distAt (now (list .exit))) ⌝ }
 {
-    let mut last = goal;
+    let mut last = last_goal(goals);
     let mut left = steps;
     while 0 < left {
         let k = lesser(&list[..], &places[..], 0, 1);
@@ -257,15 +284,15 @@ fn spread_slow(
     width: usize,
     height: usize,
     floor: &[u8],
-    goal: usize,
+    goals: Goals,
     steps: usize,
     places: &mut [usize],
     list: &mut [u32],
 )
-    requires { ⌜ Held (flat width height (now floor)) (goalsOf goal) (now list) goal (now places) steps ⌝ }
-    ensures { λ r. ⌜ Certified (groundOf (flat width height (now (floor .entry))) (goalsOf goal)) none (distAt (now (list .exit))) ⌝ }
+    requires { ⌜ Held (flat width height (now floor)) (goalsOf goals) (now list) (lastOf (goalsOf goals)) (now places) steps × (1 ≤ length (goalsOf goals)) ⌝ }
+    ensures { λ r. ⌜ Certified (groundOf (flat width height (now (floor .entry))) (goalsOf goals)) none (distAt (now (list .exit))) ⌝ }
 {
-    let mut last = goal;
+    let mut last = last_goal(goals);
     let mut left = steps;
     while 0 < left {
         let k = least(&list[..], &places[..]);
@@ -281,28 +308,37 @@ fn spread_slow(
     }
 }
 
-// From the goal to every cell that can be reached, on whatever floor.
-fn explore(width: usize, height: usize, floor: &[u8], goal: usize, list: &mut [u32])
-    requires { ⌜ Sized (flat width height (now floor)) × (goal < width * height) × (now list ≡ listOf (width * height) (λ x. blank)) ⌝ }
-    ensures { λ r. ⌜ Certified (groundOf (flat width height (now (floor .entry))) (goalsOf goal)) none (distAt (now (list .exit))) ⌝ }
+// From the goals to every cell that can be reached, on whatever floor.
+fn explore(width: usize, height: usize, floor: &[u8], goals: Goals, list: &mut [u32])
+    requires { ⌜ Sized (flat width height (now floor)) × Benched (width * height) (goalsOf goals) × (now list ≡ listOf (width * height) (λ x. blank)) ⌝ }
+    ensures { λ r. ⌜ Certified (groundOf (flat width height (now (floor .entry))) (goalsOf goals)) none (distAt (now (list .exit))) ⌝ }
 {
-    list[goal] = entry(0, END);
+    begin(goals, list);
+    let first = floor::goal_at(goals, 0);
     let cells = width * height;
     if floor::kinds_on(floor) < KINDS {
-        let mut places = [goal; PLAIN_KINDS];
+        let mut places = [first; PLAIN_KINDS];
         spread(
             width,
             height,
             floor,
-            goal,
+            goals,
             PLAIN_KINDS * cells,
             &mut places,
             list,
         );
         return;
     }
-    let mut places = [goal; KINDS];
-    spread_slow(width, height, floor, goal, KINDS * cells, &mut places, list);
+    let mut places = [first; KINDS];
+    spread_slow(
+        width,
+        height,
+        floor,
+        goals,
+        KINDS * cells,
+        &mut places,
+        list,
+    );
 }
 
 // No cell has a distance.
@@ -334,12 +370,12 @@ fn unpack(list: &mut [u32])
     }
 }
 
-// The true distance of every cell, and FAR where no walk to the goal exists.
-pub fn find_distances(width: usize, height: usize, floor: &[u8], goal: usize, dist: &mut [u32])
-    requires { ⌜ Sized (flat width height (now floor)) × (length (now dist) ≡ width * height) × (goal < width * height) ⌝ }
-    ensures { λ r. ⌜ Distances (flat width height (now (floor .entry))) (goalsOf goal) (now (dist .exit)) ⌝ }
+// The true distance of every cell to the nearest goal, and FAR where no walk to one exists.
+pub fn find_distances(width: usize, height: usize, floor: &[u8], goals: Goals, dist: &mut [u32])
+    requires { ⌜ Sized (flat width height (now floor)) × (length (now dist) ≡ width * height) × Benched (width * height) (goalsOf goals) ⌝ }
+    ensures { λ r. ⌜ Distances (flat width height (now (floor .entry))) (goalsOf goals) (now (dist .exit)) ⌝ }
 {
     clear(dist);
-    explore(width, height, floor, goal, dist);
+    explore(width, height, floor, goals, dist);
     unpack(dist);
 }

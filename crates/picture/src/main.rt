@@ -63,8 +63,9 @@ fn explained(
     let at = ways::draw(page, at, s);
     let at = sheet::off_floor(page, at);
     let at = figures::draw(page, at, s, floor, table, opening, most);
-    let at = marks::draw(page, at, s, start, job.goal);
-    legend::draw(page, at, s, start, job.goal, job.q, most)
+    let goals = job.goals;
+    let at = marks::draw(page, at, s, start, goals.first);
+    legend::draw(page, at, s, start, goals.first, job.q, most)
 }
 
 // The drawing of a run that is made.
@@ -135,17 +136,8 @@ fn on_floor(s: Settings, width: usize, height: usize, floor: &[u8], page: &mut P
     let mut opening = rooms::table();
     let mut table = rooms::table();
     let mut path = rooms::path();
-    let job = Job {
-        width: width,
-        height: height,
-        goal: s.goal,
-        depth: s.depth,
-        p: s.p,
-        q: s.q,
-        quota: s.quota,
-    };
     opened(
-        job,
+        opening::job_in(s, width, height),
         floor,
         s.start,
         s.trials,

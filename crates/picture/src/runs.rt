@@ -18,7 +18,7 @@ pub struct Outcome {
 
 // The table of opening figures.
 pub(crate) fn open(job: Job, floor: &[u8], table: &mut [u32]) -> Verdict {
-    learner::fill_opening(job.width, job.height, job.goal, job.q, floor, table)
+    learner::fill_opening(job.width, job.height, job.goals, job.q, floor, table)
 }
 
 // A run from the opening figures on.

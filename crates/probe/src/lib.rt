@@ -1,6 +1,7 @@
 // Each public call for a caller in another language, on plain numbers and lists: what the benches measure.
 ghost use Rattle.run.specs.Numbers.{Counted};
 use answers::FloorRead;
+use answers::Goals;
 use answers::Job;
 use answers::Ran;
 use answers::State;
@@ -14,12 +15,13 @@ pub extern "C" fn probe_open(
     width: usize,
     height: usize,
     start: usize,
+    count: usize,
     goal: usize,
     q: usize,
     floor: &[u8],
     table: &[u32],
 ) -> usize {
-    let job = job_of(width, height, goal, 1, 1, q, 0);
+    let job = job_of(width, height, count, goal, 1, 1, q, 0);
     number(opening::open(job, floor, start, table))
 }
 
@@ -28,13 +30,14 @@ pub extern "C" fn probe_open(
 pub extern "C" fn probe_read(
     width: usize,
     height: usize,
+    count: usize,
     goal: usize,
     q: usize,
     floor: &[u8],
     file: &[u8],
     table: &mut [u32],
 ) -> usize {
-    number(table_file::read_table(width, height, goal, q, floor, file, table))
+    number(table_file::read_table(width, height, goals_of(count, goal), q, floor, file, table))
 }
 
 // The length of the table file that is written; 0 where it is refused.
@@ -42,21 +45,42 @@ pub extern "C" fn probe_read(
 pub extern "C" fn probe_write(
     width: usize,
     height: usize,
+    count: usize,
     goal: usize,
     q: usize,
     floor: &[u8],
     table: &[u32],
     buffer: &mut [u8],
 ) -> usize {
-    match table_file::write_table(width, height, goal, q, floor, table, buffer) {
+    match table_file::write_table(
+        width,
+        height,
+        goals_of(count, goal),
+        q,
+        floor,
+        table,
+        buffer,
+    ) {
         Written::Length(n) => n,
         Written::Refused(_) => 0,
+    }
+}
+
+// So many goals, of which the first is told; four stand side by side where its number is a multiple of 4.
+fn goals_of(count: usize, goal: usize) -> Goals {
+    Goals {
+        count: count,
+        first: goal,
+        second: goal | 1,
+        third: goal | 2,
+        fourth: goal | 3,
     }
 }
 
 fn job_of(
     width: usize,
     height: usize,
+    count: usize,
     goal: usize,
     depth: usize,
     p: usize,
@@ -66,7 +90,7 @@ fn job_of(
     Job {
         width: width,
         height: height,
-        goal: goal,
+        goals: goals_of(count, goal),
         depth: depth,
         p: p,
         q: q,
@@ -88,6 +112,7 @@ pub extern "C" fn probe_decide(
     current: usize,
     learned: usize,
     length: usize,
+    count: usize,
     goal: usize,
     depth: usize,
     p: usize,
@@ -98,7 +123,7 @@ pub extern "C" fn probe_decide(
     path: &mut [u16],
     moves: &mut [u8],
 ) -> usize {
-    let job = job_of(width, height, goal, depth, p, q, quota);
+    let job = job_of(width, height, count, goal, depth, p, q, quota);
     let state = State {
         current: current,
         learned: learned,
@@ -115,6 +140,7 @@ pub extern "C" fn probe_trial(
     width: usize,
     height: usize,
     start: usize,
+    count: usize,
     goal: usize,
     depth: usize,
     p: usize,
@@ -124,7 +150,7 @@ pub extern "C" fn probe_trial(
     table: &mut [u32],
     path: &mut [u16],
 ) -> usize {
-    let job = job_of(width, height, goal, depth, p, q, quota);
+    let job = job_of(width, height, count, goal, depth, p, q, quota);
     match run::trial(job, floor, start, table, path) {
         Tried::Made(r) => r.decisions as usize,
         Tried::Refused(_) => 0,
@@ -137,6 +163,7 @@ pub extern "C" fn probe_run(
     width: usize,
     height: usize,
     start: usize,
+    count: usize,
     goal: usize,
     depth: usize,
     p: usize,
@@ -151,7 +178,7 @@ pub extern "C" fn probe_run(
 ) -> usize
     requires { ⌜ Counted n (now counts) ⌝ }
 {
-    let job = job_of(width, height, goal, depth, p, q, quota);
+    let job = job_of(width, height, count, goal, depth, p, q, quota);
     match run::run_counts(job, floor, start, trials, table, path, counts, n) {
         Ran::Made { trials, settled } => trials,
         Ran::Refused(_) => 0,
@@ -199,12 +226,13 @@ pub extern "C" fn probe_trailer(file: &[u8]) -> usize {
 pub extern "C" fn probe_fill(
     width: usize,
     height: usize,
+    count: usize,
     goal: usize,
     q: usize,
     floor: &[u8],
     table: &mut [u32],
 ) -> usize {
-    number(opening::fill_opening(width, height, goal, q, floor, table))
+    number(opening::fill_opening(width, height, goals_of(count, goal), q, floor, table))
 }
 
 fn number(v: Verdict) -> usize {

@@ -4,15 +4,18 @@ ghost use lib.ListN.{length};
 ghost use Rattle.model.specs.Lookahead.{mostMoves};
 ghost use Rattle.lookahead.specs.Contract.{Asked, Fresh, Figures};
 ghost use Rattle.probe_ahead.specs.Plain.{plain};
+use answers::Goals;
 use answers::Job;
 use lookahead::Around;
 
-// The new figure times 2^20, the target times 256 and the number of moves; 0 where a ring is empty.
+// With as many goals as the count says, one or two: the new figure times 2^20, the target times 256 and the number of moves; 0 where a ring is empty.
 #[no_mangle]
 pub extern "C" fn probe_plan(
     width: usize,
     height: usize,
+    count: usize,
     goal: usize,
+    other: usize,
     depth: usize,
     p: usize,
     floor: &[u8],
@@ -24,13 +27,20 @@ pub extern "C" fn probe_plan(
     list: &mut [u16],
     out: &mut [u8],
 ) -> usize
-    requires { ⌜ Asked (plain width height goal depth p) (now floor) s ⌝ ∗ ⌜ Fresh base (now mark) (now cost) (now list) ⌝
-        ∗ ⌜ Figures (plain width height goal depth p) (now floor) (now table) ⌝ ∗ ⌜ mostMoves ≤ length (now out) ⌝ }
+    requires { ⌜ Asked (plain width height count goal other depth p) (now floor) s ⌝ ∗ ⌜ Fresh base (now mark) (now cost) (now list) ⌝
+        ∗ ⌜ Figures (plain width height count goal other depth p) (now floor) (now table) ⌝ ∗ ⌜ mostMoves ≤ length (now out) ⌝ }
 {
+    let goals = Goals {
+        count: count,
+        first: goal,
+        second: other,
+        third: 0,
+        fourth: 0,
+    };
     let job = Job {
         width: width,
         height: height,
-        goal: goal,
+        goals: goals,
         depth: depth,
         p: p,
         q: 16,

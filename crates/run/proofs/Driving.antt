@@ -5,7 +5,7 @@ use mathlib.Core.Path.{_≡_, refl, sym, ap, subst, _∙_}
 use mathlib.Core.Bool.{Bool, true, false, not}
 use mathlib.Core.List.{List, [], _∷_, _++_}
 use native.Mathlib.Omega.{arith}
-use lib.Dec.{T, eqb, eqb→eq, eqb-refl}
+use lib.Dec.{T}
 use lib.ListN.{length, getD, replicate, length-replicate, getD-replicate}
 use lib.Seq.{length-take-le, getD-set-same}
 use Rattle.learning.specs.Path.{legs}
@@ -21,18 +21,15 @@ use Rattle.answers.specs.declared.Verdict.the-variants as Vd
 use Rattle.answers.specs.declared.Tried.the-variants as Td
 use Rattle.answers.specs.Says.{saysTried}
 use Rattle.model.specs.Basics.{member}
-use Rattle.model.specs.Floor.{goalsOf}
-use Rattle.model.specs.Checks.{floorOf}
+use Rattle.model.specs.Checks.{floorOf, goals}
 use Rattle.model.specs.Opening.{openTrial}
 use Rattle.model.specs.Decision.{Deed, atGoal, onPath, judge, act}
 use Rattle.model.specs.Ride as model
 use Rattle.model.specs.Ride.{Ride, begun, next, nextBy, learningJob, ride, trialOf, trial, trialBy}
-use Rattle.model.proofs.Held.{or-false}
-use Rattle.model.proofs.Moves.{is-true, free-below}
-use Rattle.model.proofs.Accepted.{fails}
+use Rattle.model.proofs.Accepted.{never, fails}
 use Rattle.model.proofs.Demand.{trial-is-made}
 use Rattle.model.proofs.Openings as openings
-use Rattle.model.proofs.Meaning.{goal-means, goal-is}
+use Rattle.model.proofs.Benches.{goal-means, goal-free, at-goal}
 use Rattle.model.proofs.Steps.{asState, short, size-high}
 use Rattle.model.proofs.Rides.{Riding, yet, rest, riding-begun, riding-next, does, falls, keeps, judges, room, rest-begun, rest-next, ride-there}
 use Rattle.model.proofs.Rides.{kept-low, counts-fit, mostLearned, mostDecisions, dearestKept}
@@ -130,15 +127,15 @@ module _ (j : Job) (bytes : List ℕ) (start : ℕ) (table₀ path₀ : List ℕ
     pub kept-fits : {along : List ℕ} → Along j bytes s path along → getD along (s .length) 0 ≤ dearestKept
     kept-fits S = omega (arith, kept-is S, kept-low j bytes start table₀ path₀ R (g .riding))
 
-    -- at the goal the ride is over
-    pub over : s .current ≡ j .goal → g .at ≡ ride j bytes start table₀ path₀
+    -- at a goal the ride is over
+    pub over : member (s .current) (goals j) ≡ true → g .at ≡ ride j bytes start table₀ path₀
     over e =
         let there : atGoal j bytes (g .at .state .current) ≡ true =
-        ap (λ x. atGoal j bytes x) (ap (λ u. u .current) (g .state-is) ∙ e) ∙ is-true _ (goal-is (floorOf j bytes) (j .goal) (free-below _ _ (R .opened .held .bench))) in
+        ap (λ u. atGoal j bytes (u .current)) (g .state-is) ∙ at-goal j bytes (s .current) (goal-free (floorOf j bytes) (goals j) (R .opened .held .benches) (s .current) e) ∙ e in
         sym (ride-there j bytes _ (g .at) there) ∙ g .comes
 
     -- and the record is the ride's
-    pub rode : {along : List ℕ} → s .current ≡ j .goal → Along j bytes s path along
+    pub rode : {along : List ℕ} → member (s .current) (goals j) ≡ true → Along j bytes s path along
         → Rode j bytes (ride j bytes start table₀ path₀) (talliedOf w along) table path
     rode e S = subst (λ o. Rode j bytes o _ table path) (over e) (record {
       record-is = sym (λ i. record { decisions = g .decisions-is i; learned = g .learned-is i; kept = sym (kept-is S) i; travel = g .travel-is i });
@@ -146,9 +143,9 @@ module _ (j : Job) (bytes : List ℕ) (start : ℕ) (table₀ path₀ : List ℕ
       path-is = sym (g .path-is);
     })
 
-    module _ (aside : s .current ≡ j .goal → ⊥) where
+    module _ (aside : member (s .current) (goals j) ≡ false) where
       pub off : atGoal j bytes (g .at .state .current) ≡ false
-      off = fails _ (λ e. aside (sym (ap (λ u. u .current) (g .state-is)) ∙ goal-means (floorOf j bytes) (j .goal) (g .at .state .current) (subst T (sym e) tt)))
+      off = fails _ (λ e. never (goal-means (floorOf j bytes) (goals j) (g .at .state .current) (subst T (sym e) tt)) (ap (λ u. member (u .current) (goals j)) (g .state-is) ∙ aside))
 
       same : act j bytes (g .at .state) (g .at .table) (g .at .path) ≡ act j bytes s table path
       same i = act j bytes (g .state-is i) (g .table-is i) (g .path-is i)
@@ -184,7 +181,7 @@ module _ (j : Job) (bytes : List ℕ) (start : ℕ) (table₀ path₀ : List ℕ
           subst (λ x. potential (learningJob j bytes) x < yetTo j bytes s table path) after
           (subst (λ x. yet j bytes (next j bytes (g .at)) < potential (learningJob j bytes) x) here (falls j bytes start table₀ path₀ R (g .riding) off))
 
-  module _ {w : Stand} {table path along : List ℕ} (g : Driving j bytes start table₀ path₀ w table path) (aside : w .state .current ≡ j .goal → ⊥) (S : Along j bytes (w .state) path along) where
+  module _ {w : Stand} {table path along : List ℕ} (g : Driving j bytes start table₀ path₀ w table path) (aside : member (w .state .current) (goals j) ≡ false) (S : Along j bytes (w .state) path along) where
     abbrev J : learning.Job
     J = learningJob j bytes
 
@@ -256,14 +253,6 @@ pub record Underway (j : Job) (bytes : List ℕ) (start : ℕ) (table₀ path₀
   -- the sums of the legs
   pub legs-so : Along j bytes (w .state) path along
 
-on-goal : (x goal : ℕ) → member x (goalsOf goal) ≡ true → x ≡ goal
-unfolding member
-on-goal x goal e = eqb→eq x goal (subst T (or-false (eqb x goal)) (subst T (sym e) tt))
-
-off-goal : (x goal : ℕ) → member x (goalsOf goal) ≡ false → x ≡ goal → ⊥
-unfolding member
-off-goal x goal e h = subst T e (subst T (sym (or-false (eqb x goal))) (subst (λ y. T (eqb x y)) h (eqb-refl x)))
-
 -- what a test of `!b` says of b
 pub not-so : {b m : Bool} → b ≡ m → not b ≡ true → m ≡ false
 not-so {b = true} e h = sym e ∙ sym h
@@ -291,29 +280,26 @@ module _ (j : Job) (bytes : List ℕ) (start : ℕ) (table₀ path₀ : List ℕ
     pub may-tally : (length along ≡ 4096) × (w .state .length < 4096)
     may-tally = (u .legs-so .size, path-fits j bytes start table₀ path₀ opened (u .drive))
 
-    -- on the goal it is over, and its record is the ride's
-    pub done : member (w .state .current) (goalsOf (j .goal)) ≡ true → u .drive .at ≡ ride j bytes start table₀ path₀
-    done e = over j bytes start table₀ path₀ opened (u .drive) (on-goal (w .state .current) (j .goal) e)
+    -- on a goal it is over, and its record is the ride's
+    pub done : member (w .state .current) (goals j) ≡ true → u .drive .at ≡ ride j bytes start table₀ path₀
+    done e = over j bytes start table₀ path₀ opened (u .drive) e
 
-    pub rode-so : member (w .state .current) (goalsOf (j .goal)) ≡ true → Rode j bytes (ride j bytes start table₀ path₀) (talliedOf w along) table path
-    rode-so e = rode j bytes start table₀ path₀ opened (u .drive) (on-goal (w .state .current) (j .goal) e) (u .legs-so)
+    pub rode-so : member (w .state .current) (goals j) ≡ true → Rode j bytes (ride j bytes start table₀ path₀) (talliedOf w along) table path
+    rode-so e = rode j bytes start table₀ path₀ opened (u .drive) e (u .legs-so)
 
-    module _ (e : member (w .state .current) (goalsOf (j .goal)) ≡ false) where
-      pub aside : w .state .current ≡ j .goal → ⊥
-      aside = off-goal (w .state .current) (j .goal) e
-
+    module _ (e : member (w .state .current) (goals j) ≡ false) where
       -- off it one more decision can be made
       pub may-go-on : Onward j bytes w table path along
-      may-go-on = may-go j bytes start table₀ path₀ opened (u .drive) aside (u .legs-so)
+      may-go-on = may-go j bytes start table₀ path₀ opened (u .drive) e (u .legs-so)
 
       module _ {table′ path′ along′ : List ℕ} {r : Stand} (a : Went (act j bytes (w .state) table path) w along r table′ path′ along′) where
         pub goes-on : {mark′ cost′ list′ place′ : List ℕ} → Left j bytes (act j bytes (w .state) table path) w r mark′ cost′ list′ place′ path′
             → Underway j bytes start table₀ path₀ r table′ path′ mark′ cost′ list′ place′ along′
         goes-on f = record {
-          drive = drives j bytes start table₀ path₀ opened (u .drive) aside a;
+          drive = drives j bytes start table₀ path₀ opened (u .drive) e a;
           used = f .used;
           places = f .places;
-          legs-so = notes j bytes start table₀ path₀ opened (u .drive) aside (u .legs-so) a;
+          legs-so = notes j bytes start table₀ path₀ opened (u .drive) e (u .legs-so) a;
         }
 
         pub goes-on-at : {mark′ cost′ list′ place′ : List ℕ} (f : Left j bytes (act j bytes (w .state) table path) w r mark′ cost′ list′ place′ path′)
@@ -323,7 +309,7 @@ module _ (j : Job) (bytes : List ℕ) (start : ℕ) (table₀ path₀ : List ℕ
 
         -- and it is nearer its end
         pub nearer : yetTo j bytes (r .state) table′ path′ < yetTo j bytes (w .state) table path
-        nearer = lowers j bytes start table₀ path₀ opened (u .drive) aside a
+        nearer = lowers j bytes start table₀ path₀ opened (u .drive) e a
 
 -- ---- a trial's answer, by what the opening answers
 

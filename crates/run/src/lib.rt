@@ -1,4 +1,4 @@
-// Trial and run: decisions until the goal is reached, and trials until one learns nothing.
+// Trial and run: decisions until a goal is reached, and trials until one learns nothing.
 mod counts;
 
 pub use counts::report_at;
@@ -72,10 +72,10 @@ pub fn set_out(start: usize) -> Stand
 
 // Whether a trial is over: it stands on a goal.
 pub fn arrived(job: Job, w: Stand) -> bool
-    ensures { λ r. ⌜ r ≡ member (w .state .current) (goalsOf (job .goal)) ⌝ }
+    ensures { λ r. ⌜ r ≡ member (w .state .current) (goalsOf (job .goals)) ⌝ }
 {
     let s = w.state;
-    floor::is_goal(job.goal, s.current)
+    floor::is_goal(job.goals, s.current)
 }
 
 // One decision of a trial: it is made, its leg is noted, and it is counted.
@@ -136,7 +136,7 @@ pub fn tally(w: Stand, along: &[u32]) -> Report
     }
 }
 
-// A trial on scratch lists that are lent: decisions until the goal.
+// A trial on scratch lists that are lent: decisions until a goal.
 fn drive(
     job: Job,
     floor: &[u8],
@@ -159,7 +159,7 @@ fn drive(
     tally(w, along)
 }
 
-// One trial of a job that is opened: decisions until the goal. Its scratch lists stand in its frame.
+// One trial of a job that is opened: decisions until a goal. Its scratch lists stand in its frame.
 fn ride(job: Job, floor: &[u8], start: usize, table: &mut [u32], path: &mut [u16]) -> Report
     requires { ⌜ openTrial job (now floor) start (now table) (now path) ≡ Verdict.Done ⌝ }
     ensures { λ r. ⌜ Rode job (now (floor .entry)) (ride job (now (floor .entry)) start (now (table .entry)) (now (path .entry))) r (now (table .exit)) (now (path .exit)) ⌝ }

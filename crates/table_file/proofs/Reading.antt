@@ -1,32 +1,72 @@
--- Where the reader's loops stand: what is left to judge, or to put, answers like the whole.
-use mathlib.Core.Path.{_≡_, refl, sym, _∙_, ap}
-use mathlib.Core.Bool.{true, false}
-use mathlib.Core.List.{List}
-use Prim.Native.Nat.{ℕ, suc, _+_, _-_, _*_, _≤_, _<_}
+-- What the reader's tests tell, of the trailer and of the job that it names; and where its loops stand: what is left to judge, or to put, answers like the whole.
+use mathlib.Core.Path.{_≡_, refl, sym, _∙_, ap, ap₂}
+use mathlib.Core.Bool.{Bool, true, false, _&&_}
+use mathlib.Core.Logic.{⊎-elim}
+use mathlib.Core.List.{List, [], _∷_}
+use Prim.Native.Nat.{ℕ, zero, suc, _+_, _-_, _*_, _≤_, _<_}
 use native.Mathlib.Numerals.{add-one}
 use native.Mathlib.Omega.{arith}
-use lib.ListN.{length, take, drop, set, length-drop, length-set}
+use lib.Dec.{eqb}
+use borrow.Author.Tests.{eq-eqb, ne-eqb}
+use lib.ListN.{length, getD, take, drop, set, length-drop, length-set}
 use lib.Seq.{length-take-le}
 use Rattle.answers.specs.Says.{saysVerdict}
+use Rattle.answers.specs.declared.Goals.{Goals}
 use Rattle.answers.specs.declared.Place.the-variants as P
 use Rattle.answers.specs.declared.Refusal.{Refusal}
 use Rattle.answers.specs.declared.Verdict.{Verdict}
 use Rattle.answers.specs.declared.Verdict.the-variants as Vd
-use Rattle.model.specs.Basics.{refuseAt}
+use Rattle.model.specs.Basics.{refuseAt, unless}
 use Rattle.model.specs.Floor.{Floor, size, openingTable, goalsOf}
-use Rattle.model.specs.TableFile.{cellIn, figureIn, countIn, backIn, trailerHolds, findRecords, recordFault, judgeRecords, applied, readVerdict, readOf, readTable}
+use Rattle.model.specs.TableFile.{firstLong, secondLong, trailer, scaleIn, editionIn, countIn, backIn, trailerHolds, checkTrailer, findRecords, goalPlace}
+use Rattle.model.specs.TableFile.{firstNames, secondNames, named, sameJob, cellIn, figureIn, recordFault, judgeRecords, applied, readVerdict, readOf, readTable}
 use Rattle.model.specs.Opening.{openTable}
-use Rattle.model.specs.Checks.{scale}
+use Rattle.model.proofs.Accepted.{Tells, fails, never}
 use Rattle.model.proofs.Parts.{rest}
-use Rattle.model.proofs.Files.{openable, judge-more, judge-stop, trailer-gives, found}
+use Rattle.model.proofs.Files.{openable, judge-more, judge-stop, trailer-tells, trailer-judges, Pointed, pointed, found}
 use Rattle.table_file.specs.Promises.{Opened, startOf, Reads}
 
--- what an opened table gives
-pub opened : (f : Floor) (q goal n : ℕ) → openTable f q (goalsOf goal) n ≡ Vd.Done → Opened f q goal × (n ≡ size f)
-opened f q goal n e = let o = openable f q goal n e in (record { sized = o .sized; scale = o .scale; bench = o .bench }, o .cells)
+-- ---- tests
 
--- where the records begin, and that the part found begins there
+-- a test of what does not hold fails, and tests that tell the same are the same
+pub refuted : {b : Bool} {F : Type 0} → Tells b F → (F → ⊥) → false ≡ b
+refuted {b} t h = sym (fails b (λ e. h (t .holds e)))
+
+pub same-told : {a b : Bool} {F H : Type 0} → Tells a F → Tells b H → (F → H) → (H → F) → a ≡ b
+same-told {a} {b} s t to from = by a refl
+  where
+    by : (c : Bool) → a ≡ c → c ≡ b
+    by true e = sym (t .shown (to (s .holds e)))
+    by false e = refuted t (λ h. never (s .shown (from h)) e)
+
+-- ---- what an opened table gives
+
+pub opened : (f : Floor) (q : ℕ) (g : Goals) (n : ℕ) → openTable f q g n ≡ Vd.Done → Opened f q (goalsOf g) × (n ≡ size f)
+opened f q g n e = let o = openable f q g n e in (record { sized = o .sized; scale = o .scale; benches = o .benches }, o .cells)
+
+-- ---- the trailer, and the records that it points to
+
 module _ (file : List ℕ) where
+  -- what a sound one gives, and what 13 says by its test
+  pub points : trailerHolds file ≡ true → Pointed file
+  points e = pointed file (trailer-tells file .holds e)
+
+  pub check-done : trailerHolds file ≡ true → checkTrailer file ≡ Vd.Done
+  unfolding checkTrailer
+  check-done e = rw e
+
+  pub check-refused : trailerHolds file ≡ false → checkTrailer file ≡ refuseAt 13 P.Nowhere
+  unfolding checkTrailer
+  check-refused e = rw e
+
+  pub checked : checkTrailer file ≡ Vd.Done → trailerHolds file ≡ true
+  checked e = trailer-tells file .shown (trailer-judges file .gives e)
+
+  -- what is not of edition 1 has room for a trailer of edition 2
+  pub second-room : trailerHolds file ≡ true → (editionIn file ≡ 1 → ⊥) → secondLong ≤ length file
+  second-room e n = ⊎-elim (λ t. absurd (n (t .edition-is))) (λ t. t .0 .room) (trailer-tells file .holds e)
+
+  -- where the records begin, and that the part found begins there
   pub start-none : trailerHolds file ≡ false → 0 ≡ startOf file
   unfolding startOf
   start-none e = rw e
@@ -39,16 +79,39 @@ module _ (file : List ℕ) where
       → take (length file - b + 6 * k - (length file - b)) (drop (length file - b) file) ≡ findRecords file
   found-part b k d c e =
       let z : length file - b + 6 * k - (length file - b) ≡ 6 * k = omega arith in
-      rw (z, d, c) (sym (found file e))
+      rw (z, d, c) (sym (found file (trailer-tells file .holds e)))
 
   found-long : trailerHolds file ≡ true → countIn file * 6 ≤ length (findRecords file)
   found-long e =
-      let t = trailer-gives file e in
+      let t = points e in
       let d : length (drop (length file - backIn file) file) ≡ length file - (length file - backIn file) = length-drop (length file - backIn file) file in
-      rw (found file e) (omega (arith, length-take-le (6 * countIn file) (drop (length file - backIn file) file) (omega (arith, t .even, t .within))))
+      rw (found file (trailer-tells file .holds e))
+      (omega (arith, length-take-le (6 * countIn file) (drop (length file - backIn file) file) (omega (arith, t .records, t .within))))
 
   pub records-long : (n : ℕ) (part : List ℕ) → n ≡ countIn file → part ≡ findRecords file → trailerHolds file ≡ true → n * 6 ≤ length part
   records-long n part a b e = rw (a, b) (found-long e)
+
+-- ---- the job that it names
+
+-- what stands at a goal place that is used; and each goal place is this job's
+pub place-used : (gs : List ℕ) (i : ℕ) → i < length gs → goalPlace gs i ≡ getD gs i 0
+place-used [] i h = absurd (omega arith)
+place-used (x ∷ gs) zero h = refl
+place-used (x ∷ gs) (suc i) h = place-used gs i (omega arith)
+
+-- 14: the job by the trailer's edition, and its q
+module _ (f : Floor) (gs file : List ℕ) where
+  pub named-first : editionIn file ≡ 1 → named f gs file ≡ firstNames f gs (trailer firstLong file)
+  named-first e = rw (eq-eqb (editionIn file) 1 e)
+
+  pub named-second : (editionIn file ≡ 1 → ⊥) → named f gs file ≡ secondNames f gs (trailer secondLong file)
+  named-second e = rw (ne-eqb (editionIn file) 1 e)
+
+  pub same-is : (q : ℕ) {b c : Bool} → named f gs file ≡ b → eqb (scaleIn file) q ≡ c → sameJob f q gs file ≡ unless (b && c) 14
+  unfolding sameJob
+  same-is q d e = ap₂ (λ b c. unless (b && c) 14) d e
+
+-- ---- where the loops stand
 
 pub judged-by : (f : Floor) (q : ℕ) (gs file : List ℕ) (n : ℕ) (part : List ℕ) (v : Verdict) → v ≡ judgeRecords f q gs n 0 0 part → n ≡ countIn file → part ≡ findRecords file
     → v ≡ judgeRecords f q gs (countIn file) 0 0 (findRecords file)
@@ -114,15 +177,15 @@ module _ (n : ℕ) (part table₀ : List ℕ) where
     applying-all h = (let e : n - i ≡ 0 = omega arith in rw e) ∙ g .left
 
 -- The reader's answer and table, by its verdict.
-module _ (f : Floor) (q : ℕ) (gs file table : List ℕ) (v : Verdict) (e : v ≡ readVerdict f q gs file (length table)) where
-  pub read-refused : {r : Refusal} → v ≡ Vd.Refused r → Reads (readVerdict f q gs file (length table)) (readTable f q gs file table) v table
+module _ (f : Floor) (q : ℕ) (g : Goals) (file table : List ℕ) (v : Verdict) (e : v ≡ readVerdict f q g file (length table)) where
+  pub read-refused : {r : Refusal} → v ≡ Vd.Refused r → Reads (readVerdict f q g file (length table)) (readTable f q g file table) v table
   unfolding readTable
-  read-refused t = record { answer = ap saysVerdict e; table = ap (λ (u : Verdict). readOf u f q gs file table) (sym t ∙ e) }
+  read-refused t = record { answer = ap saysVerdict e; table = ap (λ (u : Verdict). readOf u f q g file table) (sym t ∙ e) }
 
-  pub read-done : (n : ℕ) (part filled after : List ℕ) → v ≡ Vd.Done → filled ≡ openingTable f q gs → after ≡ applied n part filled → n ≡ countIn file → part ≡ findRecords file
-      → Reads (readVerdict f q gs file (length table)) (readTable f q gs file table) Vd.Done after
+  pub read-done : (n : ℕ) (part filled after : List ℕ) → v ≡ Vd.Done → filled ≡ openingTable f q (goalsOf g) → after ≡ applied n part filled → n ≡ countIn file → part ≡ findRecords file
+      → Reads (readVerdict f q g file (length table)) (readTable f q g file table) Vd.Done after
   unfolding readTable
   read-done n part filled after t a b c d = record {
     answer = ap saysVerdict (sym t ∙ e);
-    table = (b ∙ λ i. applied (c i) (d i) (a i)) ∙ ap (λ (u : Verdict). readOf u f q gs file table) (sym t ∙ e);
+    table = (b ∙ λ i. applied (c i) (d i) (a i)) ∙ ap (λ (u : Verdict). readOf u f q g file table) (sym t ∙ e);
   }

@@ -11,6 +11,7 @@ use borrow.Author.Tests.{le-leb, lt-leb}
 use lib.ListN.{length, take, drop, getD, take-append-drop}
 use lib.Seq.{take-at, drop-at, drop-drop}
 use Rattle.answers.specs.Says.{saysWritten}
+use Rattle.answers.specs.declared.Goals.{Goals}
 use Rattle.answers.specs.declared.Place.the-variants as P
 use Rattle.answers.specs.declared.Refusal.{Refusal}
 use Rattle.answers.specs.declared.Verdict.{Verdict}
@@ -18,11 +19,13 @@ use Rattle.answers.specs.declared.Verdict.the-variants as Vd
 use Rattle.answers.specs.declared.Written.the-variants as Wr
 use Rattle.model.specs.Basics.{refuseAt}
 use Rattle.model.specs.Floor.{Floor, size, free, opening, goalsOf}
-use Rattle.model.specs.Checks.{finest}
-use Rattle.model.specs.TableFile.{half, word, changed, recordsOf, trailerOf, fileOf, unlike, writeVerdict, writeTable}
+use Rattle.model.specs.TableFile.{secondLong, half, word, changed, recordsOf, trailerOf, fileOf, unlike, writeVerdict, writeTable}
 use Rattle.model.specs.Writing.{fileRoom, Writes}
 use Rattle.model.proofs.Files.{changed-same, changed-more, changed-few, length-records, length-file, write-gives}
+use Rattle.model.proofs.Benches.{goals-many}
 use Rattle.model.proofs.Cells.{cells-le}
+use Rattle.table_file.specs.declared.Site.{Site}
+use Rattle.table_file.specs.Site.{floorAt, goalsAt, changedAt, jobOf}
 use Rattle.table_file.specs.Promises.{Opened}
 use Rattle.notation.specs.Puts.{put}
 use Rattle.notation.proofs.Puts.{put-next, put-then, length-put}
@@ -126,62 +129,68 @@ module _ (f : Floor) (q : ℕ) (gs table out₀ : List ℕ) (all : ℕ) where
 
 -- The room, and the writer's answer and buffer.
 module _ (f : Floor) (q : ℕ) (gs table : List ℕ) (count room : ℕ) (c : count ≡ length (changed f q gs table (size f) 0)) where
-  pub no-room : room < 16 + 6 * count → fileRoom (length (fileOf f q gs table)) room ≡ refuseAt 17 P.Nowhere
+  pub no-room : room < secondLong + 6 * count → fileRoom (length (fileOf f q gs table)) room ≡ refuseAt 17 P.Nowhere
   unfolding fileRoom
   no-room h = simp (lt-leb (length (fileOf f q gs table)) room (omega (arith, length-file f q gs table)))
 
-  pub roomy : 16 + 6 * count ≤ room → fileRoom (length (fileOf f q gs table)) room ≡ Vd.Done
+  pub roomy : secondLong + 6 * count ≤ room → fileRoom (length (fileOf f q gs table)) room ≡ Vd.Done
   unfolding fileRoom
   roomy h = simp (le-leb (length (fileOf f q gs table)) room (omega (arith, length-file f q gs table)))
 
-pub ample : (f : Floor) (q : ℕ) (gs table : List ℕ) (n room : ℕ) → n ≡ size f → 16 + 6 * n ≤ room → fileRoom (length (fileOf f q gs table)) room ≡ Vd.Done
+pub ample : (f : Floor) (q : ℕ) (gs table : List ℕ) (n room : ℕ) → n ≡ size f → secondLong + 6 * n ≤ room → fileRoom (length (fileOf f q gs table)) room ≡ Vd.Done
 ample f q gs table n room e h = roomy f q gs table (length (changed f q gs table (size f) 0)) room refl (omega (arith, changed-few f q gs table (size f) 0))
 
 -- the trailer's two parts after the records are the whole file
-pub whole : (f : Floor) (q goal n : ℕ) (table b₀ b₁ b₂ b₃ : List ℕ)
-    → n ≡ length (changed f q (goalsOf goal) table (size f) 0) → b₁ ≡ recordsOf table (changed f q (goalsOf goal) table (size f) 0) ++ drop (6 * n) b₀
-    → b₂ ≡ put (6 * n) (f .width % 256 ∷ f .height % 256 ∷ (half goal ++ (q % 256 ∷ 1 ∷ []))) b₁
-    → b₃ ≡ put (6 * n + 6) (half n ++ (word (16 + 6 * n) ++ (80 ∷ 68 ∷ 76 ∷ 84 ∷ []))) b₂
-    → (f .width ≤ 64) × (f .height ≤ 64) × (q ≤ finest) × (16 + 6 * n ≤ length b₁)
-    → b₃ ≡ fileOf f q (goalsOf goal) table ++ drop (length (fileOf f q (goalsOf goal) table)) b₀
-unfolding fileOf trailerOf
-whole f q goal n table b₀ b₁ b₂ b₃ c e₁ e₂ e₃ h =
-    let cells = changed f q (goalsOf goal) table (size f) 0 in
-    let w : f .width % 256 ≡ f .width = mod-eq-of-lt (omega arith) in
-    let y : f .height % 256 ≡ f .height = mod-eq-of-lt (omega arith) in
-    let s : q % 256 ≡ q = mod-eq-of-lt (omega arith) in
-    let job : List ℕ = f .width % 256 ∷ f .height % 256 ∷ (half goal ++ (q % 256 ∷ 1 ∷ [])) in
-    let back : List ℕ = half n ++ (word (16 + 6 * n) ++ (80 ∷ 68 ∷ 76 ∷ 84 ∷ [])) in
-    let t : b₃ ≡ put (6 * n) (job ++ back) b₁ = put-then (6 * n) (6 * n + 6) job back b₁ b₂ b₃ e₂ e₃ refl (omega arith) in
-    let r : length (recordsOf table cells) ≡ 6 * n = omega (arith, length-records table cells) in
-    let a : take (6 * n) b₁ ≡ recordsOf table cells = ap (take (6 * n)) e₁ ∙ take-at (recordsOf table cells) (drop (6 * n) b₀) (6 * n) r in
-    let d : drop (6 * n + 16) b₁ ≡ drop (6 * n + 16) b₀ =
-    sym (drop-drop 16 (6 * n) b₁) ∙ (ap (drop 16) (ap (drop (6 * n)) e₁ ∙ drop-at (recordsOf table cells) (drop (6 * n) b₀) (6 * n) r) ∙ drop-drop 16 (6 * n) b₀) in
-    let l : length (fileOf f q (goalsOf goal) table) ≡ 6 * n + 16 = omega (arith, length-file f q (goalsOf goal) table) in
-    let k : trailerOf f q (goalsOf goal) n ≡ trailerOf f q (goalsOf goal) (length cells) = ap (trailerOf f q (goalsOf goal)) c in
-    let j : job ++ back ≡ trailerOf f q (goalsOf goal) n = rw (w, y, s) in
-    t ∙ ((λ i. a i ++ ((j ∙ k) i ++ d i)) ∙ (sym (append-assoc (recordsOf table cells) (trailerOf f q (goalsOf goal) (length cells)) (drop (6 * n + 16) b₀))
-    ∙ ap (λ (m : ℕ). fileOf f q (goalsOf goal) table ++ drop m b₀) (sym l)))
+module _ (s : Site) (bytes table : List ℕ) where
+  abbrev cells : List ℕ
+  cells = changedAt s bytes table
+
+  abbrev back : ℕ → List ℕ
+  back n = half n ++ (word (secondLong + 6 * n) ++ (80 ∷ 68 ∷ 76 ∷ 84 ∷ []))
+
+  trailer-is : (n : ℕ) → Opened (floorAt s bytes) (s .q) (goalsAt s) → jobOf s ++ back n ≡ trailerOf (floorAt s bytes) (s .q) (goalsAt s) n
+  unfolding trailerOf
+  trailer-is n o =
+      let w : s .width % 256 ≡ s .width = mod-eq-of-lt (omega (arith, o .sized .narrow)) in
+      let y : s .height % 256 ≡ s .height = mod-eq-of-lt (omega (arith, o .sized .low)) in
+      let g : length (goalsAt s) % 256 ≡ length (goalsAt s) = mod-eq-of-lt (omega (arith, goals-many (s .goals))) in
+      let q : s .q % 256 ≡ s .q = mod-eq-of-lt (omega (arith, o .scale)) in
+      rw (w, y, g, q)
+
+  pub whole : (n : ℕ) (b₀ b₁ b₂ b₃ : List ℕ) → n ≡ length cells → b₁ ≡ recordsOf table cells ++ drop (6 * n) b₀
+      → b₂ ≡ put (6 * n) (jobOf s) b₁ → b₃ ≡ put (6 * n + 14) (back n) b₂
+      → Opened (floorAt s bytes) (s .q) (goalsAt s) → secondLong + 6 * n ≤ length b₁
+      → let file = fileOf (floorAt s bytes) (s .q) (goalsAt s) table in b₃ ≡ file ++ drop (length file) b₀
+  unfolding fileOf
+  whole n b₀ b₁ b₂ b₃ c e₁ e₂ e₃ o h =
+      let file = fileOf (floorAt s bytes) (s .q) (goalsAt s) table in
+      let end = trailerOf (floorAt s bytes) (s .q) (goalsAt s) in
+      let t : b₃ ≡ put (6 * n) (jobOf s ++ back n) b₁ = put-then (6 * n) (6 * n + 14) (jobOf s) (back n) b₁ b₂ b₃ e₂ e₃ refl (omega arith) in
+      let r : length (recordsOf table cells) ≡ 6 * n = omega (arith, length-records table cells) in
+      let a : take (6 * n) b₁ ≡ recordsOf table cells = ap (take (6 * n)) e₁ ∙ take-at (recordsOf table cells) (drop (6 * n) b₀) (6 * n) r in
+      let d : drop (6 * n + secondLong) b₁ ≡ drop (6 * n + secondLong) b₀ =
+      sym (drop-drop secondLong (6 * n) b₁) ∙ (ap (drop secondLong) (ap (drop (6 * n)) e₁ ∙ drop-at (recordsOf table cells) (drop (6 * n) b₀) (6 * n) r) ∙ drop-drop secondLong (6 * n) b₀) in
+      let l : length file ≡ 6 * n + secondLong = omega (arith, length-file (floorAt s bytes) (s .q) (goalsAt s) table) in
+      t ∙ ((λ i. a i ++ ((trailer-is n o ∙ ap end c) i ++ d i)) ∙ (sym (append-assoc (recordsOf table cells) (end (length cells)) (drop (6 * n + secondLong) b₀))
+      ∙ ap (λ (m : ℕ). file ++ drop m b₀) (sym l)))
 
 -- what an accepted writing gives
-pub write-open : (f : Floor) (q goal : ℕ) (table : List ℕ) (room : ℕ) → writeVerdict f q (goalsOf goal) table room ≡ Vd.Done
-    → Opened f q goal × (length table ≡ size f) × (16 + 6 * length (changed f q (goalsOf goal) table (size f) 0) ≤ room)
-write-open f q goal table room e =
-    let g = write-gives f q (goalsOf goal) table room e in
-    let o = opened f q goal (length table) (g .0) in
-    (o .0, o .1, omega (arith, length-file f q (goalsOf goal) table, g .3))
+pub write-open : (f : Floor) (q : ℕ) (g : Goals) (table : List ℕ) (room : ℕ) → writeVerdict f q g table room ≡ Vd.Done
+    → let n = length (changed f q (goalsOf g) table (size f) 0) in Opened f q (goalsOf g) × (length table ≡ size f) × (secondLong + 6 * n ≤ room) × (n ≤ 4096)
+write-open f q g table room e =
+    let w = write-gives f q g table room e in
+    let (o, z) = opened f q g (length table) (w .0) in
+    let few = changed-few f q (goalsOf g) table (size f) 0 in
+    (o, z, omega (arith, length-file f q (goalsOf g) table, w .3), omega (arith, few, cells-le (f .width) (f .height) (o .sized .narrow) (o .sized .low)))
 
-pub at-most : (f : Floor) (q : ℕ) (gs table : List ℕ) (goal : ℕ) → Opened f q goal → length (changed f q gs table (size f) 0) ≤ 4096
-at-most f q gs table goal o = omega (arith, changed-few f q gs table (size f) 0, cells-le (f .width) (f .height) (o .sized .narrow) (o .sized .low))
-
-module _ (f : Floor) (q : ℕ) (gs table buffer : List ℕ) (v : Verdict) (e : v ≡ writeVerdict f q gs table (length buffer)) where
-  pub write-refused : (r : Refusal) → v ≡ Vd.Refused r → Writes (writeTable f q gs table buffer) (Wr.Refused r) buffer
+module _ (f : Floor) (q : ℕ) (g : Goals) (table buffer : List ℕ) (v : Verdict) (e : v ≡ writeVerdict f q g table (length buffer)) where
+  pub write-refused : (r : Refusal) → v ≡ Vd.Refused r → Writes (writeTable f q g table buffer) (Wr.Refused r) buffer
   unfolding writeTable
   write-refused r h = rw (sym e ∙ h) (record { answer = refl; buffer = refl })
 
-  pub write-done : (n : ℕ) (after : List ℕ) → v ≡ Vd.Done → n ≡ length (changed f q gs table (size f) 0) → after ≡ fileOf f q gs table ++ drop (length (fileOf f q gs table)) buffer
-      → Writes (writeTable f q gs table buffer) (Wr.Length (16 + 6 * n)) after
+  pub write-done : (n : ℕ) (after : List ℕ) → v ≡ Vd.Done → n ≡ length (changed f q (goalsOf g) table (size f) 0)
+      → after ≡ fileOf f q (goalsOf g) table ++ drop (length (fileOf f q (goalsOf g) table)) buffer → Writes (writeTable f q g table buffer) (Wr.Length (secondLong + 6 * n)) after
   unfolding writeTable
   write-done n after h c k =
-      let l : 16 + 6 * n ≡ length (fileOf f q gs table) = omega (arith, length-file f q gs table) in
+      let l : secondLong + 6 * n ≡ length (fileOf f q (goalsOf g) table) = omega (arith, length-file f q (goalsOf g) table) in
       rw (sym e ∙ h) (record { answer = ap (λ (m : ℕ). saysWritten (Wr.Length m)) l; buffer = k })

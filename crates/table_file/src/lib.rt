@@ -3,15 +3,16 @@ mod reader;
 mod trailer;
 mod writer;
 
+use answers::Goals;
 pub use reader::read_table;
 pub use trailer::check_trailer;
 pub use trailer::find_records;
 pub use writer::write_table;
 
-// What a table belongs to: the sizes of its floor, the bench, and the q of its figures.
+// What a table belongs to: the sizes of its floor, the benches, and the q of its figures.
 pub struct Site {
     pub width: usize,
     pub height: usize,
-    pub goal: usize,
+    pub goals: Goals,
     pub q: usize,
 }

@@ -1,40 +1,102 @@
 // The reader of a table file: it judges everything before it stores.
 ghost use mathlib.Core.Path.{_≡_};
+ghost use mathlib.Core.Bool.{true};
 ghost use mathlib.Core.List.{List};
 ghost use Prim.Native.Nat.{ℕ, _*_, _≤_, _<_};
 ghost use lib.ListN.{length, set};
 ghost use Rattle.model.specs.Floor.{goalsOf};
-ghost use Rattle.model.specs.TableFile.{sameJob, recordFault, judgeRecords, applied, readVerdict, readTable};
+ghost use Rattle.model.specs.TableFile.{firstLong, secondLong, trailerHolds, firstNames, placesNamed, secondNames, named, sameJob, recordFault, judgeRecords, applied, readVerdict, readTable};
 ghost use Rattle.floor.specs.Moves.{flat};
 ghost use Rattle.table_file.specs.Site.{floorAt, goalsAt};
 ghost use Rattle.table_file.specs.Promises.{Opened, Reads};
 use super::Site;
+use super::trailer::FIRST_LONG;
+use super::trailer::SECOND_LONG;
 use super::trailer::count_in;
+use super::trailer::edition_in;
+use super::trailer::ending_of;
 use super::trailer::find_records;
+use super::trailer::goal_place;
 use super::trailer::trailer_holds;
 use super::trailer::trailer_of;
+use answers::Goals;
 use answers::Place;
 use answers::Verdict;
 use floor::CEILING;
+use floor::MOST_GOALS;
 use notation::bytes::half_at;
 use notation::bytes::word_at;
 
-// 14: width, height, goal or q not this job's.
-fn same_job(site: Site, file: &[u8]) -> Verdict
-    requires { ⌜ 16 ≤ length (now file) ⌝ }
-    ensures { λ r. ⌜ ((bytes : List ℕ) → r ≡ sameJob (floorAt site bytes) (site .q) (goalsAt site) (now (file .entry))) ⌝ }
+// Whether the trailer's job is this one: of edition 1, which names one goal,
+fn first_names(site: Site, t: &[u8]) -> bool
+    requires { ⌜ length (now t) ≡ firstLong ⌝ }
+    ensures { λ r. ⌜ ((bytes : List ℕ) → r ≡ firstNames (floorAt site bytes) (goalsAt site) (now (t .entry))) ⌝ }
 {
-    let t = trailer_of(file);
     if notation::wide8(t[0]) != site.width {
-        return checks::refuse(14);
+        return false;
     }
     if notation::wide8(t[1]) != site.height {
+        return false;
+    }
+    let goals = site.goals;
+    if floor::goals_in(goals) != 1 {
+        return false;
+    }
+    half_at(t, 2) == goals.first
+}
+
+// and of edition 2, which has a place for each of four.
+fn places_named(goals: Goals, t: &[u8]) -> bool
+    requires { ⌜ length (now t) ≡ secondLong ⌝ }
+    ensures { λ r. ⌜ r ≡ placesNamed (goalsOf goals) (now (t .entry)) ⌝ }
+{
+    let mut i = 0;
+    while i < MOST_GOALS {
+        if half_at(t, 4 + 2 * i) != goal_place(goals, i) {
+            return false;
+        }
+        i += 1;
+    }
+    true
+}
+
+fn second_names(site: Site, t: &[u8]) -> bool
+    requires { ⌜ length (now t) ≡ secondLong ⌝ }
+    ensures { λ r. ⌜ ((bytes : List ℕ) → r ≡ secondNames (floorAt site bytes) (goalsAt site) (now (t .entry))) ⌝ }
+{
+    if notation::wide8(t[0]) != site.width {
+        return false;
+    }
+    if notation::wide8(t[1]) != site.height {
+        return false;
+    }
+    if notation::wide8(t[2]) != floor::goals_in(site.goals) {
+        return false;
+    }
+    places_named(site.goals, t)
+}
+
+// By the trailer's edition.
+fn names(site: Site, file: &[u8]) -> bool
+    requires { ⌜ trailerHolds (now file) ≡ true ⌝ }
+    ensures { λ r. ⌜ ((bytes : List ℕ) → r ≡ named (floorAt site bytes) (goalsAt site) (now (file .entry))) ⌝ }
+{
+    if edition_in(file) == 1 {
+        return first_names(site, trailer_of(file, FIRST_LONG));
+    }
+    second_names(site, trailer_of(file, SECOND_LONG))
+}
+
+// 14: width, height, q or a goal not this job's.
+fn same_job(site: Site, file: &[u8]) -> Verdict
+    requires { ⌜ trailerHolds (now file) ≡ true ⌝ }
+    ensures { λ r. ⌜ ((bytes : List ℕ) → r ≡ sameJob (floorAt site bytes) (site .q) (goalsAt site) (now (file .entry))) ⌝ }
+{
+    if !names(site, file) {
         return checks::refuse(14);
     }
-    if half_at(t, 2) != site.goal {
-        return checks::refuse(14);
-    }
-    if notation::wide8(t[4]) != site.q {
+    let t = ending_of(file);
+    if notation::wide8(t[0]) != site.q {
         return checks::refuse(14);
     }
     Verdict::Done
@@ -42,7 +104,7 @@ fn same_job(site: Site, file: &[u8]) -> Verdict
 
 // 18 to 22: the number of the first fault of the record at the front of a part, 0 where it has none. `low` is one more than the cell before.
 fn record_fault(site: Site, floor: &[u8], low: usize, part: &[u8]) -> usize
-    requires { ⌜ Opened (floorAt site (now floor)) (site .q) (site .goal) ⌝ ∗ ⌜ 6 ≤ length (now part) ⌝ }
+    requires { ⌜ Opened (floorAt site (now floor)) (site .q) (goalsAt site) ⌝ ∗ ⌜ 6 ≤ length (now part) ⌝ }
     ensures { λ r. ⌜ r ≡ recordFault (floorAt site (now (floor .entry))) (site .q) (goalsAt site) low (now (part .entry)) ⌝ }
 {
     let cell = half_at(part, 0);
@@ -56,7 +118,7 @@ fn record_fault(site: Site, floor: &[u8], low: usize, part: &[u8]) -> usize
         return 20;
     }
     let figure = word_at(part, 2);
-    if figure <= floor::opening(site.width, site.height, site.goal, site.q, cell) {
+    if figure <= floor::opening(site.width, site.height, site.goals, site.q, cell) {
         return 21;
     }
     if CEILING < figure {
@@ -67,7 +129,7 @@ fn record_fault(site: Site, floor: &[u8], low: usize, part: &[u8]) -> usize
 
 // n records, one after another: names the first faulty one. The remaining part is passed on at each record.
 fn judge_records(site: Site, floor: &[u8], part: &[u8], n: usize) -> Verdict
-    requires { ⌜ Opened (floorAt site (now floor)) (site .q) (site .goal) ⌝ ∗ ⌜ n * 6 ≤ length (now part) ⌝ }
+    requires { ⌜ Opened (floorAt site (now floor)) (site .q) (goalsAt site) ⌝ ∗ ⌜ n * 6 ≤ length (now part) ⌝ }
     ensures { λ r. ⌜ r ≡ judgeRecords (floorAt site (now (floor .entry))) (site .q) (goalsAt site) n 0 0 (now (part .entry)) ⌝ }
 {
     let mut t = part;
@@ -109,11 +171,11 @@ fn apply_records(part: &[u8], n: usize, table: &mut [u32])
     }
 }
 
-// 1, 3, 4, then 13, 14 and 18 to 22.
+// 1, 3, 4, 27, then 13, 14 and 18 to 22.
 fn judge_read(site: Site, floor: &[u8], file: &[u8], figures: usize) -> Verdict
-    ensures { λ r. ⌜ r ≡ readVerdict (floorAt site (now (floor .entry))) (site .q) (goalsAt site) (now (file .entry)) figures ⌝ }
+    ensures { λ r. ⌜ r ≡ readVerdict (floorAt site (now (floor .entry))) (site .q) (site .goals) (now (file .entry)) figures ⌝ }
 {
-    let v = opening::open_table(site.width, site.height, site.goal, site.q, floor, figures);
+    let v = opening::open_table(site.width, site.height, site.goals, site.q, floor, figures);
     let Verdict::Done = v else {
         return v;
     };
@@ -132,26 +194,26 @@ fn judge_read(site: Site, floor: &[u8], file: &[u8], figures: usize) -> Verdict
 pub fn read_table(
     width: usize,
     height: usize,
-    goal: usize,
+    goals: Goals,
     q: usize,
     floor: &[u8],
     file: &[u8],
     table: &mut [u32],
 ) -> Verdict
-    ensures { λ r. ⌜ Reads (readVerdict (flat width height (now (floor .entry))) q (goalsOf goal) (now (file .entry)) (length (now (table .entry))))
-        (readTable (flat width height (now (floor .entry))) q (goalsOf goal) (now (file .entry)) (now (table .entry))) r (now (table .exit)) ⌝ }
+    ensures { λ r. ⌜ Reads (readVerdict (flat width height (now (floor .entry))) q goals (now (file .entry)) (length (now (table .entry))))
+        (readTable (flat width height (now (floor .entry))) q goals (now (file .entry)) (now (table .entry))) r (now (table .exit)) ⌝ }
 {
     let site = Site {
         width: width,
         height: height,
-        goal: goal,
+        goals: goals,
         q: q,
     };
     let v = judge_read(site, floor, file, table.len());
     let Verdict::Done = v else {
         return v;
     };
-    opening::fill_figures(width, height, goal, q, table);
+    opening::fill_figures(width, height, goals, q, table);
     let n = count_in(file);
     apply_records(find_records(file), n, table);
     Verdict::Done

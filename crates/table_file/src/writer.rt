@@ -1,17 +1,20 @@
 // The writer of a table file: it judges everything before it stores.
 ghost use mathlib.Core.Path.{_≡_};
 ghost use mathlib.Core.List.{[], _∷_, _++_};
-ghost use Prim.Native.Nat.{_+_, _*_, _%_, _≤_, _<_};
+ghost use Prim.Native.Nat.{_+_, _*_, _≤_, _<_};
 ghost use lib.ListN.{length, drop};
 ghost use Rattle.model.specs.Basics.{naming};
 ghost use Rattle.model.specs.Floor.{opening, goalsOf};
-ghost use Rattle.model.specs.TableFile.{half, word, recordsOf, unlike, writeVerdict, writeTable};
+ghost use Rattle.model.specs.TableFile.{secondLong, half, word, recordsOf, unlike, writeVerdict, writeTable};
 ghost use Rattle.model.specs.Writing.{Writes};
 ghost use Rattle.floor.specs.Moves.{flat};
 ghost use Rattle.notation.specs.Puts.{put};
-ghost use Rattle.table_file.specs.Site.{floorAt, goalsAt, changedAt};
+ghost use Rattle.table_file.specs.Site.{floorAt, goalsAt, changedAt, placesOf, jobOf};
 ghost use Rattle.table_file.specs.Promises.{Opened};
 use super::Site;
+use super::trailer::SECOND_LONG;
+use super::trailer::goal_place;
+use answers::Goals;
 use answers::Place;
 use answers::Verdict;
 use answers::Written;
@@ -21,15 +24,15 @@ use notation::bytes::put_word;
 
 // The opening figure of a cell.
 fn opening_of(site: Site, floor: &[u8], cell: usize) -> usize
-    requires { ⌜ Opened (floorAt site (now floor)) (site .q) (site .goal) ⌝ ∗ ⌜ cell < site .width * site .height ⌝ }
+    requires { ⌜ Opened (floorAt site (now floor)) (site .q) (goalsAt site) ⌝ ∗ ⌜ cell < site .width * site .height ⌝ }
     ensures { λ r. ⌜ (r ≡ opening (floorAt site (now (floor .entry))) (site .q) (goalsAt site) cell) × (r < 4294967296) ⌝ }
 {
-    floor::opening(site.width, site.height, site.goal, site.q, cell)
+    floor::opening(site.width, site.height, site.goals, site.q, cell)
 }
 
 // Whether a free cell is below its opening figure, or a blocked one unlike it.
 fn is_unlike(site: Site, floor: &[u8], table: &[u32], x: usize) -> bool
-    requires { ⌜ Opened (floorAt site (now floor)) (site .q) (site .goal) ⌝ ∗ ⌜ (length (now table) ≡ site .width * site .height) × (x < site .width * site .height) ⌝ }
+    requires { ⌜ Opened (floorAt site (now floor)) (site .q) (goalsAt site) ⌝ ∗ ⌜ (length (now table) ≡ site .width * site .height) × (x < site .width * site .height) ⌝ }
     ensures { λ r. ⌜ r ≡ unlike (floorAt site (now (floor .entry))) (site .q) (goalsAt site) (now (table .entry)) x ⌝ }
 {
     let figure = notation::wide32(table[x]);
@@ -42,7 +45,7 @@ fn is_unlike(site: Site, floor: &[u8], table: &[u32], x: usize) -> bool
 
 // 16: names the lowest such cell.
 fn judge_unlike(site: Site, floor: &[u8], table: &[u32]) -> Verdict
-    requires { ⌜ Opened (floorAt site (now floor)) (site .q) (site .goal) ⌝ ∗ ⌜ length (now table) ≡ site .width * site .height ⌝ }
+    requires { ⌜ Opened (floorAt site (now floor)) (site .q) (goalsAt site) ⌝ ∗ ⌜ length (now table) ≡ site .width * site .height ⌝ }
     ensures { λ r. ⌜ r ≡ naming (site .width * site .height) (unlike (floorAt site (now (floor .entry))) (site .q) (goalsAt site) (now (table .entry))) 16 ⌝ }
 {
     let mut x = 0;
@@ -57,7 +60,7 @@ fn judge_unlike(site: Site, floor: &[u8], table: &[u32]) -> Verdict
 
 // How many cells have a figure that differs from the opening figure.
 fn count_changed(site: Site, floor: &[u8], table: &[u32]) -> usize
-    requires { ⌜ Opened (floorAt site (now floor)) (site .q) (site .goal) ⌝ ∗ ⌜ length (now table) ≡ site .width * site .height ⌝ }
+    requires { ⌜ Opened (floorAt site (now floor)) (site .q) (goalsAt site) ⌝ ∗ ⌜ length (now table) ≡ site .width * site .height ⌝ }
     ensures { λ r. ⌜ (r ≡ length (changedAt site (now (floor .entry)) (now (table .entry)))) × (r ≤ 4096) ⌝ }
 {
     let mut n = 0;
@@ -82,7 +85,7 @@ fn put_record(out: &mut [u8], at: usize, cell: usize, figure: usize)
 
 // The records, from the first byte on; how many they are.
 fn put_records(site: Site, floor: &[u8], table: &[u32], out: &mut [u8]) -> usize
-    requires { ⌜ Opened (floorAt site (now floor)) (site .q) (site .goal) ⌝ ∗ ⌜ length (now table) ≡ site .width * site .height ⌝
+    requires { ⌜ Opened (floorAt site (now floor)) (site .q) (goalsAt site) ⌝ ∗ ⌜ length (now table) ≡ site .width * site .height ⌝
         ∗ ⌜ 6 * length (changedAt site (now floor) (now table)) ≤ length (now out) ⌝ }
     ensures { λ r. ⌜ (r ≡ length (changedAt site (now (floor .entry)) (now (table .entry))))
         × (now (out .exit) ≡ recordsOf (now (table .entry)) (changedAt site (now (floor .entry)) (now (table .entry))) ++ drop (6 * r) (now (out .entry))) ⌝ }
@@ -100,34 +103,47 @@ fn put_records(site: Site, floor: &[u8], table: &[u32], out: &mut [u8]) -> usize
     n
 }
 
-// The trailer's job, 6 bytes: width, height, goal, q and the edition; and what points back, 10 bytes: count, back and the letters.
-fn put_job(out: &mut [u8], at: usize, site: Site)
-    requires { ⌜ at + 6 ≤ length (now out) ⌝ }
-    ensures { λ _. ⌜ now (out .exit) ≡ put at (site .width % 256 ∷ site .height % 256 ∷ (half (site .goal) ++ (site .q % 256 ∷ 1 ∷ []))) (now (out .entry)) ⌝ }
+// The trailer's goal places, 8 bytes.
+fn put_places(out: &mut [u8], at: usize, goals: Goals)
+    requires { ⌜ at + 8 ≤ length (now out) ⌝ }
+    ensures { λ _. ⌜ now (out .exit) ≡ put at (placesOf (goalsOf goals)) (now (out .entry)) ⌝ }
 {
-    put_pair(out, at, site.width, site.height);
-    put_half(out, at + 2, site.goal);
-    put_pair(out, at + 4, site.q, 1);
+    put_half(out, at, goal_place(goals, 0));
+    put_half(out, at + 2, goal_place(goals, 1));
+    put_half(out, at + 4, goal_place(goals, 2));
+    put_half(out, at + 6, goal_place(goals, 3));
 }
 
+// The trailer's job, 14 bytes: width, height, goal count, a zero byte, the goal places, q and the edition;
+fn put_job(out: &mut [u8], at: usize, site: Site)
+    requires { ⌜ at + 14 ≤ length (now out) ⌝ }
+    ensures { λ _. ⌜ now (out .exit) ≡ put at (jobOf site) (now (out .entry)) ⌝ }
+{
+    put_pair(out, at, site.width, site.height);
+    put_pair(out, at + 2, floor::goals_in(site.goals), 0);
+    put_places(out, at + 4, site.goals);
+    put_pair(out, at + 12, site.q, 2);
+}
+
+// and what points back, 10 bytes: count, back and the letters.
 fn put_back(out: &mut [u8], at: usize, count: usize)
     requires { ⌜ (at + 10 ≤ length (now out)) × (count ≤ 4096) ⌝ }
-    ensures { λ _. ⌜ now (out .exit) ≡ put at (half count ++ (word (16 + 6 * count) ++ (80 ∷ 68 ∷ 76 ∷ 84 ∷ []))) (now (out .entry)) ⌝ }
+    ensures { λ _. ⌜ now (out .exit) ≡ put at (half count ++ (word (secondLong + 6 * count) ++ (80 ∷ 68 ∷ 76 ∷ 84 ∷ []))) (now (out .entry)) ⌝ }
 {
     put_half(out, at, count);
-    put_word(out, at + 2, 16 + 6 * count);
+    put_word(out, at + 2, SECOND_LONG + 6 * count);
     put_pair(out, at + 6, 80, 68);
     put_pair(out, at + 8, 76, 84);
 }
 
-// 1, 3, 4, 5, 16 and 17.
+// 1, 3, 4, 27, 5, 16 and 17.
 fn judge_write(site: Site, floor: &[u8], table: &[u32], room: usize) -> Verdict
-    ensures { λ r. ⌜ r ≡ writeVerdict (floorAt site (now (floor .entry))) (site .q) (goalsAt site) (now (table .entry)) room ⌝ }
+    ensures { λ r. ⌜ r ≡ writeVerdict (floorAt site (now (floor .entry))) (site .q) (site .goals) (now (table .entry)) room ⌝ }
 {
     let v = opening::open_table(
         site.width,
         site.height,
-        site.goal,
+        site.goals,
         site.q,
         floor,
         table.len(),
@@ -144,11 +160,11 @@ fn judge_write(site: Site, floor: &[u8], table: &[u32], room: usize) -> Verdict
         return v;
     };
     // Room for a record of every cell needs no count.
-    if 16 + 6 * table.len() <= room {
+    if SECOND_LONG + 6 * table.len() <= room {
         return Verdict::Done;
     }
     let count = count_changed(site, floor, table);
-    if room < 16 + 6 * count {
+    if room < SECOND_LONG + 6 * count {
         return checks::refuse(17);
     }
     Verdict::Done
@@ -158,18 +174,18 @@ fn judge_write(site: Site, floor: &[u8], table: &[u32], room: usize) -> Verdict
 pub fn write_table(
     width: usize,
     height: usize,
-    goal: usize,
+    goals: Goals,
     q: usize,
     floor: &[u8],
     table: &[u32],
     buffer: &mut [u8],
 ) -> Written
-    ensures { λ r. ⌜ Writes (writeTable (flat width height (now (floor .entry))) q (goalsOf goal) (now (table .entry)) (now (buffer .entry))) r (now (buffer .exit)) ⌝ }
+    ensures { λ r. ⌜ Writes (writeTable (flat width height (now (floor .entry))) q goals (now (table .entry)) (now (buffer .entry))) r (now (buffer .exit)) ⌝ }
 {
     let site = Site {
         width: width,
         height: height,
-        goal: goal,
+        goals: goals,
         q: q,
     };
     let v = judge_write(site, floor, table, buffer.len());
@@ -178,8 +194,8 @@ pub fn write_table(
         Verdict::Done => {
             let n = put_records(site, floor, table, buffer);
             put_job(buffer, 6 * n, site);
-            put_back(buffer, 6 * n + 6, n);
-            Written::Length(16 + 6 * n)
+            put_back(buffer, 6 * n + 14, n);
+            Written::Length(SECOND_LONG + 6 * n)
         }
     }
 }

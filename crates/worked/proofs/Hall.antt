@@ -1,6 +1,6 @@
 -- The floor that document 01 works on, the jobs on it, and what the cases lend.
 use Prim.Native.Nat.{ℕ}
-use mathlib.Core.List.{List, [], _∷_}
+use mathlib.Core.List.{List, [], _∷_, _++_}
 use lib.ListN.{set, replicate}
 use Rattle.answers.specs.declared.Job.{Job}
 use Rattle.answers.specs.declared.State.{State}
@@ -9,7 +9,7 @@ use Rattle.answers.specs.declared.Answer.{Answer}
 use Rattle.answers.specs.declared.Answer.the-variants as A
 use Rattle.answers.specs.declared.Verdict.{Verdict}
 use Rattle.answers.specs.declared.Verdict.the-variants as Vd
-use Rattle.model.specs.Floor.{openingTable}
+use Rattle.model.specs.Floor.{oneGoal, openingTable}
 use Rattle.model.specs.Checks.{floorOf, goals}
 use Rattle.answers.specs.declared.Report.{Report}
 use Rattle.answers.specs.declared.Tried.the-variants as Td
@@ -23,7 +23,7 @@ hall = 0 ∷ 0 ∷ 0 ∷ 1 ∷ 1 ∷ 0 ∷ 0 ∷ 0 ∷ 0 ∷ []
 
 -- a job on it, its goal 0
 abbrev pub job : (depth p q quota : ℕ) → Job
-job depth p q quota = record { width = 3; height = 3; goal = 0; depth = depth; p = p; q = q; quota = quota }
+job depth p q quota = record { width = 3; height = 3; goals = oneGoal 0; depth = depth; p = p; q = q; quota = quota }
 
 -- the opening table of a job
 abbrev pub openingOf : Job → List ℕ → List ℕ
@@ -77,20 +77,26 @@ made decisions learned kept travel table path = record {
 
 -- a job on one row
 abbrev pub rowJob : (width goal depth quota : ℕ) → Job
-rowJob width goal depth quota = record { width = width; height = 1; goal = goal; depth = depth; p = 1; q = 1; quota = quota }
+rowJob width goal depth quota = record { width = width; height = 1; goals = oneGoal goal; depth = depth; p = 1; q = 1; quota = quota }
 
 -- records that nothing was written to
 abbrev pub blank : Report
 blank = record { decisions = 7; learned = 7; kept = 7; travel = 7 }
 
--- the table that the worked run leaves, and its file
+-- the table that the worked run leaves, and its file: as it is written, and as it was in edition 1
 abbrev pub learnt : List ℕ
 learnt = 0 ∷ 10 ∷ 20 ∷ 10 ∷ 14 ∷ 30 ∷ 60 ∷ 50 ∷ 40 ∷ []
 
+abbrev pub workedRecords : List ℕ
+workedRecords = 0 ∷ 5 ∷ 0 ∷ 0 ∷ 0 ∷ 30 ∷ 0 ∷ 6 ∷ 0 ∷ 0 ∷ 0 ∷ 60 ∷ 0 ∷ 7 ∷ 0 ∷ 0 ∷ 0 ∷ 50 ∷ 0 ∷ 8 ∷ 0 ∷ 0 ∷ 0 ∷ 40 ∷ []
+
 abbrev pub workedFile : List ℕ
 workedFile =
-    0 ∷ 5 ∷ 0 ∷ 0 ∷ 0 ∷ 30 ∷ 0 ∷ 6 ∷ 0 ∷ 0 ∷ 0 ∷ 60 ∷ 0 ∷ 7 ∷ 0 ∷ 0 ∷ 0 ∷ 50 ∷ 0 ∷ 8 ∷ 0 ∷ 0 ∷ 0 ∷ 40
-    ∷ 3 ∷ 3 ∷ 0 ∷ 0 ∷ 1 ∷ 1 ∷ 0 ∷ 4 ∷ 0 ∷ 0 ∷ 0 ∷ 40 ∷ 80 ∷ 68 ∷ 76 ∷ 84 ∷ []
+    workedRecords
+    ++ (3 ∷ 3 ∷ 1 ∷ 0 ∷ 0 ∷ 0 ∷ 255 ∷ 255 ∷ 255 ∷ 255 ∷ 255 ∷ 255 ∷ 1 ∷ 2 ∷ 0 ∷ 4 ∷ 0 ∷ 0 ∷ 0 ∷ 48 ∷ 80 ∷ 68 ∷ 76 ∷ 84 ∷ [])
+
+abbrev pub firstFile : List ℕ
+firstFile = workedRecords ++ (3 ∷ 3 ∷ 0 ∷ 0 ∷ 1 ∷ 1 ∷ 0 ∷ 4 ∷ 0 ∷ 0 ∷ 0 ∷ 40 ∷ 80 ∷ 68 ∷ 76 ∷ 84 ∷ [])
 
 -- the worked floor as text
 abbrev pub hallText : List ℕ
@@ -104,7 +110,7 @@ twoWays =
 
 -- a job on it at depth 8, its goal 29, beside 28; and its opening table but for 28, which has 0, so that 28 is the target from 40
 abbrev pub twoWaysJob : Job
-twoWaysJob = record { width = 10; height = 5; goal = 29; depth = 8; p = 1; q = 1; quota = 1000 }
+twoWaysJob = record { width = 10; height = 5; goals = oneGoal 29; depth = 8; p = 1; q = 1; quota = 1000 }
 
 abbrev pub twoWaysTable : List ℕ
 twoWaysTable = set (openingOf twoWaysJob twoWays) 28 0

@@ -9,6 +9,7 @@ pub mod PinsChecks
 pub mod PinsOpening
 pub mod PinsRide
 pub mod PinsTable
+pub mod PinsBenches
 pub mod PinsText
 pub mod PinsFloorWritten
 pub mod PinsLine

@@ -6,6 +6,7 @@ use lib.ListN.{replicate}
 use Rattle.answers.specs.declared.Place.the-variants as P
 use Rattle.answers.specs.declared.Ran.the-variants as Rn
 use Rattle.answers.specs.declared.Written.the-variants as Wr
+use Rattle.model.specs.Floor.{oneGoal}
 use Rattle.model.specs.Checks.{floorOf}
 use Rattle.model.specs.Decision.{decide}
 use Rattle.model.specs.Opening.{distances, openJob}
@@ -41,7 +42,7 @@ pub record More : Type 0 where
   }
   -- After the run below the table file is 00 05 00 00 00 1E, 00 06 00 00 00 3C, 00 07 00 00 00 32, 00 08 00 00 00 28, 03 03 00 00 01 01 00 04 00 00 00 28 50 44 4C 54
   -- (two records, 48 of 6 and 38 of 7).
-  pub file : writeTable (floorOf (job 1 1 1 0) hall) 1 (0 ∷ []) learnt (replicate 42 5) ≡ record { answer = Wr.Length 40; buffer = workedFile ++ 5 ∷ 5 ∷ [] }
+  pub file : writeTable (floorOf (job 1 1 1 0) hall) 1 (oneGoal 0) learnt (replicate 50 5) ≡ record { answer = Wr.Length 48; buffer = workedFile ++ 5 ∷ 5 ∷ [] }
   -- `6 0 1 1 1 0 10` and the floor above give, whole (`262176 8 42 48 68`, `2176 4 0 48 48`, `settled 2`):
   pub printed : aisle (bytes "6 0 1 1 1 0 10\n" ++ hallText) ≡ bytes "262266220466220066 22 84 60 180\n220066 6 0 60 60\nsettled 2\n"
 

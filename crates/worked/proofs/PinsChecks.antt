@@ -9,6 +9,7 @@ use Rattle.answers.specs.declared.State.{State}
 use Rattle.answers.specs.declared.Place.{Place}
 use Rattle.answers.specs.declared.Place.the-variants as P
 use Rattle.answers.specs.declared.Answer.the-variants as A
+use Rattle.model.specs.Floor.{oneGoal}
 use Rattle.model.specs.Decision.{decide}
 use Rattle.model.specs.Compute.{compute}
 use Rattle.worked.proofs.Hall.{hall, job, figures, state, fresh, buffer, leaves, refuses, rowJob}
@@ -25,7 +26,7 @@ abbrev Off : Job → ℕ → Type 0
 Off j current = Refused j hall (state current 0 0) (set figures 8 1834561) fresh buffer 0 4 P.Nowhere
 
 abbrev goalAt : ℕ → Job
-goalAt goal = record { width = 3; height = 3; goal = goal; depth = 1; p = 1; q = 1; quota = 1000 }
+goalAt goal = record { width = 3; height = 3; goals = oneGoal goal; depth = 1; p = 1; q = 1; quota = 1000 }
 
 -- 8 for this state and the path's first cells, where the quota would let it go forward
 abbrev Unheld : (current length : ℕ) → List ℕ → Type 0

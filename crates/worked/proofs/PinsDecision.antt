@@ -8,7 +8,7 @@ use Rattle.answers.specs.declared.State.{State}
 use Rattle.answers.specs.declared.Place.the-variants as P
 use Rattle.answers.specs.declared.Answer.the-variants as A
 use Rattle.model.specs.Basics.{choose}
-use Rattle.model.specs.Floor.{Floor, allowed}
+use Rattle.model.specs.Floor.{oneGoal, Floor, allowed}
 use Rattle.model.specs.Decision.{Outcome, decide}
 use Rattle.model.specs.Compute.{compute}
 use Rattle.worked.proofs.Hall.{hall, job, figures, state, fresh, buffer, leaves, refuses, boxed, firstOf, rowJob, twoWays, twoWaysJob, twoWaysTable}
@@ -20,7 +20,7 @@ on j s table path = decide j hall s table path buffer 0
 -- the first decision of a trial with quota 1000 on w × h free cells
 abbrev clear : (w h goal depth current : ℕ) → (table : List ℕ) → Outcome
 clear w h goal depth current table =
-    decide (record { width = w; height = h; goal = goal; depth = depth; p = 1; q = 1; quota = 1000 }) (replicate (w * h) 0) (state current 0 0) table fresh buffer 0
+    decide (record { width = w; height = h; goals = oneGoal goal; depth = depth; p = 1; q = 1; quota = 1000 }) (replicate (w * h) 0) (state current 0 0) table fresh buffer 0
 
 -- from the middle of 3 × 3 free cells to a goal beside it, with figure 9 at all other cells
 abbrev towards : ℕ → Outcome
@@ -80,7 +80,7 @@ pub record PinsDecision : Type 0 where
   pub edge-west : firstMove (clear 2 2 2 1 3 (9 ∷ 9 ∷ 0 ∷ 9 ∷ [])) ≡ 6 ∷ []
   pub edge-south-east : firstMove (clear 2 2 3 1 0 (0 ∷ 9 ∷ 9 ∷ 0 ∷ [])) ≡ 3 ∷ []
   -- and no move leads from the end of a row to the next one's first cell
-  pub no-wrap : decide (record { width = 3; height = 2; goal = 3; depth = 1; p = 1; q = 1; quota = 0 }) (1 ∷ 1 ∷ 0 ∷ 0 ∷ 1 ∷ 1 ∷ []) (state 2 0 0) (replicate 6 0) fresh buffer 0 .answer
+  pub no-wrap : decide (record { width = 3; height = 2; goals = oneGoal 3; depth = 1; p = 1; q = 1; quota = 0 }) (1 ∷ 1 ∷ 0 ∷ 0 ∷ 1 ∷ 1 ∷ []) (state 2 0 0) (replicate 6 0) fresh buffer 0 .answer
       ≡ refuses 9 P.Nowhere
   -- A floor byte 0 is free, 2 is slow and free, every other is blocked
   pub byte-2 : decide (rowJob 3 2 1 20) (0 ∷ 2 ∷ 0 ∷ []) (state 0 0 0) (0 ∷ 0 ∷ 0 ∷ []) fresh buffer 0 .answer ≡ A.Forward 1 20 1
@@ -95,7 +95,7 @@ pub record PinsDecision : Type 0 where
   pub ring-2-empty : decide (rowJob 4 3 2 0) (0 ∷ 0 ∷ 1 ∷ 0 ∷ []) (state 0 0 0) (0 ∷ 0 ∷ 0 ∷ 0 ∷ []) fresh buffer 0 .answer ≡ refuses 9 P.Nowhere
   pub ring-1-full : decide (rowJob 4 3 1 0) (0 ∷ 0 ∷ 1 ∷ 0 ∷ []) (state 0 0 0) (10 ∷ 0 ∷ 0 ∷ 0 ∷ []) fresh buffer 0 .answer ≡ A.Forward 1 0 1
   -- w may use more moves than x's ring: six moves, four diagonal (76), lose to seven, one diagonal (74)
-  pub more-moves : decide (record { width = 7; height = 4; goal = 20; depth = 6; p = 1; q = 1; quota = 1000 }) bend (state 14 0 0) bendTable (replicate 28 77) buffer 0
+  pub more-moves : decide (record { width = 7; height = 4; goals = oneGoal 20; depth = 6; p = 1; q = 1; quota = 1000 }) bend (state 14 0 0) bendTable (replicate 28 77) buffer 0
       ≡ leaves (A.Forward 20 74 7) (state 20 74 1) (set bendTable 14 74) (14 ∷ replicate 27 77) (3 ∷ 2 ∷ 2 ∷ 2 ∷ 2 ∷ 0 ∷ 2 ∷ replicate 283 9)
   -- but stays in the window: 104, and so a rise of 6, since 38, on the way that costs 100, is on ring 9
   pub in-window : decide twoWaysJob twoWays (state 40 0 0) twoWaysTable (replicate 50 77) buffer 0 .answer ≡ A.Forward 28 6 8
@@ -106,7 +106,7 @@ pub record PinsDecision : Type 0 where
   -- p × w(x) + figure(x), p and q apart
   pub weight : decide (job 1 2 3 1000) hall (state 6 0 0) (0 ∷ 30 ∷ 60 ∷ 30 ∷ 42 ∷ 72 ∷ 60 ∷ 72 ∷ 84 ∷ []) fresh buffer 0 .answer ≡ A.Forward 7 32 1
   -- and so for the target: by p it is 3, one diagonal move away, by q it would be 1
-  pub weight-target : decide (record { width = 2; height = 2; goal = 3; depth = 1; p = 1; q = 2; quota = 1000 }) (replicate 4 0) (state 0 0 0) (0 ∷ 6 ∷ 100 ∷ 0 ∷ []) fresh buffer 0 .answer
+  pub weight-target : decide (record { width = 2; height = 2; goals = oneGoal 3; depth = 1; p = 1; q = 2; quota = 1000 }) (replicate 4 0) (state 0 0 0) (0 ∷ 6 ∷ 100 ∷ 0 ∷ []) fresh buffer 0 .answer
       ≡ A.Forward 3 14 1
   -- ties go to the lower cell number, though the other one is the goal
   pub tie : clear 3 1 2 1 1 (0 ∷ 9 ∷ 0 ∷ []) .answer ≡ A.Forward 0 1 1

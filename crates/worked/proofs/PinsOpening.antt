@@ -12,6 +12,7 @@ use Rattle.answers.specs.declared.Verdict.the-variants as Vd
 use Rattle.answers.specs.declared.Report.{Report}
 use Rattle.answers.specs.declared.Tried.the-variants as Td
 use Rattle.answers.specs.declared.Ran.the-variants as Rn
+use Rattle.model.specs.Floor.{oneGoal}
 use Rattle.model.specs.Opening.{distances, openJob, openRun, openTable, filled}
 use Rattle.model.specs.Ride.{trial, run}
 use Rattle.model.specs.Compute.{compute}
@@ -19,28 +20,28 @@ use Rattle.worked.proofs.Hall.{hall, job, openingOf, figures, fresh, no
 
 -- filling the table of a free floor
 abbrev fills : (width height bytes table : ℕ) → Verdict
-fills width height bytes table = openTable (record { width = width; height = height; bytes = replicate bytes 0 }) 1 (0 ∷ []) table
+fills width height bytes table = openTable (record { width = width; height = height; bytes = replicate bytes 0 }) 1 (oneGoal 0) table
 
 -- what filling a table of the worked floor answers, and the table after
 abbrev filling : (q goal : ℕ) → (table : List ℕ) → Verdict × List ℕ
 filling q goal table =
-    let v = openTable (record { width = 3; height = 3; bytes = hall }) q (goal ∷ []) (length table) in
-    (v, filled v (record { width = 3; height = 3; bytes = hall }) q (goal ∷ []) table)
+    let v = openTable (record { width = 3; height = 3; bytes = hall }) q (oneGoal goal) (length table) in
+    (v, filled v (record { width = 3; height = 3; bytes = hall }) q (oneGoal goal) table)
 
 -- opening a job by its settings on one free cell, the goal
 abbrev sets : (depth p q quota : ℕ) → Verdict
-sets depth p q quota = openJob (record { width = 1; height = 1; goal = 0; depth = depth; p = p; q = q; quota = quota }) (0 ∷ []) 0 (0 ∷ [])
+sets depth p q quota = openJob (record { width = 1; height = 1; goals = oneGoal 0; depth = depth; p = p; q = q; quota = quota }) (0 ∷ []) 0 (0 ∷ [])
 
 -- opening a run on the worked floor, its lists by their lengths
 abbrev runs : (depth path trials records : ℕ) → Verdict
 runs depth path trials records = openRun (job depth 1 1 0) hall 6 figures (replicate path 77) trials records
 
 abbrev goalAt : ℕ → Job
-goalAt goal = record { width = 3; height = 3; goal = goal; depth = 1; p = 1; q = 1; quota = 1000 }
+goalAt goal = record { width = 3; height = 3; goals = oneGoal goal; depth = 1; p = 1; q = 1; quota = 1000 }
 
 -- opening a job on four cells, two by two, from start to the cell 0, with the last cell's figure; and the true distances there
 abbrev square : Job
-square = record { width = 2; height = 2; goal = 0; depth = 1; p = 1; q = 1; quota = 0 }
+square = record { width = 2; height = 2; goals = oneGoal 0; depth = 1; p = 1; q = 1; quota = 0 }
 
 abbrev across : List ℕ → (start figure : ℕ) → Verdict
 across bytes start figure = openJob square bytes start (0 ∷ 10 ∷ 10 ∷ figure ∷ [])
@@ -130,14 +131,14 @@ pub record PinsOpening : Type 0 where
   pub trials-1000 : runs 1 9 1000 1000 ≡ Vd.Done
   pub trials-1001 : runs 1 9 1001 1001 ≡ no 3 P.Nowhere
   -- Filling a table with opening figures: 1 before 3, q alone, before 4, the goal alone
-  pub fill-1-3 : openTable (record { width = 3; height = 3; bytes = hall }) 0 (0 ∷ []) 8 ≡ no 1 P.Nowhere
-  pub fill-3-4 : openTable (record { width = 3; height = 3; bytes = hall }) 17 (4 ∷ []) 9 ≡ no 3 P.Nowhere
-  pub fill-q-0 : openTable (record { width = 3; height = 3; bytes = hall }) 0 (0 ∷ []) 9 ≡ no 3 P.Nowhere
-  pub fill-q-16 : openTable (record { width = 3; height = 3; bytes = hall }) 16 (0 ∷ []) 9 ≡ Vd.Done
-  pub fill-blocked : openTable (record { width = 3; height = 3; bytes = hall }) 1 (4 ∷ []) 9 ≡ no 4 P.Nowhere
-  pub fill-off : openTable (record { width = 3; height = 3; bytes = hall }) 1 (9 ∷ []) 9 ≡ no 4 P.Nowhere
+  pub fill-1-3 : openTable (record { width = 3; height = 3; bytes = hall }) 0 (oneGoal 0) 8 ≡ no 1 P.Nowhere
+  pub fill-3-4 : openTable (record { width = 3; height = 3; bytes = hall }) 17 (oneGoal 4) 9 ≡ no 3 P.Nowhere
+  pub fill-q-0 : openTable (record { width = 3; height = 3; bytes = hall }) 0 (oneGoal 0) 9 ≡ no 3 P.Nowhere
+  pub fill-q-16 : openTable (record { width = 3; height = 3; bytes = hall }) 16 (oneGoal 0) 9 ≡ Vd.Done
+  pub fill-blocked : openTable (record { width = 3; height = 3; bytes = hall }) 1 (oneGoal 4) 9 ≡ no 4 P.Nowhere
+  pub fill-off : openTable (record { width = 3; height = 3; bytes = hall }) 1 (oneGoal 9) 9 ≡ no 4 P.Nowhere
   -- 14 × the smaller + 10 × the difference, on a floor wider than high
-  pub fill : filled Vd.Done (record { width = 4; height = 2; bytes = replicate 8 0 }) 3 (5 ∷ []) (replicate 8 9) ≡ 42 ∷ 30 ∷ 42 ∷ 72 ∷ 30 ∷ 0 ∷ 30 ∷ 60 ∷ []
+  pub fill : filled Vd.Done (record { width = 4; height = 2; bytes = replicate 8 0 }) 3 (oneGoal 5) (replicate 8 9) ≡ 42 ∷ 30 ∷ 42 ∷ 72 ∷ 30 ∷ 0 ∷ 30 ∷ 60 ∷ []
   pub fill-all : filling 1 0 (replicate 9 5) ≡ (Vd.Done, figures)
   -- a refused table stays as lent
   pub fill-short : filling 1 0 (replicate 8 5) ≡ (no 1 P.Nowhere, replicate 8 5)

@@ -7,6 +7,7 @@ use lib.ListN.{set, replicate}
 use Rattle.answers.specs.declared.Job.{Job}
 use Rattle.answers.specs.declared.Ran.the-variants as Rn
 use Rattle.answers.specs.declared.Tried.the-variants as Td
+use Rattle.model.specs.Floor.{oneGoal}
 use Rattle.model.specs.Ride.{trial, run}
 use Rattle.model.specs.Compute.{compute}
 use Rattle.worked.proofs.Hall.{hall, job, openingOf, figures, fresh, made, rowJob, blank, learnt, twoWays, twoWaysJob, twoWaysTable}
@@ -16,7 +17,7 @@ abbrev pillar : List ℕ
 pillar = 0 ∷ 0 ∷ 0 ∷ 0 ∷ 0 ∷ 0 ∷ 1 ∷ 0 ∷ 0 ∷ 0 ∷ 0 ∷ 0 ∷ []
 
 abbrev pillarJob : Job
-pillarJob = record { width = 4; height = 3; goal = 0; depth = 1; p = 1; q = 1; quota = 1000 }
+pillarJob = record { width = 4; height = 3; goals = oneGoal 0; depth = 1; p = 1; q = 1; quota = 1000 }
 
 pub record PinsRide : Type 0 where
   -- Start equal to goal gives one trial, all four 0
@@ -45,7 +46,7 @@ pub record PinsRide : Type 0 where
   -- travel: every move. Backing out is seen from the cell taken off: 20 from 1 to 5, though the goal beside 1 shuts 5 out of 1's own window
   pub own-window : trial (job 2 1 1 0) hall 5 (set (set figures 1 0) 5 30) fresh ≡ made 4 10 30 70 (set figures 5 30) (5 ∷ 1 ∷ replicate 7 77)
   -- until one learns 0: 1 is more than 0, though less than q
-  pub not-settled : run (record { width = 2; height = 1; goal = 1; depth = 1; p = 2; q = 2; quota = 1000 }) (0 ∷ 0 ∷ []) 0 3 (19 ∷ 0 ∷ []) fresh (blank ∷ blank ∷ blank ∷ [])
+  pub not-settled : run (record { width = 2; height = 1; goals = oneGoal 1; depth = 1; p = 2; q = 2; quota = 1000 }) (0 ∷ 0 ∷ []) 0 3 (19 ∷ 0 ∷ []) fresh (blank ∷ blank ∷ blank ∷ [])
       ≡ record {
         answer = Rn.Made 2 true;
         table = 20 ∷ 0 ∷ [];

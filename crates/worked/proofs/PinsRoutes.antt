@@ -5,6 +5,7 @@ use mathlib.Core.List.{List, [], _∷_}
 use lib.ListN.{set, replicate}
 use Rattle.answers.specs.declared.Answer.the-variants as A
 use Rattle.answers.specs.declared.Job.{Job}
+use Rattle.model.specs.Floor.{oneGoal}
 use Rattle.model.specs.Decision.{Outcome, decide}
 use Rattle.model.specs.Line.{aisle}
 use Rattle.model.specs.Lookahead.{seen, w, route}
@@ -18,14 +19,14 @@ abbrev lane : List ℕ
 lane = 0 ∷ 0 ∷ 0 ∷ 0 ∷ 2 ∷ 2 ∷ 0 ∷ 0 ∷ 2 ∷ []
 
 abbrev byLane : Job
-byLane = record { width = 3; height = 3; goal = 1; depth = 2; p = 1; q = 1; quota = 1000 }
+byLane = record { width = 3; height = 3; goals = oneGoal 1; depth = 2; p = 1; q = 1; quota = 1000 }
 
 -- rows `..S`, `.SS`, `..S`, `S.S`, to cell 11
 abbrev yard : List ℕ
 yard = 0 ∷ 0 ∷ 2 ∷ 0 ∷ 2 ∷ 2 ∷ 0 ∷ 0 ∷ 2 ∷ 2 ∷ 0 ∷ 2 ∷ []
 
 abbrev inYard : (quota : ℕ) → Job
-inYard quota = record { width = 3; height = 4; goal = 11; depth = 3; p = 1; q = 1; quota = quota }
+inYard quota = record { width = 3; height = 4; goals = oneGoal 11; depth = 3; p = 1; q = 1; quota = quota }
 
 -- figures that lead to cell 10, and a path list that begins with a cell
 abbrev toTen : List ℕ
@@ -43,7 +44,7 @@ abbrev rack : List ℕ
 rack = 0 ∷ 0 ∷ 2 ∷ 0 ∷ 2 ∷ 0 ∷ 0 ∷ 2 ∷ 0 ∷ 2 ∷ 2 ∷ 0 ∷ []
 
 abbrev byRack : Job
-byRack = record { width = 3; height = 4; goal = 3; depth = 3; p = 1; q = 1; quota = 0 }
+byRack = record { width = 3; height = 4; goals = oneGoal 3; depth = 3; p = 1; q = 1; quota = 0 }
 
 -- 3 × 3 cells, none slow
 abbrev bare : List ℕ

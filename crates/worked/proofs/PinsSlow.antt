@@ -10,6 +10,7 @@ use Rattle.answers.specs.declared.Place.the-variants as P
 use Rattle.answers.specs.declared.Tried.the-variants as Td
 use Rattle.answers.specs.declared.Verdict.{Verdict}
 use Rattle.answers.specs.declared.Verdict.the-variants as Vd
+use Rattle.model.specs.Floor.{oneGoal}
 use Rattle.model.specs.Decision.{Outcome, decide}
 use Rattle.model.specs.Line.{aisle}
 use Rattle.model.specs.Opening.{distances, openJob}
@@ -25,7 +26,7 @@ marked n (x ∷ xs) = set (marked n xs) x n
 
 -- a job on 3 × 3 cells
 abbrev onNine : (goal depth : ℕ) → Job
-onNine goal depth = record { width = 3; height = 3; goal = goal; depth = depth; p = 1; q = 1; quota = 1000 }
+onNine goal depth = record { width = 3; height = 3; goals = oneGoal goal; depth = depth; p = 1; q = 1; quota = 1000 }
 
 -- 3 × 3 free cells, but that these are slow
 abbrev slowAt : List ℕ → List ℕ
@@ -57,11 +58,11 @@ abbrev along : List ℕ → (figure : ℕ) → Verdict
 along bytes figure = openJob (rowJob 3 0 1 0) bytes 2 (0 ∷ 10 ∷ figure ∷ [])
 
 abbrev slant : (figure : ℕ) → Verdict
-slant figure = openJob (record { width = 2; height = 2; goal = 0; depth = 1; p = 1; q = 1; quota = 0 }) (0 ∷ 0 ∷ 0 ∷ 2 ∷ []) 3 (0 ∷ 10 ∷ 10 ∷ figure ∷ [])
+slant figure = openJob (record { width = 2; height = 2; goals = oneGoal 0; depth = 1; p = 1; q = 1; quota = 0 }) (0 ∷ 0 ∷ 0 ∷ 2 ∷ []) 3 (0 ∷ 10 ∷ 10 ∷ figure ∷ [])
 
 -- rows `...`, `S@.`, `S..`, `@.@`, `@.@`, from 0 to 13
 abbrev bay : Job
-bay = record { width = 3; height = 5; goal = 13; depth = 3; p = 1; q = 3; quota = 1000000 }
+bay = record { width = 3; height = 5; goals = oneGoal 13; depth = 3; p = 1; q = 3; quota = 1000000 }
 
 abbrev bayFloor : List ℕ
 bayFloor = 0 ∷ 0 ∷ 0 ∷ 2 ∷ 1 ∷ 0 ∷ 2 ∷ 0 ∷ 0 ∷ 1 ∷ 0 ∷ 1 ∷ 1 ∷ 0 ∷ 1 ∷ []

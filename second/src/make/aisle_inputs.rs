@@ -11,12 +11,13 @@ pub fn input(dice: &mut Dice) -> Vec<u8> {
         1 => jobs::kit(dice),
         _ => weaving::kit(dice),
     };
+    kit.keep_nearest_goal();
     if dice.chance(4) {
-        kit.goal = kit.start;
+        kit.goals = vec![kit.start];
     }
     let mut numbers = vec![
         kit.start as u64,
-        kit.goal as u64,
+        kit.goals[0] as u64,
         kit.depth,
         kit.p,
         kit.q,

@@ -1,7 +1,8 @@
 //! Inputs of the program `calls`: every call good, spoiled in up to three arguments, or malformed as text.
 
 use super::dice::Dice;
-use super::drafts::{Draft, List, Scalar};
+use super::drafts::Argument::{Entries, Number};
+use super::drafts::{Argument, Draft, List, Scalar};
 use super::files;
 use super::floors;
 use super::jobs::{self, Kit, TableKind};
@@ -9,11 +10,11 @@ use super::slow;
 use super::states;
 use super::texts;
 use super::winding;
-use crate::calls::{BYTE_ROOM, CELL_ROOM, MOST_INPUT, MOVE_ROOM, REPORT_ROOM};
+use crate::calls::{BYTE_ROOM, CELL_ROOM, GOAL_ROOM, MOST_INPUT, MOVE_ROOM, REPORT_ROOM};
 use crate::lookahead::MOST_MOVES;
 
 pub fn input(dice: &mut Dice) -> Vec<u8> {
-    let call = 1 + dice.weighted(&[9, 40, 11, 12, 8, 7, 9, 2, 3, 2, 5]) as u64;
+    let call = 1 + dice.weighted(&[10, 37, 11, 12, 7, 8, 14, 3, 4, 4, 5]) as u64;
     let long = match call {
         2 => dice.chance(50),
         3 | 4 => dice.chance(70),
@@ -73,9 +74,10 @@ fn text(words: &[String], dice: &mut Dice) -> Vec<u8> {
 /// Something that isn't the call's shape, or just still is.
 fn malformed(draft: &Draft, mut words: Vec<String>, dice: &mut Dice) -> Vec<u8> {
     let at = dice.index(words.len());
-    let lengths = draft.length_places();
-    let length_at = lengths[dice.index(lengths.len())];
-    match dice.below(22) {
+    // The goals, where a call takes any, are its first list; by chance alone they would seldom be too many.
+    let lists = draft.lists();
+    let (length_at, name, entries) = if dice.chance(25) { lists[0] } else { dice.pick(&lists) };
+    match dice.below(23) {
         0 => {
             words.pop();
         }
@@ -97,22 +99,19 @@ fn malformed(draft: &Draft, mut words: Vec<String>, dice: &mut Dice) -> Vec<u8> 
         }
         // Entries that their lists' types can't hold, or just can.
         5 | 6 | 17 => {
-            let which = dice.index(lengths.len());
-            let (name, entries) = &draft.lists[which];
             if !entries.is_empty() {
                 let choices: &[&str] = match name {
                     List::Path => &["65536", "65535", "4294967295"],
-                    List::Table | List::Reports => &["4294967296", "4294967295"],
+                    List::Goals | List::Table | List::Reports => &["4294967296", "4294967295"],
                     _ => &["256", "255", "65536", "4294967295"],
                 };
-                words[lengths[which] + 1 + dice.index(entries.len())] = dice.pick(choices).into();
+                words[length_at + 1 + dice.index(entries.len())] = dice.pick(choices).into();
             }
         }
         // Lists as long as the room, or longer.
-        7 | 8 | 18..=21 => {
-            let which = dice.index(lengths.len());
-            let (name, entries) = &draft.lists[which];
+        7 | 8 | 18..=22 => {
             let (room, width) = match name {
+                List::Goals => (GOAL_ROOM, 1),
                 List::Moves => (MOVE_ROOM, 1),
                 List::Reports => (REPORT_ROOM, 4),
                 List::Text | List::File | List::FileBuffer | List::TextBuffer => (BYTE_ROOM, 1),
@@ -121,10 +120,10 @@ fn malformed(draft: &Draft, mut words: Vec<String>, dice: &mut Dice) -> Vec<u8> 
                 List::Floor | List::Table | List::Path => (CELL_ROOM, 1),
             };
             let new = (room + dice.index(2)) * width;
-            let end = lengths[which] + 1 + entries.len();
+            let end = length_at + 1 + entries.len();
             let more = vec![String::from("0"); new.saturating_sub(entries.len())];
             words.splice(end..end, more);
-            words[lengths[which]] = (new / width).to_string();
+            words[length_at] = (new / width).to_string();
         }
         9 => words[length_at] = "4294967295".into(),
         10 => words[0] = dice.pick(&["0", "12", "4294967295", "256", "267", "x"]).into(),
@@ -168,34 +167,40 @@ fn junk(length: usize, bound: u64, dice: &mut Dice) -> Vec<u64> {
     (0..length).map(|_| fixed.unwrap_or_else(|| dice.below(bound))).collect()
 }
 
-fn job_scalars(kit: &Kit) -> Vec<(Scalar, u64)> {
-    vec![
-        (Scalar::Width, kit.width as u64),
-        (Scalar::Height, kit.height as u64),
-        (Scalar::Start, kit.start as u64),
-        (Scalar::Goal, kit.goal as u64),
-        (Scalar::Depth, kit.depth),
-        (Scalar::P, kit.p),
-        (Scalar::Q, kit.q),
-        (Scalar::Quota, kit.quota),
-    ]
+/// A call on a job: what tells where the cart is, the goals, the settings, and what comes after them.
+fn job_call(call: u64, kit: &Kit, cart: &[(Scalar, u64)], rest: Vec<Argument>) -> Draft {
+    let mut arguments = sides(kit);
+    arguments.extend(cart.iter().map(|&(name, value)| Number(name, value)));
+    arguments.push(goal_list(kit));
+    let settings =
+        [(Scalar::Depth, kit.depth), (Scalar::P, kit.p), (Scalar::Q, kit.q), (Scalar::Quota, kit.quota)];
+    arguments.extend(settings.map(|(name, value)| Number(name, value)));
+    arguments.extend(rest);
+    Draft { call, arguments }
 }
 
-fn table_call_scalars(kit: &Kit) -> Vec<(Scalar, u64)> {
-    vec![
-        (Scalar::Width, kit.width as u64),
-        (Scalar::Height, kit.height as u64),
-        (Scalar::Goal, kit.goal as u64),
-        (Scalar::Q, kit.q),
-    ]
+/// A call on a table alone.
+fn table_call(call: u64, kit: &Kit, rest: Vec<Argument>) -> Draft {
+    let mut arguments = sides(kit);
+    arguments.extend([goal_list(kit), Number(Scalar::Q, kit.q), floor_list(kit)]);
+    arguments.extend(rest);
+    Draft { call, arguments }
 }
 
-fn floor_list(kit: &Kit) -> (List, Vec<u64>) {
-    (List::Floor, bytes_as_entries(&kit.floor))
+fn sides(kit: &Kit) -> Vec<Argument> {
+    vec![Number(Scalar::Width, kit.width as u64), Number(Scalar::Height, kit.height as u64)]
 }
 
-fn table_list(kit: &Kit) -> (List, Vec<u64>) {
-    (List::Table, kit.table.iter().map(|&figure| u64::from(figure)).collect())
+fn goal_list(kit: &Kit) -> Argument {
+    Entries(List::Goals, kit.goals.iter().map(|&goal| goal as u64).collect())
+}
+
+fn floor_list(kit: &Kit) -> Argument {
+    Entries(List::Floor, bytes_as_entries(&kit.floor))
+}
+
+fn table_list(kit: &Kit) -> Argument {
+    Entries(List::Table, kit.table.iter().map(|&figure| u64::from(figure)).collect())
 }
 
 /// A path list with room to spare now and then, and old entries all over.
@@ -212,41 +217,37 @@ impl Dice {
 }
 
 fn open(kit: &Kit) -> Draft {
-    Draft { call: 1, scalars: job_scalars(kit), lists: vec![floor_list(kit), table_list(kit)] }
+    job_call(1, kit, &[(Scalar::Start, kit.start as u64)], vec![floor_list(kit), table_list(kit)])
 }
 
 fn trial(kit: &Kit, dice: &mut Dice) -> Draft {
-    let path = path_list(kit, dice);
-    Draft {
-        call: 3,
-        scalars: job_scalars(kit),
-        lists: vec![floor_list(kit), table_list(kit), (List::Path, path)],
-    }
+    let rest = vec![floor_list(kit), table_list(kit), Entries(List::Path, path_list(kit, dice))];
+    job_call(3, kit, &[(Scalar::Start, kit.start as u64)], rest)
 }
 
 fn run(kit: &Kit, dice: &mut Dice) -> Draft {
-    let mut scalars = job_scalars(kit);
-    scalars.push((Scalar::Trials, kit.trials));
     let more = match dice.below(40) {
         0 => REPORT_ROOM as u64 - kit.trials,
         1..=20 => dice.below(4),
         _ => 0,
     };
     let reports = junk(4 * (kit.trials + more) as usize, 100, dice);
-    let path = path_list(kit, dice);
-    let lists = vec![floor_list(kit), table_list(kit), (List::Path, path), (List::Reports, reports)];
-    Draft { call: 4, scalars, lists }
+    let rest = vec![
+        Number(Scalar::Trials, kit.trials),
+        floor_list(kit),
+        table_list(kit),
+        Entries(List::Path, path_list(kit, dice)),
+        Entries(List::Reports, reports),
+    ];
+    job_call(4, kit, &[(Scalar::Start, kit.start as u64)], rest)
 }
 
 fn read_floor_text(kit: &Kit, dice: &mut Dice) -> Draft {
     let text = texts::text(&kit.floor, kit.width, kit.height, dice);
     let more = if dice.chance(50) { dice.index(65) } else { 0 };
     let buffer = junk(kit.cells() + more, 256, dice);
-    Draft {
-        call: 5,
-        scalars: vec![],
-        lists: vec![(List::Text, bytes_as_entries(&text)), (List::FloorBuffer, buffer)],
-    }
+    let arguments = vec![Entries(List::Text, bytes_as_entries(&text)), Entries(List::FloorBuffer, buffer)];
+    Draft { call: 5, arguments }
 }
 
 fn write_table_file(kit: &mut Kit, dice: &mut Dice) -> Draft {
@@ -267,9 +268,8 @@ fn write_table_file(kit: &mut Kit, dice: &mut Dice) -> Draft {
     let records = (0..kit.cells()).filter(|&cell| kit.table[cell] != kit.opening_figure(cell)).count();
     let more = if dice.chance(60) { dice.index(40) } else { 0 };
     let fewer = usize::from(dice.chance(10));
-    let buffer = junk(16 + 6 * records + more * (1 - fewer) - fewer, 256, dice);
-    let lists = vec![floor_list(kit), table_list(kit), (List::FileBuffer, buffer)];
-    Draft { call: 6, scalars: table_call_scalars(kit), lists }
+    let buffer = junk(24 + 6 * records + more * (1 - fewer) - fewer, 256, dice);
+    table_call(6, kit, vec![table_list(kit), Entries(List::FileBuffer, buffer)])
 }
 
 fn read_table_file(kit: &Kit, dice: &mut Dice) -> Draft {
@@ -278,25 +278,25 @@ fn read_table_file(kit: &Kit, dice: &mut Dice) -> Draft {
     if dice.chance(45) {
         file.spoil_record(kit, dice);
     }
-    if dice.chance(15) {
+    if dice.chance(20) {
         file.spoil_trailer(kit, dice);
     }
     let table = junk(kit.cells(), dice.pick_bound(kit), dice);
-    let lists = vec![floor_list(kit), (List::File, bytes_as_entries(&file.bytes())), (List::Table, table)];
-    Draft { call: 7, scalars: table_call_scalars(kit), lists }
+    let file = bytes_as_entries(&file.bytes());
+    table_call(7, kit, vec![Entries(List::File, file), Entries(List::Table, table)])
 }
 
 fn records_or_trailer(kit: &Kit, call: u64, dice: &mut Dice) -> Draft {
     let mut file = files::Draft::new(kit, dice);
-    if dice.chance(15) {
+    if dice.chance(30) {
         file.spoil_trailer(kit, dice);
     }
-    Draft { call, scalars: vec![], lists: vec![(List::File, bytes_as_entries(&file.bytes()))] }
+    Draft { call, arguments: vec![Entries(List::File, bytes_as_entries(&file.bytes()))] }
 }
 
 fn opening_table(kit: &Kit, dice: &mut Dice) -> Draft {
     let table = junk(kit.cells(), dice.pick_bound(kit), dice);
-    Draft { call: 10, scalars: table_call_scalars(kit), lists: vec![floor_list(kit), (List::Table, table)] }
+    table_call(10, kit, vec![Entries(List::Table, table)])
 }
 
 fn write_floor_text(kit: &mut Kit, dice: &mut Dice) -> Draft {
@@ -317,8 +317,9 @@ fn write_floor_text(kit: &mut Kit, dice: &mut Dice) -> Draft {
         kit.floor.push(0);
         length = dice.pick(&[0, 10, enough - 1]);
     }
-    let scalars = vec![(Scalar::Width, kit.width as u64), (Scalar::Height, kit.height as u64)];
-    Draft { call: 11, scalars, lists: vec![floor_list(kit), (List::TextBuffer, junk(length, 256, dice))] }
+    let mut arguments = sides(kit);
+    arguments.extend([floor_list(kit), Entries(List::TextBuffer, junk(length, 256, dice))]);
+    Draft { call: 11, arguments }
 }
 
 fn decision(kit: &mut Kit, dice: &mut Dice) -> Draft {
@@ -351,24 +352,22 @@ fn decision(kit: &mut Kit, dice: &mut Dice) -> Draft {
             state
         }
     };
+    // A goal on the path, whichever of them: the general spoiling seldom makes that.
+    let length = path.len().min(state.length as usize);
+    if length > 0 && dice.chance(5) {
+        path[dice.index(length)] = dice.pick(&kit.goals) as u16;
+    }
     let from = if dice.chance(60) { 0 } else { dice.index(300) };
     let more = if dice.chance(50) { dice.index(100) } else { 0 };
     let length = if dice.chance(4) { MOVE_ROOM } else { from + MOST_MOVES + more };
     let moves = junk(length, 256, dice);
-    let scalars = vec![
-        (Scalar::Width, kit.width as u64),
-        (Scalar::Height, kit.height as u64),
-        (Scalar::Current, state.current),
-        (Scalar::U, state.u),
-        (Scalar::Length, state.length),
-        (Scalar::Goal, kit.goal as u64),
-        (Scalar::Depth, kit.depth),
-        (Scalar::P, kit.p),
-        (Scalar::Q, kit.q),
-        (Scalar::Quota, kit.quota),
-        (Scalar::From, from as u64),
+    let cart = [(Scalar::Current, state.current), (Scalar::U, state.u), (Scalar::Length, state.length)];
+    let rest = vec![
+        Number(Scalar::From, from as u64),
+        floor_list(kit),
+        table_list(kit),
+        Entries(List::Path, path.iter().map(|&cell| u64::from(cell)).collect()),
+        Entries(List::Moves, moves),
     ];
-    let path = path.iter().map(|&cell| u64::from(cell)).collect();
-    let lists = vec![floor_list(kit), table_list(kit), (List::Path, path), (List::Moves, moves)];
-    Draft { call: 2, scalars, lists }
+    job_call(2, kit, &cart, rest)
 }

@@ -4,8 +4,8 @@ use super::dice::Dice;
 use super::files;
 use super::jobs::Kit;
 use super::texts;
-use crate::calls::{BYTE_ROOM, CELL_ROOM, MOVE_ROOM, REPORT_ROOM};
-use crate::checks::CEILING;
+use crate::calls::{BYTE_ROOM, CELL_ROOM, GOAL_ROOM, MOVE_ROOM, REPORT_ROOM};
+use crate::checks::{CEILING, MOST_GOALS};
 use crate::lookahead::MOST_MOVES;
 
 #[derive(Clone, Copy, Debug, PartialEq, Eq)]
@@ -14,7 +14,6 @@ pub enum Scalar {
     Height,
     Start,
     Current,
-    Goal,
     Depth,
     P,
     Q,
@@ -27,6 +26,7 @@ pub enum Scalar {
 
 #[derive(Clone, Copy, Debug, PartialEq, Eq)]
 pub enum List {
+    Goals,
     Floor,
     Table,
     Path,
@@ -43,68 +43,84 @@ pub enum List {
     TextBuffer,
 }
 
+#[derive(Clone, Debug)]
+pub enum Argument {
+    Number(Scalar, u64),
+    Entries(List, Vec<u64>),
+}
+
+/// A call and its arguments in the order in which they are told.
 pub struct Draft {
     pub call: u64,
-    pub scalars: Vec<(Scalar, u64)>,
-    pub lists: Vec<(List, Vec<u64>)>,
+    pub arguments: Vec<Argument>,
 }
 
 const LARGEST: u64 = u32::MAX as u64;
 
 impl Draft {
-    pub fn get(&self, name: Scalar) -> u64 {
-        self.scalars.iter().find(|(scalar, _)| *scalar == name).map_or(0, |(_, value)| *value)
+    fn get(&self, name: Scalar) -> u64 {
+        let value = |argument: &Argument| match argument {
+            Argument::Number(scalar, value) if *scalar == name => Some(*value),
+            _ => None,
+        };
+        self.arguments.iter().find_map(value).unwrap_or(0)
     }
 
     fn list(&self, name: List) -> &[u64] {
-        self.lists.iter().find(|(list, _)| *list == name).map_or(&[], |(_, entries)| entries)
+        self.lists().into_iter().find(|(_, list, _)| *list == name).map_or(&[], |(_, _, entries)| entries)
+    }
+
+    /// The lists, each with the place of its length among the words.
+    pub fn lists(&self) -> Vec<(usize, List, &[u64])> {
+        let mut at = 1;
+        let mut lists = Vec::new();
+        for argument in &self.arguments {
+            if let Argument::Entries(list, entries) = argument {
+                lists.push((at, *list, entries.as_slice()));
+                at += entries.len();
+            }
+            at += 1;
+        }
+        lists
     }
 
     /// The draft as numbers in decimal.
     pub fn words(&self) -> Vec<String> {
         let mut words = vec![self.call.to_string()];
-        words.extend(self.scalars.iter().map(|(_, value)| value.to_string()));
-        for (list, entries) in &self.lists {
-            let length = if *list == List::Reports { entries.len() / 4 } else { entries.len() };
-            words.push(length.to_string());
-            words.extend(entries.iter().map(u64::to_string));
+        for argument in &self.arguments {
+            match argument {
+                Argument::Number(_, value) => words.push(value.to_string()),
+                Argument::Entries(list, entries) => {
+                    let length = if *list == List::Reports { entries.len() / 4 } else { entries.len() };
+                    words.push(length.to_string());
+                    words.extend(entries.iter().map(u64::to_string));
+                }
+            }
         }
         words
     }
 
-    /// Where among the words each list's length stands.
-    pub fn length_places(&self) -> Vec<usize> {
-        let mut at = 1 + self.scalars.len();
-        let mut places = Vec::new();
-        for (_, entries) in &self.lists {
-            places.push(at);
-            at += 1 + entries.len();
-        }
-        places
-    }
-
     /// Spoils one argument in one way; now and then it stays good, at the edge of its range.
     pub fn spoil(&mut self, kit: &Kit, dice: &mut Dice) {
-        // Number 1 hides all that comes after it, so the sides are spoiled less often than the rest.
-        let scalars = self.scalars.iter().map(|(name, _)| match name {
-            Scalar::Width | Scalar::Height => 1,
-            _ => 3,
-        });
-        let lists = self.lists.iter().map(|(name, _)| match name {
-            List::Floor => 3,
-            List::Table => 5,
-            _ => 7,
-        });
-        let weights: Vec<u64> = scalars.chain(lists).collect();
+        // Number 1 hides all that comes after it, so the sides are spoiled less often than the rest; goals can be spoiled in
+        // most ways.
+        let weight = |argument: &Argument| match argument {
+            Argument::Number(Scalar::Width | Scalar::Height, _) => 1,
+            Argument::Number(..) | Argument::Entries(List::Floor, _) => 3,
+            Argument::Entries(List::Table, _) => 5,
+            Argument::Entries(List::Goals, _) => 12,
+            Argument::Entries(..) => 7,
+        };
+        let weights: Vec<u64> = self.arguments.iter().map(weight).collect();
         let at = dice.weighted(&weights);
-        if at < self.scalars.len() {
-            let (name, value) = self.scalars[at];
-            self.scalars[at].1 = self.spoiled_scalar(name, value, kit, dice).min(LARGEST);
-        } else {
-            let at = at - self.scalars.len();
-            let (name, entries) = self.lists[at].clone();
-            self.lists[at].1 = self.spoiled_list(name, entries, kit, dice);
-        }
+        self.arguments[at] = match self.arguments[at].clone() {
+            Argument::Number(name, value) => {
+                Argument::Number(name, self.spoiled_scalar(name, value, kit, dice).min(LARGEST))
+            }
+            Argument::Entries(name, entries) => {
+                Argument::Entries(name, self.spoiled_list(name, entries, kit, dice))
+            }
+        };
     }
 
     fn spoiled_scalar(&self, name: Scalar, value: u64, kit: &Kit, dice: &mut Dice) -> u64 {
@@ -117,15 +133,7 @@ impl Draft {
                 let choices = [0, 65, 64, 1, value + 1, less, other, LARGEST, 256 + value, (1 << 31) + value];
                 dice.pick(&choices)
             }
-            Scalar::Start | Scalar::Current | Scalar::Goal => {
-                let blocked = kit.blocked_cells();
-                if !blocked.is_empty() && dice.chance(50) {
-                    return dice.pick(&blocked) as u64;
-                }
-                let any = dice.below(cells);
-                let goal = self.get(Scalar::Goal);
-                dice.pick(&[cells, cells + 1, cells - 1, 65_536 + value, LARGEST, goal, any])
-            }
+            Scalar::Start | Scalar::Current => self.spoiled_cell(value, kit, dice),
             Scalar::Depth => dice.pick(&[0, 1, 8, 9, 256 + value, LARGEST]),
             Scalar::P => {
                 let q = self.get(Scalar::Q);
@@ -156,11 +164,67 @@ impl Draft {
         }
     }
 
+    /// A cell off the floor, blocked, or just another.
+    fn spoiled_cell(&self, value: u64, kit: &Kit, dice: &mut Dice) -> u64 {
+        let blocked = kit.blocked_cells();
+        if !blocked.is_empty() && dice.chance(50) {
+            return dice.pick(&blocked) as u64;
+        }
+        let cells = kit.cells() as u64;
+        let (any, goal) = (dice.below(cells), self.a_goal(dice));
+        dice.pick(&[cells, cells + 1, cells - 1, 65_536 + value, LARGEST, goal, any])
+    }
+
+    /// One of the goals as they are told.
+    fn a_goal(&self, dice: &mut Dice) -> u64 {
+        let goals = self.list(List::Goals);
+        goals.get(dice.index(goals.len())).copied().unwrap_or(0)
+    }
+
+    /// Goals that are none or too many, equal, out of order, off the floor or blocked; or just others.
+    fn spoil_goals(&self, goals: &mut Vec<u64>, kit: &Kit, dice: &mut Dice) {
+        let free: Vec<u64> = kit.free_cells().iter().map(|&cell| cell as u64).collect();
+        let a_free_cell = |dice: &mut Dice| free.get(dice.index(free.len())).copied().unwrap_or(0);
+        let at = dice.index(goals.len());
+        match dice.below(8) {
+            0 => goals.clear(),
+            1 | 2 => {
+                // Four or more, mostly rising; often one of them, perhaps past the first four, is no free cell.
+                let count = dice.from_to(MOST_GOALS as u64, GOAL_ROOM as u64) as usize;
+                while goals.len() < count {
+                    goals.push(a_free_cell(dice));
+                }
+                goals.sort_unstable();
+                if dice.chance(40) {
+                    let at = dice.index(goals.len());
+                    goals[at] = self.spoiled_cell(goals[at], kit, dice);
+                }
+            }
+            3 => {
+                if let Some(&goal) = goals.get(at) {
+                    goals.insert(at, goal);
+                }
+            }
+            4 => {
+                goals.push(a_free_cell(dice));
+                goals.reverse();
+            }
+            5 => goals.push(a_free_cell(dice)),
+            _ => {
+                if let Some(&goal) = goals.get(at) {
+                    goals[at] = self.spoiled_cell(goal, kit, dice);
+                }
+            }
+        }
+        goals.truncate(GOAL_ROOM);
+    }
+
     fn spoiled_list(&self, name: List, mut entries: Vec<u64>, kit: &Kit, dice: &mut Dice) -> Vec<u64> {
         match name {
+            List::Goals => self.spoil_goals(&mut entries, kit, dice),
             List::Floor => match dice.below(6) {
                 0 => one_off(&mut entries, CELL_ROOM, dice),
-                1 => set_cell(&mut entries, self.get(Scalar::Goal), 1),
+                1 => set_cell(&mut entries, self.a_goal(dice), 1),
                 2 => set_cell(&mut entries, self.get(Scalar::Start), dice.pick(&[2, 3, 255])),
                 3 => set_cell(&mut entries, self.get(Scalar::Current), dice.pick(&[2, 3, 255])),
                 4 => {
@@ -231,8 +295,8 @@ impl Draft {
                         kit.table.get(cell).is_some_and(|&figure| figure != kit.opening_figure(cell))
                     })
                     .count();
-                let enough = 16 + 6 * records;
-                let length = dice.pick(&[enough, enough - 1, enough - 1, 0, 15, enough - 16]);
+                let enough = 24 + 6 * records;
+                let length = dice.pick(&[enough, enough - 1, enough - 1, 0, 23, enough - 8, enough - 24]);
                 entries.resize(length.min(BYTE_ROOM), 9);
             }
             List::TextBuffer => {
@@ -253,7 +317,7 @@ impl Draft {
         }
         let at = dice.index(length);
         let blocked = kit.blocked_cells();
-        let mut choices = vec![self.get(Scalar::Goal), self.get(Scalar::Current), cells as u64, 65_535];
+        let mut choices = vec![self.a_goal(dice), self.get(Scalar::Current), cells as u64, 65_535];
         choices.extend([entries[dice.index(length)], entries[0], dice.below(cells as u64)]);
         if !blocked.is_empty() {
             choices.push(dice.pick(&blocked) as u64);

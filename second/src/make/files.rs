@@ -1,17 +1,21 @@
-//! Table files, good and spoiled: older bytes ahead, every fault of the trailer, every fault of a record.
+//! Table files of both editions, good and spoiled: older bytes ahead, every fault of the trailer, every fault of a record.
 
 use super::dice::Dice;
 use super::jobs::Kit;
-use crate::checks::CEILING;
+use crate::checks::{CEILING, MOST_GOALS};
 use crate::floor::is_free_byte;
 
 /// A file by its parts, so that each can be made faulty by itself.
 pub struct Draft {
     older: Vec<u8>,
     records: Vec<(u16, u32)>,
+    /// Whether the trailer is laid out as edition 1's, which has the first place alone.
+    first_edition: bool,
     width: u8,
     height: u8,
-    goal: u16,
+    goal_count: u8,
+    zero: u8,
+    places: [u16; MOST_GOALS],
     q: u8,
     edition: u8,
     count: u16,
@@ -41,28 +45,52 @@ impl Draft {
         }
         let older_length = if dice.chance(40) { dice.from_to(1, 40) } else { 0 };
         let older = (0..older_length).map(|_| dice.byte()).collect();
+        // Edition 1 can't tell of several goals; that it is tried with them shows that it is refused.
+        let first_edition = dice.chance(if kit.goals.len() == 1 { 45 } else { 10 });
         let mut draft = Draft {
             older,
             records,
+            first_edition,
             width: kit.width as u8,
             height: kit.height as u8,
-            goal: kit.goal as u16,
+            goal_count: kit.goals.len() as u8,
+            zero: 0,
+            places: places(&kit.goals),
             q: kit.q as u8,
-            edition: 1,
+            edition: 0,
             count: 0,
             back: 0,
             letters: *b"PDLT",
             cut_end: 0,
             cut_front: 0,
         };
+        draft.set_edition();
         draft.recount();
         draft
+    }
+
+    /// Sets the edition by the layout.
+    fn set_edition(&mut self) {
+        self.edition = if self.first_edition { 1 } else { 2 };
     }
 
     /// Sets count and back by the records.
     fn recount(&mut self) {
         self.count = self.records.len() as u16;
-        self.back = 16 + 6 * self.records.len() as u32;
+        self.point_back();
+    }
+
+    /// Sets back by the count.
+    fn point_back(&mut self) {
+        self.back = self.trailer_length() as u32 + 6 * u32::from(self.count);
+    }
+
+    fn trailer_length(&self) -> usize {
+        if self.first_edition {
+            16
+        } else {
+            24
+        }
     }
 
     pub fn bytes(&self) -> Vec<u8> {
@@ -72,7 +100,12 @@ impl Draft {
             bytes.extend(figure.to_be_bytes());
         }
         bytes.extend([self.width, self.height]);
-        bytes.extend(self.goal.to_be_bytes());
+        if self.first_edition {
+            bytes.extend(self.places[0].to_be_bytes());
+        } else {
+            bytes.extend([self.goal_count, self.zero]);
+            bytes.extend(self.places.iter().flat_map(|place| place.to_be_bytes()));
+        }
         bytes.extend([self.q, self.edition]);
         bytes.extend(self.count.to_be_bytes());
         bytes.extend(self.back.to_be_bytes());
@@ -84,15 +117,20 @@ impl Draft {
 
     /// Spoils the trailer or the file's length.
     pub fn spoil_trailer(&mut self, kit: &Kit, dice: &mut Dice) {
-        match dice.below(13) {
+        match dice.below(21) {
             0 => self.letters[dice.index(4)] ^= dice.pick(&[0x20, 1, 0xFF]),
-            1 => self.edition = dice.pick(&[0, 2, 255]),
-            2 => {
+            // The other edition too, whose trailer would be laid out otherwise.
+            1 | 18 => self.edition = dice.pick(&[0, 1, 2, 3, 3, 255]),
+            2 | 19 => {
                 self.back = dice.pick(&[
                     self.back.wrapping_add(1),
                     self.back.wrapping_sub(1),
+                    self.back.wrapping_add(8),
+                    self.back.wrapping_sub(8),
+                    self.back.wrapping_sub(8),
                     0,
                     16,
+                    24,
                     self.back ^ 6,
                     u32::MAX,
                 ])
@@ -101,7 +139,7 @@ impl Draft {
             4 => {
                 // Count and back agree, and point before the file's start or into older material.
                 self.count = self.count.wrapping_add(dice.pick(&[1, 2, 7, 1000]));
-                self.back = 16 + 6 * u32::from(self.count);
+                self.point_back();
                 if dice.chance(70) {
                     self.older.clear();
                 }
@@ -109,19 +147,44 @@ impl Draft {
             5 => {
                 // One record fewer is told than there is: the first becomes older material.
                 self.count = self.count.saturating_sub(1);
-                self.back = 16 + 6 * u32::from(self.count);
+                self.point_back();
             }
             6 => self.width = dice.pick(&[0, self.width.wrapping_add(1), self.height, 65, 255]),
             7 => self.height = dice.pick(&[0, self.height.wrapping_add(1), self.width, 65, 255]),
             8 => {
-                self.goal =
-                    dice.pick(&[self.goal ^ 1, 0, kit.cells() as u16, self.goal.swap_bytes(), u16::MAX])
+                let at = if self.first_edition { 0 } else { dice.index(MOST_GOALS) };
+                let place = self.places[at];
+                let choices =
+                    [place ^ 1, 0, kit.cells() as u16, place.swap_bytes(), self.places[0], u16::MAX];
+                self.places[at] = dice.pick(&choices);
             }
             9 => self.q = dice.pick(&[0, self.q.wrapping_add(1), 16, 17, 255]),
-            10 => self.cut_end = dice.from_to(1, 17) as usize,
-            11 => self.cut_front = self.older.len() + 6 * self.records.len() + dice.index(17),
+            10 => self.cut_end = dice.from_to(1, 25) as usize,
+            11 => self.cut_front = self.older.len() + 6 * self.records.len() + dice.index(25),
+            12 => self.zero = dice.pick(&[1, 1, self.goal_count, 255]),
+            13 => {
+                let count = self.goal_count;
+                let choices = [0, 1, 2, 3, 4, 5, count.wrapping_add(1), count.wrapping_sub(1), 255];
+                self.goal_count = dice.pick(&choices);
+            }
+            14 => self.places.swap(0, 1),
+            15 | 16 => self.set_goals(other_goals(kit, dice)),
+            17 => {
+                // The other edition throughout, whatever it can tell of; or its layout alone, with edition and back kept.
+                self.first_edition = !self.first_edition;
+                if dice.chance(50) {
+                    self.set_edition();
+                    self.point_back();
+                }
+            }
             _ => self.cut_front = self.older.len() + dice.from_to(1, 6) as usize,
         }
+    }
+
+    /// Makes it the file of another set of goals.
+    fn set_goals(&mut self, goals: Vec<usize>) {
+        self.goal_count = goals.len() as u8;
+        self.places = places(&goals);
     }
 
     /// Spoils one record: it gets one fault of 18 to 22 or two of them, so that their order shows; or it is moved, or just good.
@@ -199,4 +262,27 @@ impl Draft {
             _ => *figure = dice.pick(&[CEILING + 1, CEILING + 1, u32::MAX]),
         }
     }
+}
+
+/// The four places as the writer gives them.
+fn places(goals: &[usize]) -> [u16; MOST_GOALS] {
+    let mut places = [u16::MAX; MOST_GOALS];
+    for (place, &goal) in places.iter_mut().zip(goals) {
+        *place = goal as u16;
+    }
+    places
+}
+
+/// The kit's goals with one more, one fewer or one in another place.
+fn other_goals(kit: &Kit, dice: &mut Dice) -> Vec<usize> {
+    let mut goals = kit.goals.clone();
+    if goals.len() > 1 && dice.chance(40) || goals.len() == MOST_GOALS {
+        goals.remove(dice.index(goals.len()));
+    }
+    if goals.len() == kit.goals.len() || dice.chance(40) {
+        goals.push(dice.index(kit.cells()));
+    }
+    goals.sort_unstable();
+    goals.dedup();
+    goals
 }

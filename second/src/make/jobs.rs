@@ -1,9 +1,9 @@
-//! Jobs and their tables: a floor with start, goal and settings, and a table that is good or spoiled.
+//! Jobs and their tables: a floor with start, goals and settings, and a table that is good or spoiled.
 
 use super::dice::Dice;
 use super::floors;
 use super::slow;
-use crate::checks::{Job, CEILING, MOST_QUOTA};
+use crate::checks::{Goals, Job, CEILING, MOST_QUOTA};
 use crate::floor::{is_free_byte, Floor, SLOW};
 use crate::opening::{self, distances, NO_WAY};
 use crate::trial::Cart;
@@ -13,13 +13,14 @@ pub struct Kit {
     pub height: usize,
     pub floor: Vec<u8>,
     pub start: usize,
-    pub goal: usize,
+    /// Rising; at least one.
+    pub goals: Vec<usize>,
     pub depth: u64,
     pub p: u64,
     pub q: u64,
     pub quota: u64,
     pub trials: u64,
-    /// The true distance of each cell to the goal.
+    /// The true distance of each cell to the nearest goal.
     pub distance: Vec<u32>,
     pub table: Vec<u32>,
 }
@@ -35,6 +36,8 @@ pub enum TableKind {
     NearCeiling,
     /// Small figures without sense, which an opening seldom takes but a decision does.
     Rough,
+    /// The true figures for one goal alone: too high where another is nearer.
+    OneGoals,
 }
 
 impl Kit {
@@ -46,12 +49,34 @@ impl Kit {
         Job {
             width: self.width as u64,
             height: self.height as u64,
-            goal: self.goal as u64,
+            goals: self.goals_as_told(),
             depth: self.depth,
             p: self.p,
             q: self.q,
             quota: self.quota,
             floor: &self.floor,
+        }
+    }
+
+    pub fn goals_as_told(&self) -> Goals {
+        let goals: Vec<u64> = self.goals.iter().map(|&goal| goal as u64).collect();
+        Goals::named(&goals)
+    }
+
+    /// Gives the kit other goals, in any order, and with them its distances.
+    pub fn set_goals(&mut self, mut goals: Vec<usize>) {
+        goals.sort_unstable();
+        goals.dedup();
+        self.distance = distances(&Floor::new(self.width, self.height, &self.floor), &goals);
+        self.goals = goals;
+    }
+
+    /// Leaves the kit one goal, for `aisle`: one that is nearest to the start.
+    pub fn keep_nearest_goal(&mut self) {
+        let floor = Floor::new(self.width, self.height, &self.floor);
+        let distance = |&goal: &usize| distances(&floor, &[goal])[self.start];
+        if let Some(nearest) = self.goals.iter().copied().min_by_key(distance) {
+            self.set_goals(vec![nearest]);
         }
     }
 
@@ -74,7 +99,7 @@ impl Kit {
     }
 
     pub fn opening_figure(&self, cell: usize) -> u32 {
-        opening::opening_figure(self.width, cell, self.goal, self.q as u32)
+        opening::opening_figure(self.width, cell, &self.goals, self.q as u32)
     }
 
     pub fn true_figure(&self, cell: usize) -> Option<u32> {
@@ -93,6 +118,7 @@ impl Kit {
             TableKind::AboveCeiling => self.table_above_ceiling(dice),
             TableKind::NearCeiling => self.table_near_ceiling(dice),
             TableKind::Rough => self.rough_table(dice),
+            TableKind::OneGoals => self.one_goals_table(dice),
         };
     }
 
@@ -119,7 +145,7 @@ impl Kit {
         table
     }
 
-    /// Any figure up to the true one; where the goal can't be reached, anything up to the ceiling.
+    /// Any figure up to the true one; where no goal can be reached, anything up to the ceiling.
     fn sound_table(&self, dice: &mut Dice) -> Vec<u32> {
         let style = dice.below(3);
         (0..self.cells())
@@ -173,6 +199,17 @@ impl Kit {
         let most = self.p * dice.pick(&[10, 40, 120]);
         (0..self.cells()).map(|_| dice.from_to(0, most) as u32).collect()
     }
+
+    /// As it is learned before the other goals open.
+    fn one_goals_table(&self, dice: &mut Dice) -> Vec<u32> {
+        let goal = dice.pick(&self.goals);
+        let distance = distances(&Floor::new(self.width, self.height, &self.floor), &[goal]);
+        let figure = |cell: usize| match distance[cell] {
+            NO_WAY => self.opening_figure(cell),
+            distance => distance * self.q as u32,
+        };
+        (0..self.cells()).map(figure).collect()
+    }
 }
 
 pub fn settings_depth(dice: &mut Dice) -> u64 {
@@ -208,7 +245,7 @@ pub fn settings_quota(dice: &mut Dice) -> u64 {
     }
 }
 
-/// A job with start and goal free where the floor has free cells, and a table of any kind.
+/// A job with start and goals free where the floor has free cells, and a table of any kind.
 pub fn kit(dice: &mut Dice) -> Kit {
     let (width, height) = floors::sizes(dice);
     kit_on(any_floor(width, height, dice), width, height, dice)
@@ -222,7 +259,7 @@ fn any_floor(width: usize, height: usize, dice: &mut Dice) -> Vec<u8> {
     floor
 }
 
-/// A job whose trials take some decisions: a larger floor, a start far from the goal, mostly a short lookahead.
+/// A job whose trials take some decisions: a larger floor, a start far from all goals, mostly a short lookahead.
 pub fn long_kit(dice: &mut Dice) -> Kit {
     let (width, height) = floors::larger_sizes(dice);
     let mut kit = kit_on(any_floor(width, height, dice), width, height, dice);
@@ -242,6 +279,11 @@ pub fn long_kit(dice: &mut Dice) -> Kit {
     kit
 }
 
+/// Mostly one goal, in four of ten jobs several.
+fn how_many_goals(dice: &mut Dice) -> usize {
+    1 + dice.weighted(&[60, 20, 10, 10])
+}
+
 /// A job on a given floor.
 pub fn kit_on(floor: Vec<u8>, width: usize, height: usize, dice: &mut Dice) -> Kit {
     let (p, q) = settings_weight(dice);
@@ -250,7 +292,7 @@ pub fn kit_on(floor: Vec<u8>, width: usize, height: usize, dice: &mut Dice) -> K
         height,
         floor,
         start: 0,
-        goal: 0,
+        goals: vec![0],
         depth: settings_depth(dice),
         p,
         q,
@@ -263,8 +305,8 @@ pub fn kit_on(floor: Vec<u8>, width: usize, height: usize, dice: &mut Dice) -> K
     if free.is_empty() {
         kit.distance = vec![NO_WAY; kit.cells()];
     } else {
-        kit.goal = kit.often_slow(&free, dice);
-        kit.distance = distances(&Floor::new(width, height, &kit.floor), kit.goal);
+        let count = how_many_goals(dice);
+        kit.set_goals((0..count).map(|_| kit.often_slow(&free, dice)).collect());
         let (reached, cut_off): (Vec<usize>, Vec<usize>) =
             free.iter().partition(|&&cell| kit.distance[cell] != NO_WAY);
         let starts = if !cut_off.is_empty() && dice.chance(25) { cut_off } else { reached };
@@ -278,8 +320,9 @@ pub fn kit_on(floor: Vec<u8>, width: usize, height: usize, dice: &mut Dice) -> K
         TableKind::AboveTruth,
         TableKind::AboveCeiling,
         TableKind::NearCeiling,
+        TableKind::OneGoals,
     ];
-    let mut kind = kinds[dice.weighted(&[30, 32, 18, 6, 6, 4, 4])];
+    let mut kind = kinds[dice.weighted(&[29, 30, 18, 6, 6, 4, 4, 3])];
     // No way and an unsound table at once: which is told?
     if kit.true_figure(kit.start).is_none() && dice.chance(30) {
         kind = TableKind::AboveTruth;

@@ -102,7 +102,7 @@ pub fn made_up_state(kit: &mut Kit, path: &mut [u16], dice: &mut Dice) -> State 
     for _ in 0..dice.pick(&[0, 1, 1, 2, 3, 8, 40]) {
         let cell = if dice.chance(60) { near(kit, current, dice) } else { dice.pick(&free) };
         let used = path[..length].iter().any(|&other| usize::from(other) == cell);
-        if is_free_byte(kit.floor[cell]) && cell != kit.goal && cell != current && !used {
+        if is_free_byte(kit.floor[cell]) && !kit.goals.contains(&cell) && cell != current && !used {
             path[length] = cell as u16;
             length += 1;
         }

@@ -37,17 +37,23 @@ impl Woven {
     }
 }
 
-/// A job with such a leg in its first trials, gone forward or gone back, if one is found in time.
+/// A job of one goal with such a leg in its first trials, gone forward or gone back, if one is found in time.
 pub fn kit(dice: &mut Dice) -> Kit {
     let back = dice.chance(50);
-    let mut kit = littered_kit(back, dice);
+    let mut kit = one_goal_kit(back, dice);
     for _ in 0..1_000 {
         let Woven { forward, back: gone_back } = woven_legs(&kit);
         if back && gone_back || !back && forward {
             break;
         }
-        kit = littered_kit(back, dice);
+        kit = one_goal_kit(back, dice);
     }
+    kit
+}
+
+fn one_goal_kit(backs_out: bool, dice: &mut Dice) -> Kit {
+    let mut kit = littered_kit(backs_out, dice);
+    kit.keep_nearest_goal();
     kit
 }
 

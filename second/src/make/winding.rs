@@ -9,7 +9,6 @@ use super::weaving;
 use crate::decision::State;
 use crate::floor::Floor;
 use crate::lookahead::Window;
-use crate::opening::distances;
 
 #[derive(Clone, Copy, PartialEq, Eq)]
 enum Wish {
@@ -48,7 +47,7 @@ fn search(wish: Wish, dice: &mut Dice) -> (Kit, State, Option<u16>) {
         }
         let from = dice.pick(&kit.free_cells());
         let floor = Floor::new(kit.width, kit.height, &kit.floor);
-        if from == kit.goal || !window.look(&floor, from, kit.goal, kit.depth as usize) {
+        if kit.goals.contains(&from) || !window.look(&floor, from, &kit.goals, kit.depth as usize) {
             continue;
         }
         let mixed = if wish == Wish::MixedMoves { mixed_moves(&floor, &window) } else { Vec::new() };
@@ -71,10 +70,10 @@ fn bent(dice: &mut Dice) -> (Kit, State, Option<u16>) {
     kit.depth = if dice.chance(70) { bend.depth } else { dice.from_to(3, 8) };
     let floor = Floor::new(kit.width, kit.height, &kit.floor);
     let mut window = Window::new();
-    let looked = kit.goal != bend.start && window.look(&floor, bend.start, kit.goal, kit.depth as usize);
+    let looked =
+        !kit.goals.contains(&bend.start) && window.look(&floor, bend.start, &kit.goals, kit.depth as usize);
     if !looked || !window.on_last_ring(bend.end) {
-        kit.goal = bend.end;
-        kit.distance = distances(&floor, kit.goal);
+        kit.set_goals(vec![bend.end]);
     }
     point_at(kit, bend.start, bend.end, dice)
 }
@@ -159,7 +158,7 @@ fn cost_in_fewest_moves(floor: &Floor, window: &Window, target: usize) -> u32 {
 /// A table that makes this target the least of its ring, or a path that leads back along its route.
 fn point_at(mut kit: Kit, from: usize, target: usize, dice: &mut Dice) -> (Kit, State, Option<u16>) {
     kit.set_table(TableKind::Rough, dice);
-    if target != kit.goal && dice.chance(40) {
+    if !kit.goals.contains(&target) && dice.chance(40) {
         kit.table[target] = 0;
         kit.quota = 0;
         return (kit, State { current: target as u64, u: 0, length: 1 }, Some(from as u16));

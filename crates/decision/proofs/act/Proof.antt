@@ -3,7 +3,7 @@
 use mathlib.Core.Path.{sym, _∙_}
 use borrow.Author.Needs.{needs}
 use Rattle.lookahead.proofs.Fresh.{renewed}
-use Rattle.decision.proofs.Acting.{goal-here, goal-away, asked, act-here, acts-as, acts-arrived}
+use Rattle.decision.proofs.Acting.{asked, act-here, acts-as, acts-arrived}
 use Rattle.decision.proofs.act.Statement.{statement}
 use Rattle.decision.proofs.act.Tie as tie
 
@@ -17,7 +17,7 @@ returns : tie.Need-returns
 returns c =
     let tested = c .before in
     let start = start-of tested in (
-      acts-as (act-here _ _ _ _ _ (start .pre .0 .here) (goal-here _ _ (sym (tested .is-goal .ensures) ∙ c .if1 .taken))) (acts-arrived _ _ _ _ _ _),
+      acts-as (act-here _ _ _ _ _ (start .pre .0 .here) (sym (tested .is-goal .ensures) ∙ c .if1 .taken)) (acts-arrived _ _ _ _ _ _),
       record { used = start .pre .1 .0; places = start .pre .1 .1; shown = record { window = tt } },
     )
 
@@ -30,7 +30,7 @@ go-requires c κs =
     let start = start-of tested in (
       start .pre .0,
       (
-        asked (start .pre .0) (goal-away _ _ (sym (tested .is-goal .ensures) ∙ at-if1 .if1 .left)),
+        asked (start .pre .0) (sym (tested .is-goal .ensures) ∙ at-if1 .if1 .left),
         (renewed (start .pre .1 .0) (at-renew .renew .ensures), start .pre .1 .1),
       ),
     )

@@ -1,8 +1,9 @@
 -- `lookahead::look` meets its contract: the rings' marks and the relaxed costs are the model's window, or a ring is empty.
 -- Assumes nothing.
+use native.Mathlib.Omega.{arith}
 use borrow.Author.Needs.{needs}
-use Rattle.model.proofs.Moves.{free-few}
-use Rattle.model.specs.Checks.{floorOf}
+use Rattle.model.proofs.Moves.{sized-cells}
+use Rattle.model.specs.Checks.{floorOf, goals}
 use Rattle.lookahead.proofs.Meaning.{looked, blocked}
 use Rattle.lookahead.proofs.Seeing.{framed-costs, framed-listing, framed-noted}
 use Rattle.lookahead.specs.Marks.{state}
@@ -27,7 +28,7 @@ framed : (c : tie.After-last) →
     let marked = cost .before .before .before in
     let a = to-start marked .args in
     let z = marked .rings .last .1 .1 .1 .1 .1 .1 .1 in
-    Framed (floorOf (a .job) (a .floor .now)) (a .s) (a .job .goal) (a .job .depth) (a .base) (c .last .given .0 .0) (state (z .0) (z .1 .0) (z .1 .1 .0) (c .last .given .0 .1 .0))
+    Framed (floorOf (a .job) (a .floor .now)) (a .s) (goals (a .job)) (a .job .depth) (a .base) (c .last .given .0 .0) (state (z .0) (z .1 .0) (z .1 .1 .0) (c .last .given .0 .1 .0))
 framed c =
     let cost = c .before .before .before .before .before in
     let marked = cost .before .before .before in
@@ -38,7 +39,7 @@ rings-requires c κs =
     let after-shared-slice-known = c .before .before .before .before .before .before in
     let a = after-shared-slice-known .before in
     let q = a .pre .0 in
-    (q .sized, (q .start, ((free-few (floorOf (a .args .job) (a .args .floor .now)) (a .args .job .goal) (q .sized) (q .bench), q .apart), ((q .shallow, q .deep), a .pre .1))))
+    (q .sized, (q .start, ((λ i h. omega (arith, q .benches .on i h, sized-cells (q .sized)), q .apart), ((q .shallow, q .deep), a .pre .1))))
 
 relax-requires : tie.Need-relax-requires
 relax-requires c κs =
@@ -47,10 +48,10 @@ relax-requires c κs =
     let g = floorOf (a .args .job) (a .args .floor .now) in (
       a .pre .0 .sized,
       (
-        framed-costs g _ (a .args .job .goal) (a .args .job .depth) _ _ _ F (a .pre .0 .deep),
+        framed-costs g _ (goals (a .args .job)) (a .args .job .depth) _ _ _ F (a .pre .0 .deep),
         (
-          framed-listing g _ (a .args .job .goal) (a .args .job .depth) _ _ _ F (a .pre .0 .deep),
-          framed-noted g _ (a .args .job .goal) (a .args .job .depth) _ _ _ F (a .pre .0 .deep),
+          framed-listing g _ (goals (a .args .job)) (a .args .job .depth) _ _ _ F (a .pre .0 .deep),
+          framed-noted g _ (goals (a .args .job)) (a .args .job .depth) _ _ _ F (a .pre .0 .deep),
         ),
       ),
     )

@@ -14,7 +14,7 @@ returns c = fills-refused _ _ _ _ (c .before .before .open-table .ensures) (c .e
 fill-figures-requires : tie.Need-fill-figures-requires
 fill-figures-requires c κs =
     let o = openable _ _ _ _ (sym (c .before .before .before .open-table .ensures) ∙ c .before .enum-told .given .1) in
-    (o .sized .wide, o .sized .narrow, o .sized .low, omega (arith, o .scale), o .bench, o .cells)
+    (o .sized .wide, o .sized .narrow, o .sized .low, omega (arith, o .scale), o .benches, o .cells)
 
 returns-2 : tie.Need-returns-2
 returns-2 c =

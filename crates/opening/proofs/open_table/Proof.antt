@@ -1,11 +1,31 @@
 -- `opening::open_table` meets its contract: one check after another.
 -- Assumes nothing.
 use Rattle.model.proofs.Accepted.{then-stops, then-goes, sizes-judges}
+use Rattle.model.specs.Basics.{then}
+use Rattle.model.specs.Checks.{sizes, scale}
 use Rattle.model.specs.Opening.{openTable}
+use Rattle.answers.specs.declared.Verdict.{Verdict}
+use Rattle.floor.specs.Moves.{flat}
 use borrow.Author.Needs.{needs}
-use mathlib.Core.Path.{sym, _∙_}
+use denote.Ref.{now}
+use mathlib.Core.Path.{_≡_, sym, _∙_}
 use Rattle.opening.proofs.open_table.Statement.{statement}
 use Rattle.opening.proofs.open_table.Tie as tie
+
+-- the places: at the start, and once the sizes hold
+abbrev at-start : tie.After-enum-told → tie.Start
+at-start e = e .before .before .before .before
+
+abbrev at-sized : tie.After-enum-told3 → tie.After-enum-told
+at-sized e = e .before .before .before
+
+-- an answer that is what the rest says is what the checks passed and the rest say
+past-sized : (e : tie.After-enum-told) {r w : Verdict} → r ≡ w → let a = at-start e .args in r ≡ then (sizes (flat (a .width) (a .height) (now (a .floor))) (a .figures)) w
+past-sized e = then-goes _ (e .before .before .sizes .ensures) (e .enum-told .given .1)
+
+past-scale : (e : tie.After-enum-told3) {r w : Verdict} → r ≡ w → let a = at-start (at-sized e) .args in
+    r ≡ then (sizes (flat (a .width) (a .height) (now (a .floor))) (a .figures)) (then (scale (a .q)) w)
+past-scale e g = past-sized (at-sized e) (then-goes _ (e .before .before .scale .ensures) (e .enum-told3 .given .1) g)
 
 returns : tie.Need-returns
 unfolding openTable
@@ -13,18 +33,20 @@ returns c = then-stops _ (c .before .before .sizes .ensures) (c .enum-told2 .giv
 
 returns-2 : tie.Need-returns-2
 unfolding openTable
-returns-2 c =
-    then-goes _ (c .before .before .before .before .before .sizes .ensures) (c .before .before .before .enum-told .given .1)
-    (then-stops _ (c .before .before .scale .ensures) (c .enum-told4 .given .1))
+returns-2 c = past-sized (c .before .before .before) (then-stops _ (c .before .before .scale .ensures) (c .enum-told4 .given .1))
 
-bench-requires : tie.Need-bench-requires
-bench-requires c κs = sizes-judges _ _ .gives (sym (c .before .before .before .before .before .sizes .ensures) ∙ c .before .before .before .enum-told .given .1) .0
+benches-requires : tie.Need-benches-requires
+benches-requires c κs = let s = at-sized c in sizes-judges _ _ .gives (sym (s .before .before .sizes .ensures) ∙ s .enum-told .given .1) .0
 
 returns-3 : tie.Need-returns-3
 unfolding openTable
-returns-3 c =
-    then-goes _ (c .before .before .before .before .before .before .sizes .ensures) (c .before .before .before .before .enum-told .given .1)
-    (then-goes _ (c .before .before .before .scale .ensures) (c .before .enum-told3 .given .1) (c .bench .ensures))
+returns-3 c = past-scale (c .before .before .before) (then-stops _ (c .before .before .benches .ensures) (c .enum-told6 .given .1))
+
+returns-4 : tie.Need-returns-4
+unfolding openTable
+returns-4 c =
+    let b = c .before in
+    past-scale (b .before .before .before) (then-goes _ (b .before .before .benches .ensures) (b .enum-told5 .given .1) (c .goals-hold .ensures))
 
 pub open-table-spec : {M : Type 1} → statement M
 open-table-spec =
@@ -38,5 +60,9 @@ open-table-spec =
     (λ c. search needs)
     (λ c. search needs)
     returns-2
-    bench-requires
-    returns-3)
+    benches-requires
+    (λ c. search needs)
+    (λ c. search needs)
+    returns-3
+    (λ c κs. search needs)
+    returns-4)

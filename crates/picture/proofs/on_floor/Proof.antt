@@ -24,6 +24,7 @@ on-floor-spec =
     (λ c κs. search needs)
     (λ c κs. search needs)
     (λ c κs. search needs)
+    (λ c κs. search needs)
     (λ c. search needs)
     slice-aggregate-opened
     (λ c. search needs)

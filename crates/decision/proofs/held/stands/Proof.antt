@@ -6,7 +6,7 @@ use borrow.Author.Needs.{needs}
 use borrow.Author.Tests.{not-true, not-false}
 use Rattle.model.proofs.Accepted.{never}
 use Rattle.model.proofs.Moves.{free-few}
-use Rattle.decision.proofs.Acting.{goal-here, goal-away}
+use Rattle.model.proofs.Accepted.{never}
 use Rattle.decision.proofs.Noting.{stands-unfair, stands-again, stands-new}
 use Rattle.decision.proofs.held.stands.Statement.{statement}
 use Rattle.decision.proofs.held.stands.Tie as tie
@@ -15,7 +15,7 @@ returns : tie.Need-returns
 returns c = stands-unfair _ _ (c .before .before .wide16 .ensures .0) (λ f. never (f .free) (sym (c .before .is-free .ensures) ∙ not-true _ (c .if1 .taken)))
 
 returns-2 : tie.Need-returns-2
-returns-2 c = stands-unfair _ _ (c .before .before .before .before .wide16 .ensures .0) (λ f. f .away (goal-here _ _ (sym (c .before .is-goal .ensures) ∙ c .if2 .taken)))
+returns-2 c = stands-unfair _ _ (c .before .before .before .before .wide16 .ensures .0) (λ f. never (sym (c .before .is-goal .ensures) ∙ c .if2 .taken) (f .away))
 
 returns-3 : tie.Need-returns-3
 returns-3 c = stands-unfair _ _ (c .before .before .before .before .before .wide16 .ensures .0) (λ f. f .other (c .if3 .taken))
@@ -52,7 +52,7 @@ returns-5 c =
     let start = at-wide16 .before .before .before .before .before in
     let free = sym (at-is-free .is-free .ensures) ∙ not-false _ (at-if1 .if1 .left) in
     stands-new _ _ (at-wide16 .wide16 .ensures .0) (start .pre .1 .1) (sym (at-noted .noted .ensures) ∙ c .if4 .left) (free-few _ _ (start .pre .0) free)
-    (record { free = free; away = goal-away _ _ (sym (at-if2 .before .is-goal .ensures) ∙ at-if2 .if2 .left); other = at-if3 .if3 .left })
+    (record { free = free; away = sym (at-if2 .before .is-goal .ensures) ∙ at-if2 .if2 .left; other = at-if3 .if3 .left })
 
 pub stands-spec : {M : Type 1} → statement M
 stands-spec =

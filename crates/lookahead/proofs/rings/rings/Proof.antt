@@ -1,25 +1,27 @@
--- `lookahead::rings::rings` meets its contract. The loop's invariant: rings 0 to r are marked, none is empty, and the goal is in none of them.
+-- `lookahead::rings::rings` meets its contract. The loop's invariant: rings 0 to r are marked, none is empty, and no goal is in one of them.
 -- Assumes nothing.
 use Prim.Native.Nat.{_+_, _-_, _≤_, _<_}
 use mathlib.Core.Path.{_≡_, sym, _∙_, subst}
 use native.Mathlib.Omega.{arith}
 use borrow.Author.Tests.{leb-true, leb-false}
-use lib.ListN.{length, getD}
+use lib.ListN.{length}
 use Rattle.model.proofs.Moves.{free-few}
+use Rattle.model.specs.Floor.{goalsOf}
+use Rattle.model.proofs.Lists.{any-some, any-fails}
 use Rattle.floor.specs.Moves.{flat}
-use Rattle.lookahead.proofs.Levels.{level-begin, full-begin, begin-other, level-segment, level-next, full-next, level-framed, next-blocked, next-framed}
-use Rattle.lookahead.specs.Marks.{State, state, markOf}
-use Rattle.lookahead.specs.Rings.{Level, Full}
+use Rattle.lookahead.proofs.Levels.{level-begin, full-begin, begin-unmet, level-segment, level-next, full-next, level-framed, next-blocked, next-framed}
+use Rattle.lookahead.specs.Marks.{State, state}
+use Rattle.lookahead.specs.Rings.{Level, Full, Unmet}
 use Rattle.lookahead.proofs.rings.rings.Statement.{statement}
 use Rattle.lookahead.proofs.rings.rings.Tie as tie
 
 abbrev Inv-loop : tie.InvT-loop
-Inv-loop width height floor s goal depth base mark₀ cost₀ list₀ from₀ to₀ r₀ k₀ mark cost list from to r k =
-    (r ≤ depth) × (from < to) × (getD mark goal 0 < base) × (k ≡ base + r) × Full base k (state mark cost list to)
+Inv-loop width height floor s goals depth base mark₀ cost₀ list₀ from₀ to₀ r₀ k₀ mark cost list from to r k =
+    (r ≤ depth) × (from < to) × Unmet (goalsOf goals) base (state mark cost list to) × (k ≡ base + r) × Full base k (state mark cost list to)
     × Level (flat width height floor) s base k from (state mark cost list to)
 
 abbrev μ-loop : tie.MeasureT-loop
-μ-loop width height floor s goal depth base mark₀ cost₀ list₀ from₀ to₀ r₀ k₀ mark cost list from to r k = depth - r
+μ-loop width height floor s goals depth base mark₀ cost₀ list₀ from₀ to₀ r₀ k₀ mark cost list from to r k = depth - r
 
 -- the call's start, from where s is marked and from the loop
 abbrev to-start : tie.After-begin Inv-loop μ-loop → tie.Start Inv-loop μ-loop
@@ -76,7 +78,7 @@ loop-holds c =
     let g = flat (a .args .width) (a .args .height) (a .args .floor .now) in (
       omega arith,
       omega arith,
-      subst (λ (S : State). markOf S (a .args .goal) < a .args .base) (sym e) (begin-other g _ _ _ _ _ (a .pre .1 .0) (few a) p _ (a .pre .1 .1 .0 .1)),
+      subst (λ (S : State). Unmet (goalsOf (a .args .goals)) (a .args .base) S) (sym e) (begin-unmet g _ _ _ _ _ (a .pre .1 .0) (few a) p _ (a .pre .1 .1 .0 .1)),
       omega arith,
       subst (λ (S : State). Full (a .args .base) (a .args .base) S) (sym e) (full-begin g _ _ _ _ _ (a .pre .1 .0) (few a) p),
       subst (λ (S : State). Level g (a .args .s) (a .args .base) (a .args .base) 0 S) (sym e) (level-begin g _ _ _ _ _ (a .pre .1 .0) (few a) p),
@@ -106,15 +108,16 @@ returns c =
 goal-marked-requires : tie.Need-goal-marked-requires Inv-loop μ-loop
 goal-marked-requires c κs =
     let marked = marking (c .before .before .before) in
-    omega (arith, next marked .room .sizes .marks, start (turn marked) .pre .1 .1 .0 .0)
+    (start (turn marked) .pre .1 .1 .0 .0, next marked .room .sizes .marks)
 
 returns-2 : tie.Need-returns-2 Inv-loop μ-loop
 returns-2 c =
     let tested = c .before in
     let marked = marking (tested .before .before .before .before) in
     let l = turn marked .loop in
+    let (g, m, t) = any-some _ _ (sym (tested .goal-marked .ensures) ∙ c .if2 .taken) in
     next-framed _ (start (turn marked) .pre .0) _ _ _ _ _ _ _ _ (l .inv .5) (l .inv .3) (l .inv .2) (l .inv .4) _ (marked .spread .ensures) (omega arith)
-    (omega (arith, next marked .spread .upto, tested .before .before .if1 .left)) (leb-true _ _ (sym (tested .goal-marked .ensures) ∙ c .if2 .taken))
+    (omega (arith, next marked .spread .upto, tested .before .before .if1 .left)) g m (leb-true _ _ t)
 
 loop-again : tie.Need-loop-again Inv-loop μ-loop
 loop-again c =
@@ -125,7 +128,7 @@ loop-again c =
     let h : l .to < marked .spread .result = omega (arith, n .spread .upto, tested .before .before .if1 .left) in (
       omega arith,
       h,
-      leb-false _ _ (sym (tested .goal-marked .ensures) ∙ c .if2 .left),
+      λ g m. leb-false _ _ (any-fails _ _ (sym (tested .goal-marked .ensures) ∙ c .if2 .left) g m),
       omega (arith, l .inv .3),
       full-next _ (start (turn marked) .pre .0) _ _ _ _ _ (l .inv .5) _ (marked .spread .ensures) h (l .inv .4),
       n,

@@ -1,9 +1,11 @@
--- `opening::search::spread_slow` meets its contract. The invariant is `Held`; the places pass each cell once, which bounds the steps.
+-- `opening::search::spread_slow` meets its contract. The invariant is `Held`, of whatever goals it began with; the places pass each cell once, which bounds the steps.
 -- Assumes nothing.
+use mathlib.Core.List.{List}
+use Prim.Native.Nat.{ℕ}
 use Rattle.model.specs.Floor.{goalsOf}
 use Rattle.floor.specs.Moves.{flat}
 use Rattle.floor.proofs.Steps.{kind-fits}
-use Rattle.opening.proofs.Held.{held-readable, held-offered, held-one, held-none, held-next, step-follow, step-move, held-step, held-done}
+use Rattle.opening.proofs.Held.{held-same, held-readable, held-offered, held-one, held-none, held-next, step-follow, step-move, held-step, held-done}
 use Rattle.opening.specs.Search.{Next}
 use Rattle.opening.specs.Chain.{distAt, Held}
 use borrow.Author.Needs.{needs}
@@ -13,14 +15,15 @@ use Rattle.opening.proofs.search.spread_slow.Statement.{statement}
 use Rattle.opening.proofs.search.spread_slow.Tie as tie
 
 abbrev Inv-loop : tie.InvT-loop
-Inv-loop width height floor goal steps places₀ list₀ last₀ left₀ places list last left = Held (flat width height floor) (goalsOf goal) list last places left
+Inv-loop width height floor steps places₀ list₀ last₀ left₀ places list last left =
+    let f = flat width height floor in (gs : List ℕ) → Held f gs list₀ last₀ places₀ left₀ → Held f gs list last places left
 
 abbrev μ-loop : tie.MeasureT-loop
-μ-loop width height floor goal steps places₀ list₀ last₀ left₀ places list last left = left
+μ-loop width height floor steps places₀ list₀ last₀ left₀ places list last left = left
 
 -- the places: the start, from the loop; the loop, from the least offer; the least offer, from what it comes to
 abbrev at-start : tie.At-loop Inv-loop μ-loop → tie.Start Inv-loop μ-loop
-at-start c = c .before .before .before .before
+at-start c = c .before .before .before .before .before
 
 abbrev looping : tie.After-least Inv-loop μ-loop → tie.At-loop Inv-loop μ-loop
 looping c = c .before .before .before .before
@@ -28,25 +31,32 @@ looping c = c .before .before .before .before
 abbrev asked : tie.After-offer Inv-loop μ-loop → tie.After-least Inv-loop μ-loop
 asked c = c .before .before .before .before
 
+-- what a turn holds of some goals; and of those of the job
+abbrev HeldOf : tie.At-loop Inv-loop μ-loop → List ℕ → Type 0
+HeldOf c gs = let a = at-start c .args in Held (flat (a .width) (a .height) (a .floor .now)) gs (c .loop .list) (c .loop .last) (c .loop .places) (c .loop .left)
+
+held : (c : tie.At-loop Inv-loop μ-loop) → HeldOf c (goalsOf (at-start c .args .goals))
+held c = c .loop .inv _ (held-same (at-start c .pre .0) (c .before .last-goal .ensures))
+
 -- the step to take
-chosen : (c : tie.After-offer Inv-loop μ-loop) → let s = asked c in let l = looping s in let a = at-start l .args in
-    Next (flat (a .width) (a .height) (a .floor .now)) (distAt (l .loop .list)) (l .loop .inv .q) (l .loop .inv .n) (l .loop .inv .p) (s .least .result) (c .offer .result)
-chosen c =
-    let s = asked c in
-    held-next (looping s .loop .inv) (s .least .ensures) (c .offer .ensures) (c .before .before .if1 .left)
+chosen : (c : tie.After-offer Inv-loop μ-loop) {gs : List ℕ} (H : HeldOf (looping (asked c)) gs) → let s = asked c in let l = looping s in let a = at-start l .args in
+    Next (flat (a .width) (a .height) (a .floor .now)) (distAt (l .loop .list)) (H .q) (H .n) (H .p) (s .least .result) (c .offer .result)
+chosen c H = let s = asked c in held-next H (s .least .ensures) (c .offer .ensures) (c .before .before .if1 .left)
 
 move-on-requires : tie.Need-move-on-requires Inv-loop μ-loop
 move-on-requires c κs =
     let e = c .before .before .before .before in
     let o = e .before .before in
-    step-move (looping (asked o) .loop .inv) (chosen o) (e .follow-slow .ensures)
+    let H = held (looping (asked o)) in
+    step-move H (chosen o H) (e .follow-slow .ensures)
 
 loop-again : tie.Need-loop-again Inv-loop μ-loop
-loop-again c =
+loop-again c gs begun =
     let m = c .before .before in
     let g = m .before .before .before .before .before in
     let o = g .before .before in
-    held-step (looping (asked o) .loop .inv) (chosen o) (g .follow-slow .ensures) (m .move-on .ensures)
+    let H = looping (asked o) .loop .inv gs begun in
+    held-step H (chosen o H) (g .follow-slow .ensures) (m .move-on .ensures)
 
 pub spread-slow-spec : {M : Type 1} → statement M
 spread-slow-spec =
@@ -54,19 +64,20 @@ spread-slow-spec =
     (tie.spec
     Inv-loop
     μ-loop
-    (λ c. c .before .before .before .pre)
-    (λ c κs. held-offered (c .before .before .before .loop .inv))
-    (λ c. let H = looping c .loop .inv in record { fits = omega (arith, c .least .ensures .one, held-offered H .few) })
+    (λ c κs. c .before .before .before .pre .1)
+    (λ c gs begun. begun)
+    (λ c κs. held-offered (held (c .before .before .before)))
+    (λ c. let H = held (looping c) in record { fits = omega (arith, c .least .ensures .one, held-offered H .few) })
     (λ c. c .before .least .ensures .one)
-    (λ c. let l = looping (c .before .before) in l .loop .inv .whole ∙ sym (at-start l .pre .whole))
-    (λ c. let l = looping (c .before .before) in l .loop .inv .long ∙ sym (at-start l .pre .long))
-    (λ c. let s = c .before .before in held-none (looping s .loop .inv) (s .least .ensures) (c .if1 .taken))
-    (λ c κs. let s = c .before .before .before in let H = looping s .loop .inv in let h = held-one H (s .least .ensures) in (held-readable H _ h, kind-fits _ _ h))
-    (λ c κs. let o = c .before in step-follow (looping (asked o) .loop .inv) (chosen o))
+    (λ c. let l = looping (c .before .before) in held l .whole ∙ sym (at-start l .pre .0 .whole))
+    (λ c. let l = looping (c .before .before) in held l .long ∙ sym (at-start l .pre .0 .long))
+    (λ c. let s = c .before .before in held-none (held (looping s)) (s .least .ensures) (c .if1 .taken))
+    (λ c κs. let s = c .before .before .before in let H = held (looping s) in let h = held-one H (s .least .ensures) in (held-readable H _ h, kind-fits _ _ h))
+    (λ c κs. let o = c .before in let H = held (looping (asked o)) in step-follow H (chosen o H))
     move-on-requires
     (λ c. search needs)
     (λ c. omega arith)
     loop-again
-    (λ c. c .before .loop .inv .whole ∙ sym (at-start (c .before) .pre .whole))
-    (λ c. c .before .loop .inv .long ∙ sym (at-start (c .before) .pre .long))
-    (λ c. held-done (c .before .loop .inv) (c .loop-test .left)))
+    (λ c. held (c .before) .whole ∙ sym (at-start (c .before) .pre .0 .whole))
+    (λ c. held (c .before) .long ∙ sym (at-start (c .before) .pre .0 .long))
+    (λ c. held-done (held (c .before)) (c .loop-test .left)))

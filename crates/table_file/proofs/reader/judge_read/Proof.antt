@@ -9,10 +9,10 @@ use Rattle.model.specs.Basics.{then}
 use Rattle.model.specs.Opening.{openTable}
 use Rattle.model.specs.TableFile.{trailerHolds, checkTrailer, readVerdict}
 use Rattle.model.proofs.Accepted.{then-refused, then-stops, then-goes}
-use Rattle.model.proofs.Files.{trailer-gives, check-done, check-refused}
-use Rattle.table_file.specs.Site.{floorAt, goalsAt}
-use Rattle.table_file.proofs.Reading.{opened, records-long, judged-by}
+use Rattle.table_file.specs.Site.{floorAt}
+use Rattle.table_file.proofs.Reading.{opened, points, check-done, check-refused, records-long, judged-by}
 use borrow.Author.Needs.{needs}
+use native.Mathlib.Omega.{arith}
 use Rattle.table_file.proofs.reader.judge_read.Statement.{statement}
 use Rattle.table_file.proofs.reader.judge_read.Tie as tie
 
@@ -30,11 +30,11 @@ holds : (e : tie.Else1) → trailerHolds (now (at-start (at-opened e) .args .fil
 holds e = sym (e .before .trailer-holds .ensures) ∙ not-false _ (e .if1 .left)
 
 past-opened : (e : tie.After-enum-told) {r w : Verdict} → r ≡ w → let a = at-start e .args in
-    r ≡ then (openTable (floorAt (a .site) (now (a .floor))) (a .site .q) (goalsAt (a .site)) (a .figures)) w
+    r ≡ then (openTable (floorAt (a .site) (now (a .floor))) (a .site .q) (a .site .goals) (a .figures)) w
 past-opened e = then-goes _ (e .before .before .open-table .ensures) (e .enum-told .given .1)
 
 past-trailer : (e : tie.Else1) {r w : Verdict} → r ≡ w → let a = at-start (at-opened e) .args in
-    r ≡ then (openTable (floorAt (a .site) (now (a .floor))) (a .site .q) (goalsAt (a .site)) (a .figures)) (then (checkTrailer (now (a .file))) w)
+    r ≡ then (openTable (floorAt (a .site) (now (a .floor))) (a .site .q) (a .site .goals) (a .figures)) (then (checkTrailer (now (a .file))) w)
 past-trailer e g = past-opened (at-opened e) (then-goes _ refl (check-done _ (holds e)) g)
 
 returns : tie.Need-returns
@@ -47,17 +47,11 @@ returns-2 c =
     let opened = c .before .before .before in
     past-opened opened (c .refuse .ensures ∙ sym (then-refused _ (check-refused _ (sym (c .before .before .trailer-holds .ensures) ∙ not-true _ (c .before .if1 .taken)))))
 
-same-job-requires : tie.Need-same-job-requires
-same-job-requires c κs = trailer-gives _ (holds c) .long
-
 returns-3 : tie.Need-returns-3
 unfolding readVerdict
 returns-3 c =
     let held = c .before .before .before in
     past-trailer held (then-stops _ (c .before .before .same-job .ensures (now (at-start (at-opened held) .args .floor))) (c .enum-told4 .given .1))
-
-count-in-requires : tie.Need-count-in-requires
-count-in-requires c κs = trailer-gives _ (holds (at-trailer c)) .long
 
 judge-records-requires : tie.Need-judge-records-requires
 judge-records-requires c κs =
@@ -87,11 +81,11 @@ judge-read-spec =
     (λ c κs. search needs)
     (λ c κs. search needs)
     returns-2
-    same-job-requires
+    (λ c κs. holds c)
     (λ c. search needs)
     (λ c. search needs)
     returns-3
-    count-in-requires
+    (λ c κs. omega (arith, points _ (holds (at-trailer c)) .room))
     (λ c κs. search needs)
     judge-records-requires
     returns-4)

@@ -4,12 +4,12 @@ use mathlib.Core.Path.{_≡_, sym, _∙_}
 use denote.Ref.{now}
 use lib.ListN.{length}
 use Rattle.answers.specs.declared.Verdict.the-variants.{Done}
-use Rattle.model.specs.Floor.{goalsOf}
 use Rattle.model.specs.TableFile.{readVerdict}
-use Rattle.model.proofs.Files.{openable, read-gives, check-gives, trailer-true}
+use Rattle.model.proofs.Files.{openable, read-gives}
 use Rattle.floor.specs.Moves.{flat}
-use Rattle.table_file.proofs.Reading.{records-long, read-refused, read-done}
+use Rattle.table_file.proofs.Reading.{points, checked, records-long, read-refused, read-done}
 use borrow.Author.Needs.{needs}
+use native.Mathlib.Omega.{arith}
 use Rattle.table_file.proofs.reader.read_table.Statement.{statement}
 use Rattle.table_file.proofs.reader.read_table.Tie as tie
 
@@ -21,7 +21,7 @@ abbrev at-filled : tie.After-count-in → tie.After-fill-figures
 at-filled e = e .before .before .before
 
 passed : (e : tie.After-enum-told) → let a = e .before .before .before .before .before .before .args in
-    readVerdict (flat (a .width) (a .height) (now (a .floor))) (a .q) (goalsOf (a .goal)) (now (a .file)) (length (now (a .table))) ≡ Done
+    readVerdict (flat (a .width) (a .height) (now (a .floor))) (a .q) (a .goals) (now (a .file)) (length (now (a .table))) ≡ Done
 passed e = sym (e .before .before .judge-read .ensures) ∙ e .enum-told .given .1
 
 returns : tie.Need-returns
@@ -30,16 +30,16 @@ returns c = read-refused _ _ _ _ _ _ (c .before .before .judge-read .ensures) (c
 fill-figures-requires : tie.Need-fill-figures-requires
 fill-figures-requires c κs =
     let o = openable _ _ _ _ (read-gives _ _ _ _ _ (passed (c .before)) .0) in
-    (o .sized .wide, o .sized .narrow, o .sized .low, o .scale, o .bench, o .cells)
+    (o .sized .wide, o .sized .narrow, o .sized .low, o .scale, o .benches, o .cells)
 
 count-in-requires : tie.Need-count-in-requires
-count-in-requires c κs = check-gives _ (read-gives _ _ _ _ _ (passed (at-passed (c .before .before))) .1) .long
+count-in-requires c κs = omega (arith, points _ (checked _ (read-gives _ _ _ _ _ (passed (at-passed (c .before .before))) .1)) .room)
 
 apply-records-requires : tie.Need-apply-records-requires
 apply-records-requires c κs =
     let counted = c .before .before in
-    let checked = read-gives _ _ _ _ _ (passed (at-passed (at-filled counted))) in
-    records-long _ _ _ (counted .count-in .ensures .0) (c .before .find-records .ensures .0) (trailer-true _ (check-gives _ (checked .1)))
+    let gives = read-gives _ _ _ _ _ (passed (at-passed (at-filled counted))) in
+    records-long _ _ _ (counted .count-in .ensures .0) (c .before .find-records .ensures .0) (checked _ (gives .1))
 
 returns-2 : tie.Need-returns-2
 returns-2 c =
@@ -47,8 +47,8 @@ returns-2 c =
     let found = applied .before .before in
     let counted = found .before in
     let filled = at-filled counted in
-    let checked = at-passed filled in
-    read-done _ _ _ _ _ _ (checked .before .before .judge-read .ensures) _ _ _ _ (checked .enum-told .given .1) (filled .fill-figures .ensures _)
+    let past = at-passed filled in
+    read-done _ _ _ _ _ _ (past .before .before .judge-read .ensures) _ _ _ _ (past .enum-told .given .1) (filled .fill-figures .ensures _)
     (applied .apply-records .ensures) (counted .count-in .ensures .0) (found .find-records .ensures .0)
 
 pub read-table-spec : {M : Type 1} → statement M

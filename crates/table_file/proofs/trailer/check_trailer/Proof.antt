@@ -2,7 +2,7 @@
 -- Assumes nothing.
 use mathlib.Core.Path.{sym, _∙_, ap}
 use Rattle.answers.specs.Says.{saysVerdict}
-use Rattle.model.proofs.Files.{check-done, check-refused}
+use Rattle.table_file.proofs.Reading.{check-done, check-refused}
 use borrow.Author.Needs.{needs}
 use Rattle.table_file.proofs.trailer.check_trailer.Statement.{statement}
 use Rattle.table_file.proofs.trailer.check_trailer.Tie as tie

@@ -7,7 +7,7 @@ use Rattle.table_file.proofs.trailer.count_in.Statement.{statement}
 use Rattle.table_file.proofs.trailer.count_in.Tie as tie
 
 returns : tie.Need-returns
-returns c = (c .half-at .ensures .0 ∙ ap (λ l. halfAt l 6) (c .before .trailer-of .ensures .0), c .half-at .ensures .1)
+returns c = (c .half-at .ensures .0 ∙ ap (λ l. halfAt l 2) (c .before .ending-of .ensures .0), c .half-at .ensures .1)
 
 pub count-in-spec : {M : Type 1} → statement M
 count-in-spec = tie.close (tie.spec (λ c κs. search needs) (λ c κs. search needs) returns)

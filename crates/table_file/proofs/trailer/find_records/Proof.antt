@@ -6,8 +6,8 @@ use mathlib.Core.Bool.{true, false}
 use denote.Ref.{now}
 use borrow.Author.Tests.{not-true, not-false}
 use Rattle.model.specs.TableFile.{trailerHolds}
-use Rattle.model.proofs.Files.{trailer-gives, found-none}
-use Rattle.table_file.proofs.Reading.{start-none, start-some, found-part}
+use Rattle.model.proofs.Files.{found-none}
+use Rattle.table_file.proofs.Reading.{points, start-none, start-some, found-part}
 use borrow.Author.Needs.{needs}
 use native.Mathlib.Omega.{arith}
 use Rattle.table_file.proofs.trailer.find_records.Statement.{statement}
@@ -25,10 +25,10 @@ returns c =
     (sym (found-none _ (faulty (c .before))), (refl, ap (λ n. n + file .ptr .1) (start-none _ (faulty (c .before)))))
 
 back-in-requires : tie.Need-back-in-requires
-back-in-requires c κs = trailer-gives _ (holds c) .long
+back-in-requires c κs = omega (arith, points _ (holds c) .room)
 
 count-in-requires : tie.Need-count-in-requires
-count-in-requires c κs = trailer-gives _ (holds (c .before)) .long
+count-in-requires c κs = omega (arith, points _ (holds (c .before)) .room)
 
 returns-2 : tie.Need-returns-2
 returns-2 c =
@@ -48,11 +48,11 @@ find-records-spec =
     (λ c. search needs)
     returns
     back-in-requires
-    (λ c. omega (arith, trailer-gives _ (holds (c .before)) .within))
+    (λ c. omega (arith, points _ (holds (c .before)) .within))
     count-in-requires
     (λ c. search needs)
     (λ c. search needs)
     (λ c. search needs)
     (λ c. search needs)
-    (λ c. let t = trailer-gives _ (holds (c .before .before)) in omega (arith, t .even, t .within))
+    (λ c. let t = points _ (holds (c .before .before)) in omega (arith, t .records, t .within))
     returns-2)

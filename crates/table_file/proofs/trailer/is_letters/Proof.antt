@@ -8,23 +8,23 @@ use Rattle.table_file.proofs.trailer.is_letters.Statement.{statement}
 use Rattle.table_file.proofs.trailer.is_letters.Tie as tie
 
 returns : tie.Need-returns
-returns c = let t = c .before .before .args .t .now in simp (ne-eqb (getD t 12 0) 80 (omega arith))
+returns c = let t = c .before .before .args .t .now in simp (ne-eqb (getD t 8 0) 80 (omega arith))
 
 returns-2 : tie.Need-returns-2
 returns-2 c =
     let t = c .before .before .before .before .args .t .now in
-    simp (eq-eqb (getD t 12 0) 80 (omega arith), ne-eqb (getD t 13 0) 68 (omega arith))
+    simp (eq-eqb (getD t 8 0) 80 (omega arith), ne-eqb (getD t 9 0) 68 (omega arith))
 
 returns-3 : tie.Need-returns-3
 returns-3 c =
     let t = c .before .before .before .before .before .before .args .t .now in
-    simp (eq-eqb (getD t 12 0) 80 (omega arith), eq-eqb (getD t 13 0) 68 (omega arith), ne-eqb (getD t 14 0) 76 (omega arith))
+    simp (eq-eqb (getD t 8 0) 80 (omega arith), eq-eqb (getD t 9 0) 68 (omega arith), ne-eqb (getD t 10 0) 76 (omega arith))
 
 returns-4 : tie.Need-returns-4
 returns-4 c =
     let first = c .before .before .before .before .before in
     let t = first .before .before .args .t .now in
-    simp (eq-eqb (getD t 12 0) 80 (omega arith), eq-eqb (getD t 13 0) 68 (omega arith), eq-eqb (getD t 14 0) 76 (omega arith))
+    simp (eq-eqb (getD t 8 0) 80 (omega arith), eq-eqb (getD t 9 0) 68 (omega arith), eq-eqb (getD t 10 0) 76 (omega arith))
 
 pub is-letters-spec : {M : Type 1} → statement M
 is-letters-spec =

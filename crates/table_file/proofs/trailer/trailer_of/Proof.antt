@@ -1,4 +1,4 @@
--- `table_file::trailer::trailer_of` meets its contract: what is left from there on is 16 bytes.
+-- `table_file::trailer::trailer_of` meets its contract: so many bytes are left from there on.
 -- Assumes nothing.
 use mathlib.Core.Path.{_∙_, ap}
 use lib.ListN.{length, length-drop}
@@ -11,8 +11,9 @@ use Rattle.table_file.proofs.trailer.trailer_of.Tie as tie
 
 returns : tie.Need-returns
 returns c =
-    let file = c .before .args .file .now in
-    let from = length file - 16 in
+    let a = c .before .args in
+    let file = a .file .now in
+    let from = length file - a .long in
     (rest from file, ap length (rest from file) ∙ (length-drop from file ∙ omega arith))
 
 pub trailer-of-spec : {M : Type 1} → statement M

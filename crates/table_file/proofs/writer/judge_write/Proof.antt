@@ -30,11 +30,11 @@ abbrev at-within : tie.After-enum-told5 → tie.After-enum-told3
 at-within e = e .before .before .before
 
 open-table : (e : tie.After-enum-told) → let a = at-start e .args in
-    Opened (floorAt (a .site) (now (a .floor))) (a .site .q) (a .site .goal) × (length (now (a .table)) ≡ size (floorAt (a .site) (now (a .floor))))
+    Opened (floorAt (a .site) (now (a .floor))) (a .site .q) (goalsAt (a .site)) × (length (now (a .table)) ≡ size (floorAt (a .site) (now (a .floor))))
 open-table e = opened _ _ _ _ (sym (e .before .before .open-table .ensures) ∙ e .enum-told .given .1)
 
 past-opened : (e : tie.After-enum-told) {r w : Verdict} → r ≡ w → let a = at-start e .args in
-    r ≡ then (openTable (floorAt (a .site) (now (a .floor))) (a .site .q) (goalsAt (a .site)) (length (now (a .table)))) w
+    r ≡ then (openTable (floorAt (a .site) (now (a .floor))) (a .site .q) (a .site .goals) (length (now (a .table)))) w
 past-opened e = then-goes _ (e .before .before .open-table .ensures) (e .enum-told .given .1)
 
 figures-are : (e : tie.After-figures) → let a = at-start (e .before) .args in e .figures .result ≡ figures (floorAt (a .site) (now (a .floor))) (now (a .table))
@@ -46,7 +46,7 @@ past-figures e = then-goes _ (figures-are (e .before .before)) (e .enum-told3 .g
 -- past all the checks but that of the room
 past-unlike : (e : tie.After-enum-told5) {r w : Verdict} → r ≡ w → let a = at-start (at-opened (at-within e)) .args in
     let f = floorAt (a .site) (now (a .floor)) in let t = now (a .table) in
-    r ≡ then (openTable f (a .site .q) (goalsAt (a .site)) (length t)) (then (figures f t) (then (naming (size f) (unlike f (a .site .q) (goalsAt (a .site)) t) 16) w))
+    r ≡ then (openTable f (a .site .q) (a .site .goals) (length t)) (then (figures f t) (then (naming (size f) (unlike f (a .site .q) (goalsAt (a .site)) t) 16) w))
 past-unlike e g =
     past-opened (at-opened (at-within e)) (past-figures (at-within e) (then-goes _ (e .before .before .judge-unlike .ensures) (e .enum-told5 .given .1) g))
 

@@ -1,6 +1,6 @@
 -- `table_file::writer::opening_of` meets its contract: an opening figure is within the ceiling.
 -- Assumes nothing.
-use Rattle.table_file.specs.Site.{floorAt}
+use Rattle.table_file.specs.Site.{floorAt, goalsAt}
 use Rattle.model.proofs.OpeningSound.{opening-within}
 use borrow.Author.Needs.{needs}
 use native.Mathlib.Omega.{arith}
@@ -13,7 +13,7 @@ returns c =
     let a = start .args in
     let o = start .pre .0 in
     let e = c .opening .ensures (a .floor .now) in
-    (e, omega (arith, e, opening-within (floorAt (a .site) (a .floor .now)) (a .site .q) (a .site .goal) (a .cell) (o .sized) (o .scale) (o .bench) (start .pre .1)))
+    (e, omega (arith, e, opening-within (floorAt (a .site) (a .floor .now)) (a .site .q) (goalsAt (a .site)) (a .cell) (o .sized) (o .scale) (o .benches) (start .pre .1)))
 
 pub opening-of-spec : {M : Type 1} → statement M
 opening-of-spec = tie.close (tie.spec (λ c κs. search needs) returns)

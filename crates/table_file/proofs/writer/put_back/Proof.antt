@@ -3,7 +3,7 @@
 use Prim.Native.Nat.{_+_, _*_}
 use mathlib.Core.Path.{refl}
 use mathlib.Core.List.{[], _∷_, _++_}
-use Rattle.model.specs.TableFile.{half, word}
+use Rattle.model.specs.TableFile.{secondLong, half, word}
 use Rattle.notation.proofs.Puts.{put-then}
 use borrow.Author.Needs.{needs}
 use native.Mathlib.Omega.{arith}
@@ -17,9 +17,9 @@ returns c =
     let counted = back .before .before .before .before in
     let a = counted .before .before .before .args in
     let k = a .count in
-    put-then (a .at) _ (half k ++ (word (16 + 6 * k) ++ (80 ∷ 68 ∷ []))) (76 ∷ 84 ∷ []) _ _ _
-    (put-then (a .at) _ (half k ++ word (16 + 6 * k)) (80 ∷ 68 ∷ []) _ _ _
-    (put-then (a .at) _ (half k) (word (16 + 6 * k)) _ _ _ (counted .put-half .ensures) (back .put-word .ensures) refl (omega arith))
+    put-then (a .at) _ (half k ++ (word (secondLong + 6 * k) ++ (80 ∷ 68 ∷ []))) (76 ∷ 84 ∷ []) _ _ _
+    (put-then (a .at) _ (half k ++ word (secondLong + 6 * k)) (80 ∷ 68 ∷ []) _ _ _
+    (put-then (a .at) _ (half k) (word (secondLong + 6 * k)) _ _ _ (counted .put-half .ensures) (back .put-word .ensures) refl (omega arith))
     (letters .put-pair .ensures) refl (omega arith))
     (c .before .before .put-pair2 .ensures) refl (omega arith)
 

@@ -5,10 +5,10 @@ use Prim.Native.Nat.{_+_, _*_, _≤_}
 use denote.Ref.{now}
 use lib.ListN.{length}
 use Rattle.model.specs.Floor.{size, goalsOf}
-use Rattle.model.specs.TableFile.{changed}
+use Rattle.model.specs.TableFile.{secondLong, changed}
 use Rattle.floor.specs.Moves.{flat}
 use Rattle.table_file.specs.Promises.{Opened}
-use Rattle.table_file.proofs.Writing.{write-open, at-most, whole, write-refused, write-done}
+use Rattle.table_file.proofs.Writing.{write-open, whole, write-refused, write-done}
 use borrow.Author.Needs.{needs}
 use native.Mathlib.Omega.{arith}
 use Rattle.table_file.proofs.writer.write_table.Statement.{statement}
@@ -28,11 +28,9 @@ at-job e = e .before .before .before .before
 passed : (e : tie.After-enum-told) →
     let a = e .before .before .before .before .before .before .args in
     let f = flat (a .width) (a .height) (now (a .floor)) in
-    let n = length (changed f (a .q) (goalsOf (a .goal)) (now (a .table)) (size f) 0) in
-    Opened f (a .q) (a .goal) × (length (now (a .table)) ≡ size f) × (16 + 6 * n ≤ length (now (a .buffer))) × (n ≤ 4096)
-passed e =
-    let w = write-open _ _ _ _ _ (sym (e .before .before .judge-write .ensures) ∙ e .enum-told .given .1) in
-    (w .0, w .1, w .2, at-most _ _ _ _ _ (w .0))
+    let n = length (changed f (a .q) (goalsOf (a .goals)) (now (a .table)) (size f) 0) in
+    Opened f (a .q) (goalsOf (a .goals)) × (length (now (a .table)) ≡ size f) × (secondLong + 6 * n ≤ length (now (a .buffer))) × (n ≤ 4096)
+passed e = write-open _ _ _ _ _ (sym (e .before .before .judge-write .ensures) ∙ e .enum-told .given .1)
 
 put-records-requires : tie.Need-put-records-requires
 put-records-requires c κs = let p = passed (c .before) in (p .0, (p .1, omega arith))
@@ -49,7 +47,7 @@ returns-2 c =
     let p = passed checked in
     let n = records .put-records .ensures in
     write-done _ _ _ _ _ _ (checked .before .before .judge-write .ensures) _ _ (checked .enum-told .given .1) (n .0)
-    (whole _ _ _ _ _ _ _ _ _ (n .0) (n .1) (job .put-job .ensures) (back .put-back .ensures) (p .0 .sized .narrow, p .0 .sized .low, p .0 .scale, omega arith))
+    (whole _ _ _ _ _ _ _ _ (n .0) (n .1) (job .put-job .ensures) (back .put-back .ensures) (p .0) (omega arith))
 
 pub write-table-spec : {M : Type 1} → statement M
 write-table-spec =

@@ -1,0 +1,58 @@
+-- `checks::benches` meets its contract. The invariant: the goals passed are free.
+-- Assumes nothing.
+use Prim.Native.Nat.{ℕ, _-_, _<_}
+use mathlib.Core.Path.{_≡_, sym, ap, _∙_}
+use mathlib.Core.Bool.{true}
+use native.Mathlib.Omega.{arith}
+use borrow.Author.Needs.{needs}
+use borrow.Author.Tests.{not-true, not-false}
+use borrow.Author.Count.{below-more}
+use lib.ListN.{getD}
+use Rattle.model.specs.Floor.{free, goalsOf}
+use Rattle.model.proofs.Accepted.{never}
+use Rattle.model.proofs.Benches.{bench-judges}
+use Rattle.floor.specs.Moves.{flat}
+use Rattle.checks.proofs.benches.Statement.{statement}
+use Rattle.checks.proofs.benches.Tie as tie
+
+abbrev Inv-loop : tie.InvT-loop
+Inv-loop width height floor goals n i₀ i = (k : ℕ) → k < i → free (flat width height floor) (getD (goalsOf goals) k 0) ≡ true
+
+abbrev μ-loop : tie.MeasureT-loop
+μ-loop width height floor goals n i₀ i = n - i
+
+-- the loop, from the goal that is asked, and that it is a goal
+abbrev asked : tie.After-goal-at Inv-loop μ-loop → tie.At-loop Inv-loop μ-loop
+asked c = c .before .before
+
+goal-at-requires : tie.Need-goal-at-requires Inv-loop μ-loop
+goal-at-requires c κs = omega (arith, c .loop-test .taken, c .before .before .goals-in .ensures)
+
+-- whether it is free is what the test says
+tested : (c : tie.After-is-free Inv-loop μ-loop) → let l = asked (c .before) in let a = l .before .before .before .args in
+    c .is-free .result ≡ free (flat (a .width) (a .height) (a .floor .now)) (getD (goalsOf (a .goals)) (l .loop .i) 0)
+tested c =
+    let a = asked (c .before) .before .before .before .args in
+    c .is-free .ensures ∙ ap (free (flat (a .width) (a .height) (a .floor .now))) (c .before .goal-at .ensures)
+
+returns : tie.Need-returns Inv-loop μ-loop
+returns c =
+    let t = c .before .before in
+    let g = t .before in
+    c .refuse .ensures
+    ∙ sym (bench-judges _ _ .refused
+    (λ h. never (h (asked g .loop .i) (omega (arith, g .before .loop-test .taken, asked g .before .goals-in .ensures))) (sym (tested t) ∙ not-true _ (c .before .if1 .taken))))
+
+loop-again : tie.Need-loop-again Inv-loop μ-loop
+loop-again c =
+    let t = c .before in
+    let l = asked (t .before) in
+    below-more _ (l .loop .i) (l .loop .inv) (sym (tested t) ∙ not-false _ (c .if1 .left))
+
+returns-2 : tie.Need-returns-2 Inv-loop μ-loop
+returns-2 c = sym (bench-judges _ _ .done (λ k h. c .before .loop .inv k (omega (arith, h, c .loop-test .left, c .before .before .goals-in .ensures))))
+
+pub benches-spec : {M : Type 1} → statement M
+benches-spec =
+    tie.close
+    (tie.spec Inv-loop μ-loop (λ c κs. search needs) (λ c k h. absurd (omega arith)) goal-at-requires (λ c κs. search needs) (λ c κs. search needs) returns (λ c. omega arith) (λ c. omega arith) loop-again returns-2)

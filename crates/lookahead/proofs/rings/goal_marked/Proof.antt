@@ -1,0 +1,73 @@
+-- `lookahead::rings::goal_marked` meets its contract. The invariant: no goal passed is marked.
+-- Assumes nothing.
+use Prim.Native.Nat.{ℕ, _-_, _≤_, _<_}
+use mathlib.Core.Path.{_≡_, sym, ap}
+use mathlib.Core.Bool.{false}
+use native.Mathlib.Omega.{arith}
+use borrow.Author.Needs.{needs}
+use borrow.Author.Tests.{le-leb, lt-leb}
+use borrow.Author.Count.{below-more}
+use lib.Dec.{leb}
+use lib.ListN.{length, getD}
+use Rattle.model.specs.Floor.{goalsOf}
+use Rattle.model.proofs.Lists.{any-at, any-none}
+use Rattle.lookahead.proofs.rings.goal_marked.Statement.{statement}
+use Rattle.lookahead.proofs.rings.goal_marked.Tie as tie
+
+abbrev Inv-loop : tie.InvT-loop
+Inv-loop base mark goals n i₀ i = (k : ℕ) → k < i → leb base (getD mark (getD (goalsOf goals) k 0) 0) ≡ false
+
+abbrev μ-loop : tie.MeasureT-loop
+μ-loop base mark goals n i₀ i = n - i
+
+-- the loop, from the goal that is asked; and that it has a mark
+abbrev asked : tie.After-goal-at Inv-loop μ-loop → tie.At-loop Inv-loop μ-loop
+asked c = c .before .before
+
+abbrev start : tie.At-loop Inv-loop μ-loop → tie.Start Inv-loop μ-loop
+start c = c .before .before .before
+
+inside : (c : tie.After-goal-at Inv-loop μ-loop) → asked c .loop .i < length (goalsOf (start (asked c) .args .goals))
+inside c = omega (arith, c .before .loop-test .taken, asked c .before .goals-in .ensures)
+
+has-mark : (c : tie.After-goal-at Inv-loop μ-loop) → c .goal-at .result < 4096
+has-mark c = omega (arith, c .goal-at .ensures, start (asked c) .pre .0 (asked c .loop .i) (inside c))
+
+-- its mark, by the list of goals
+mark-is : (c : tie.After-goal-at Inv-loop μ-loop) → let a = start (asked c) .args in
+    getD (a .mark .now) (c .goal-at .result) 0 ≡ getD (a .mark .now) (getD (goalsOf (a .goals)) (asked c .loop .i) 0) 0
+mark-is c = ap (λ (x : ℕ). getD (start (asked c) .args .mark .now) x 0) (c .goal-at .ensures)
+
+returns : tie.Need-returns Inv-loop μ-loop
+returns c =
+    let g = c .before .before in
+    let a = start (asked g) .args in
+    let marked : a .base ≤ getD (a .mark .now) (getD (goalsOf (a .goals)) (asked g .loop .i) 0) 0 = omega (arith, c .if1 .taken, mark-is g) in
+    sym (any-at (λ x. leb (a .base) (getD (a .mark .now) x 0)) _ (asked g .loop .i) (inside g) (le-leb _ _ marked))
+
+loop-again : tie.Need-loop-again Inv-loop μ-loop
+loop-again c =
+    let g = c .before .before in
+    let a = start (asked g) .args in
+    let fresh : getD (a .mark .now) (getD (goalsOf (a .goals)) (asked g .loop .i) 0) 0 < a .base = omega (arith, c .if1 .left, mark-is g) in
+    below-more _ (asked g .loop .i) (asked g .loop .inv) (lt-leb _ _ fresh)
+
+returns-2 : tie.Need-returns-2 Inv-loop μ-loop
+returns-2 c = sym (any-none _ _ (λ k h. c .before .loop .inv k (omega (arith, h, c .loop-test .left, c .before .before .goals-in .ensures))))
+
+pub goal-marked-spec : {M : Type 1} → statement M
+goal-marked-spec =
+    tie.close
+    (tie.spec
+    Inv-loop
+    μ-loop
+    (λ c κs. search needs)
+    (λ c k h. absurd (omega arith))
+    (λ c κs. omega (arith, c .loop-test .taken, c .before .before .goals-in .ensures))
+    (λ c. record { fits = omega (arith, has-mark c) })
+    (λ c. let g = c .before in omega (arith, has-mark g, start (asked g) .pre .1))
+    returns
+    (λ c. omega arith)
+    (λ c. omega arith)
+    loop-again
+    returns-2)

@@ -1,0 +1,51 @@
+-- `table_file::reader::places_named` meets its contract. The invariant: the goal places passed are this job's.
+-- Assumes nothing.
+use Prim.Native.Nat.{ℕ, _+_, _-_, _*_, _<_}
+use mathlib.Core.Path.{_≡_, sym, _∙_}
+use native.Mathlib.Omega.{arith}
+use borrow.Author.Needs.{needs}
+use borrow.Author.Count.{below-more}
+use Rattle.model.specs.Checks.{mostGoals}
+use Rattle.model.specs.Floor.{goalsOf}
+use Rattle.model.specs.TableFile.{halfAt, goalPlace}
+use Rattle.model.proofs.Files.{places-named}
+use Rattle.table_file.proofs.Reading.{refuted}
+use Rattle.table_file.proofs.reader.places_named.Statement.{statement}
+use Rattle.table_file.proofs.reader.places_named.Tie as tie
+
+abbrev Inv-loop : tie.InvT-loop
+Inv-loop goals t i₀ i = (k : ℕ) → k < i → halfAt t (4 + 2 * k) ≡ goalPlace (goalsOf goals) k
+
+abbrev μ-loop : tie.MeasureT-loop
+μ-loop goals t i₀ i = mostGoals - i
+
+returns : tie.Need-returns Inv-loop μ-loop
+returns c =
+    let half = c .before .before in
+    refuted (places-named _ _) (λ h. c .if1 .taken (half .half-at .ensures .0 ∙ (h (half .before .before .loop .i) (omega arith) ∙ sym (c .before .goal-place .ensures))))
+
+loop-again : tie.Need-loop-again Inv-loop μ-loop
+loop-again c =
+    let half = c .before .before in
+    let l = half .before .before .loop in
+    below-more _ (l .i) (l .inv) (sym (half .half-at .ensures .0) ∙ (c .if1 .left ∙ c .before .goal-place .ensures))
+
+returns-2 : tie.Need-returns-2 Inv-loop μ-loop
+returns-2 c = sym (places-named _ _ .shown (λ k h. c .before .loop .inv k (omega arith)))
+
+pub places-named-spec : {M : Type 1} → statement M
+places-named-spec =
+    tie.close
+    (tie.spec
+    Inv-loop
+    μ-loop
+    (λ c k h. absurd (omega arith))
+    (λ c. omega arith)
+    (λ c. omega arith)
+    (λ c κs. search needs)
+    (λ c κs. search needs)
+    returns
+    (λ c. omega arith)
+    (λ c. omega arith)
+    loop-again
+    returns-2)

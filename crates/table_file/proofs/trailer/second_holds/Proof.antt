@@ -1,0 +1,28 @@
+-- `table_file::trailer::second_holds` meets its contract: each test is a part of `Second`.
+-- Assumes nothing.
+use mathlib.Core.Path.{sym, _∙_, ap}
+use borrow.Author.Tests.{not-true, not-false}
+use denote.Ref.{now}
+use lib.ListN.{getD}
+use Rattle.model.specs.TableFile.{secondLong}
+use Rattle.model.proofs.Accepted.{never, eq-tells}
+use Rattle.model.proofs.Files.{Trailer, holds-tells, second-tells}
+use Rattle.table_file.proofs.Reading.{refuted, same-told}
+use borrow.Author.Needs.{needs}
+use Rattle.table_file.proofs.trailer.second_holds.Statement.{statement}
+use Rattle.table_file.proofs.trailer.second_holds.Tie as tie
+
+returns : tie.Need-returns
+returns c = refuted (second-tells _) (λ t. never (holds-tells _ 2 secondLong .shown (t .0)) (sym (c .before .holds-as .ensures) ∙ not-true _ (c .if1 .taken)))
+
+holds : (e : tie.Else1) → Trailer 2 secondLong (now (e .before .before .before .args .file))
+holds e = holds-tells _ 2 secondLong .holds (sym (e .before .holds-as .ensures) ∙ not-false _ (e .if1 .left))
+
+returns-2 : tie.Need-returns-2
+returns-2 c =
+    let t = c .before in
+    let byte = ap (λ l. getD l 3 0) (t .trailer-of .ensures .0) in
+    same-told (eq-tells _ 0) (second-tells _) (λ z. (holds (t .before), sym byte ∙ z)) (λ s. byte ∙ s .1)
+
+pub second-holds-spec : {M : Type 1} → statement M
+second-holds-spec = tie.close (tie.spec (λ c κs. search needs) returns (λ c κs. holds c .room) (λ c. search needs) returns-2)
