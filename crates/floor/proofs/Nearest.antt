@@ -1,21 +1,29 @@
--- The opening figure goal by goal, from the last one down: that of the goals from one on is the least of its own and that of those after it.
+-- The opening figure goal by goal: that of the first goals is the least of that of those before the last of them and its own.
 -- Assumes nothing.
-use Prim.Native.Nat.{ℕ, suc, _+_, _<_, min}
-use mathlib.Core.Path.{_≡_, ap, _∙_}
-use mathlib.Core.List.{List, _∷_}
+use Prim.Native.Nat.{ℕ, zero, suc, _≤_, _<_, min}
+use mathlib.Core.Path.{_≡_, refl, ap, _∙_}
+use mathlib.Core.List.{List, [], _∷_}
 use native.Mathlib.Omega.{arith}
-use lib.ListN.{length, getD, drop, drop-of-length-le}
-use lib.Seq.{drop-cons}
+use lib.ListN.{length, getD, take}
+use lib.Seq.{take-all}
 use Rattle.model.specs.Floor.{Floor, octile, opening}
 
-module _ (f : Floor) (q : ℕ) (gs : List ℕ) (x i : ℕ) where
-  pub nearest-last : i + 1 ≡ length gs → opening f q (drop i gs) x ≡ octile f q (getD gs i 0) x
-  unfolding opening
-  nearest-last e =
-      ap (λ l. opening f q l x) (drop-cons gs i 0 (omega arith) ∙ ap (λ l. getD gs i 0 ∷ l) (drop-of-length-le gs {i = suc i} (omega arith)))
+min-assoc : (a b c : ℕ) → min a (min b c) ≡ min (min a b) c
+min-assoc a b c = omega arith
 
-  pub nearest-more : suc i < length gs → opening f q (drop i gs) x ≡ min (octile f q (getD gs i 0) x) (opening f q (drop (suc i) gs) x)
+module _ (f : Floor) (q x : ℕ) where
+  pub nearest-first : (gs : List ℕ) → 1 ≤ length gs → opening f q (take 1 gs) x ≡ octile f q (getD gs 0 0) x
   unfolding opening
-  nearest-more h =
-      let next = drop-cons gs (suc i) 0 h in
-      rw (drop-cons gs i 0 (omega arith), next)
+  nearest-first [] h = absurd (omega arith)
+  nearest-first (g ∷ gs) h = refl
+
+  pub nearest-more : (gs : List ℕ) (i : ℕ) → suc i < length gs
+      → opening f q (take (suc (suc i)) gs) x ≡ min (opening f q (take (suc i) gs) x) (octile f q (getD gs (suc i) 0) x)
+  unfolding opening
+  nearest-more [] i l = absurd (omega arith)
+  nearest-more (g ∷ []) i l = absurd (omega arith)
+  nearest-more (g ∷ h ∷ gs) zero l = refl
+  nearest-more (g ∷ h ∷ gs) (suc i) l = ap (min (octile f q g x)) (nearest-more (h ∷ gs) i (omega arith)) ∙ min-assoc (octile f q g x) _ _
+
+  pub nearest-all : (gs : List ℕ) (i : ℕ) → length gs ≤ i → opening f q (take i gs) x ≡ opening f q gs x
+  nearest-all gs i h = ap (λ (l : List ℕ). opening f q l x) (take-all i gs h)

@@ -94,17 +94,18 @@ fn octile(width: usize, height: usize, goal: usize, q: usize, cell: usize) -> us
     q * (DIAGONALS * smaller(dx, dy) + STRAIGHTS * gap(dx, dy))
 }
 
-// The opening figure of a cell, from the last goal down to the first.
+// The opening figure of a cell, goal by goal. (The loop goes up to a number that is known to be small, and so is laid out without one.)
 pub fn opening(width: usize, height: usize, goals: Goals, q: usize, cell: usize) -> usize
     requires { ⌜ 1 ≤ width ⌝ ∗ ⌜ width ≤ 64 ⌝ ∗ ⌜ height ≤ 64 ⌝ ∗ ⌜ q ≤ finest ⌝ ∗ ⌜ (cell < width * height) × Benched (width * height) (goalsOf goals) ⌝ }
     ensures { λ r. ⌜ ((bytes : List ℕ) → r ≡ model.opening (flat width height bytes) q (goalsOf goals) cell) ⌝ }
 {
-    let mut i = goals_in(goals) - 1;
-    let mut least = octile(width, height, goal_at(goals, i), q, cell);
-    while 0 < i {
-        i -= 1;
+    let n = goals_in(goals);
+    let mut least = octile(width, height, goal_at(goals, 0), q, cell);
+    let mut i = 1;
+    while i < n {
         let figure = octile(width, height, goal_at(goals, i), q, cell);
-        least = smaller(figure, least);
+        least = smaller(least, figure);
+        i += 1;
     }
     least
 }

@@ -1,83 +1,92 @@
--- `floor::goals::opening` meets its contract. The invariant: the figure is that of the goals from i on.
+-- `floor::goals::opening` meets its contract. The invariant: the figure is that of the goals passed.
 -- Assumes nothing.
-use Prim.Native.Nat.{ℕ, suc, _-_, _*_, _<_, min}
-use mathlib.Core.Path.{_≡_, sym, ap, ap₂, _∙_}
+use Prim.Native.Nat.{ℕ, suc, _+_, _-_, _*_, _≤_, _<_, min}
+use mathlib.Core.Path.{_≡_, sym, ap, ap₂, _∙_, subst}
 use mathlib.Core.List.{List}
 use native.Mathlib.Omega.{arith}
 use borrow.Author.Needs.{needs}
-use lib.ListN.{length, getD, drop}
-use Rattle.model.specs.Floor.{octile, opening, goalsOf}
+use lib.ListN.{length, getD, take}
+use Rattle.model.specs.Floor.{Floor, octile, opening, goalsOf}
 use Rattle.floor.specs.Moves.{flat}
-use Rattle.floor.proofs.Nearest.{nearest-last, nearest-more}
+use Rattle.floor.proofs.Nearest.{nearest-first, nearest-more, nearest-all}
 use Rattle.floor.proofs.goals.opening.Statement.{statement}
 use Rattle.floor.proofs.goals.opening.Tie as tie
 
 abbrev Inv-loop : tie.InvT-loop
-Inv-loop width height goals q cell i₀ least₀ i least =
-    (i < length (goalsOf goals)) × ((bytes : List ℕ) → least ≡ opening (flat width height bytes) q (drop i (goalsOf goals)) cell)
+Inv-loop width height goals q cell n least₀ i₀ least i = (1 ≤ i) × ((bytes : List ℕ) → least ≡ opening (flat width height bytes) q (take i (goalsOf goals)) cell)
 
 abbrev μ-loop : tie.MeasureT-loop
-μ-loop width height goals q cell i₀ least₀ i least = i
+μ-loop width height goals q cell n least₀ i₀ least i = n - i
 
--- the start, from the first goal that is looked up and from one in the loop
-abbrev start : tie.After-goal-at Inv-loop μ-loop → tie.Start Inv-loop μ-loop
-start c = c .before .before
+-- how many goals there are, from the first that is looked up and from one in the loop; and the loop from there
+abbrev counted : tie.After-goal-at Inv-loop μ-loop → tie.After-goals-in Inv-loop μ-loop
+counted c = c .before
 
 abbrev turn : tie.After-goal-at2 Inv-loop μ-loop → tie.At-loop Inv-loop μ-loop
 turn c = c .before .before
 
-abbrev begun : tie.At-loop Inv-loop μ-loop → tie.Start Inv-loop μ-loop
-begun c = c .before .before .before .before
+abbrev first : tie.At-loop Inv-loop μ-loop → tie.After-goal-at Inv-loop μ-loop
+first c = c .before .before
 
 -- a goal at a place is a cell of the floor
-on : (s : tie.Start Inv-loop μ-loop) (g i : ℕ) → i < length (goalsOf (s .args .goals)) → g ≡ getD (goalsOf (s .args .goals)) i 0 → g < s .args .width * s .args .height
-on s g i h e = omega (arith, e, s .pre .1 .1 .1 .1 .1 .on i h)
+on : (c : tie.After-goals-in Inv-loop μ-loop) (g i : ℕ) → i < c .goals-in .result → g ≡ getD (goalsOf (c .before .args .goals)) i 0
+    → g < c .before .args .width * c .before .args .height
+on c g i h e = omega (arith, e, c .before .pre .1 .1 .1 .1 .1 .on i (omega (arith, h, c .goals-in .ensures)))
 
-last-in : (c : tie.After-goals-in Inv-loop μ-loop) → c .goals-in .result - 1 < length (goalsOf (c .before .args .goals))
-last-in c = omega (arith, c .goals-in .ensures, c .before .pre .1 .1 .1 .1 .1 .one)
+some : (c : tie.After-goals-in Inv-loop μ-loop) → 0 < c .goals-in .result
+some c = omega (arith, c .goals-in .ensures, c .before .pre .1 .1 .1 .1 .1 .one)
 
 octile-requires : tie.Need-octile-requires Inv-loop μ-loop
 octile-requires c κs =
-    let p = start c .pre in
-    (p .0, (p .1 .0, (p .1 .1 .0, (p .1 .1 .1 .0, (p .1 .1 .1 .1 .0, on (start c) _ _ (last-in (c .before)) (c .goal-at .ensures))))))
+    let s = counted c in
+    let p = s .before .pre in
+    (p .0, (p .1 .0, (p .1 .1 .0, (p .1 .1 .1 .0, (p .1 .1 .1 .1 .0, on s _ _ (some s) (c .goal-at .ensures))))))
 
 loop-holds : tie.Need-loop-holds Inv-loop μ-loop
 loop-holds c =
-    let n = c .before .before in
-    let a = n .before .args in
-    let h = last-in n in (
-      h,
+    let g = c .before in
+    let s = counted g in
+    let a = s .before .args in (
+      omega arith,
       λ bytes. let f = flat (a .width) (a .height) bytes in
-          c .octile .ensures bytes ∙ ap (λ g. octile f (a .q) g (a .cell)) (c .before .goal-at .ensures) ∙ sym (nearest-last f (a .q) (goalsOf (a .goals)) (a .cell) _ (omega (arith, h, n .goals-in .ensures))),
+          c .octile .ensures bytes ∙ ap (λ x. octile f (a .q) x (a .cell)) (g .goal-at .ensures)
+          ∙ sym (nearest-first f (a .q) (a .cell) (goalsOf (a .goals)) (omega (arith, some s, s .goals-in .ensures))),
     )
 
 octile-requires-2 : tie.Need-octile-requires-2 Inv-loop μ-loop
 octile-requires-2 c κs =
-    let s = begun (turn c) in
-    let p = s .pre in
-    (p .0, (p .1 .0, (p .1 .1 .0, (p .1 .1 .1 .0, (p .1 .1 .1 .1 .0, on s _ _ (omega (arith, turn c .loop .inv .0)) (c .goal-at2 .ensures))))))
+    let s = counted (first (turn c)) in
+    let p = s .before .pre in
+    (p .0, (p .1 .0, (p .1 .1 .0, (p .1 .1 .1 .0, (p .1 .1 .1 .1 .0, on s _ _ (c .before .loop-test .taken) (c .goal-at2 .ensures))))))
+
+-- one goal more
+more : (f : Floor) (q x : ℕ) (gs : List ℕ) (i : ℕ) → 1 ≤ i → i < length gs → opening f q (take (i + 1) gs) x ≡ min (opening f q (take i gs) x) (octile f q (getD gs i 0) x)
+more f q x gs i some h =
+    let up : suc (i - 1) ≡ i = omega arith in
+    let next : suc (suc (i - 1)) ≡ i + 1 = omega arith in
+    ap (λ k. opening f q (take k gs) x) (sym next) ∙ nearest-more f q x gs (i - 1) (omega arith)
+    ∙ ap (λ k. min (opening f q (take k gs) x) (octile f q (getD gs k 0) x)) up
 
 loop-again : tie.Need-loop-again Inv-loop μ-loop
 loop-again c =
     let g = c .before .before in
     let l = turn g in
-    let a = begun l .args in
-    let i = l .loop .i in
-    let up : suc (i - 1) ≡ i = omega (arith, g .before .loop-test .taken) in (
-      omega (arith, l .loop .inv .0),
+    let s = counted (first l) in
+    let a = s .before .args in (
+      omega arith,
       λ bytes. let f = flat (a .width) (a .height) bytes in
           c .smaller .ensures
-          ∙ ap₂ min (c .before .octile2 .ensures bytes ∙ ap (λ h. octile f (a .q) h (a .cell)) (g .goal-at2 .ensures))
-          (l .loop .inv .1 bytes ∙ ap (λ k. opening f (a .q) (drop k (goalsOf (a .goals))) (a .cell)) (sym up))
-          ∙ sym (nearest-more f (a .q) (goalsOf (a .goals)) (a .cell) (i - 1) (omega (arith, up, l .loop .inv .0))),
+          ∙ ap₂ min (l .loop .inv .1 bytes) (c .before .octile2 .ensures bytes ∙ ap (λ x. octile f (a .q) x (a .cell)) (g .goal-at2 .ensures))
+          ∙ sym (more f (a .q) (a .cell) (goalsOf (a .goals)) (l .loop .i) (l .loop .inv .0) (omega (arith, g .before .loop-test .taken, s .goals-in .ensures))),
     )
 
 returns : tie.Need-returns Inv-loop μ-loop
 returns c bytes =
     let l = c .before in
-    let a = begun l .args in
-    let none : l .loop .i ≡ 0 = omega (arith, c .loop-test .left) in
-    l .loop .inv .1 bytes ∙ ap (λ k. opening (flat (a .width) (a .height) bytes) (a .q) (drop k (goalsOf (a .goals))) (a .cell)) none
+    let s = counted (first l) in
+    let a = s .before .args in
+    l .loop .inv .1 bytes
+    ∙ nearest-all (flat (a .width) (a .height) bytes) (a .q) (a .cell) (goalsOf (a .goals)) (l .loop .i) (omega (arith, c .loop-test .left, s .goals-in .ensures))
 
 pub opening-spec : {M : Type 1} → statement M
 opening-spec =
@@ -86,14 +95,13 @@ opening-spec =
     Inv-loop
     μ-loop
     (λ c κs. search needs)
-    (λ c. omega (arith, c .goals-in .ensures, c .before .pre .1 .1 .1 .1 .1 .one))
-    (λ c κs. last-in c)
+    (λ c κs. omega (arith, some c, c .goals-in .ensures))
     octile-requires
     loop-holds
-    (λ c. omega arith)
-    (λ c κs. omega (arith, c .before .loop .inv .0))
+    (λ c κs. let s = counted (first (c .before)) in omega (arith, c .loop-test .taken, s .goals-in .ensures))
     octile-requires-2
     (λ c κs. search needs)
+    (λ c. omega arith)
     (λ c. omega arith)
     loop-again
     returns)
