@@ -42,7 +42,7 @@ price-means f z x y h =
     let (m, l, a, e) = price-move f z x y h in
     (m, l, a, e, subst (λ c. price f x c ≡ doubled (slowly f x c) (toll m)) e (price-toll f z x m l (allowed-inside f z x m a) (allowed-some f z x m a)))
 
--- ---- "The true distance of a free cell is the least cost of any walk of allowed moves to the goal."
+-- ---- "The true distance of a free cell is the least cost of any walk of allowed moves to the goal.", to any of them
 
 -- the walks of a floor
 abbrev pub net : Job → List ℕ → Network
@@ -60,7 +60,7 @@ module _ (j : Job) (bytes : List ℕ) (x : ℕ) where
   pub no-distance-means : reaches j bytes (distances j bytes) x ≡ false → (c : ℕ) → ¬ Gets j bytes x c
   no-distance-means e c g = let t = reaches-of j bytes x (c, g) in let z : _≡_ {A = ℕ} 0 1 = cc in absurd (omega arith)
 
--- ---- the lookahead from a cell s of the floor that isn't the goal
+-- ---- the lookahead from a cell s of the floor that is no goal
 
 module _ (j : Job) (bytes : List ℕ) (s : ℕ) (deep : 1 ≤ j .depth) (floor : s < size (floorOf j bytes)) (aside : atGoal j bytes s ≡ false) where
   off : ¬ Goal (groundIn j bytes) s
@@ -80,7 +80,7 @@ module _ (j : Job) (bytes : List ℕ) (s : ℕ) (deep : 1 ≤ j .depth) (floor :
   unfolding ringOf
   ring-beyond x h c n t = le-trans h (ring-low (groundIn j bytes) (j .depth) s floor x c n t)
 
-  -- "The last ring m is d, or the goal's ring if that is smaller."
+  -- "The last ring m is d, or the goal's ring if that is smaller.", of several the nearest goal's
   pub last-means : Least (λ k. (k ≡ j .depth) ⊎ ((z : ℕ) × Goal (groundIn j bytes) z × (ring j bytes (seen j bytes s) z ≡ k))) (seen j bytes s .last)
   last-means = record { met = window-means .ends; low = low }
     where
@@ -167,7 +167,7 @@ module _ (j : Job) (bytes : List ℕ) (s : ℕ) (deep : 1 ≤ j .depth) (floor :
   unfolding route
   route-ends = route-none (fineIn j bytes) (j .depth) s deep floor off
 
-  -- 9: "a ring up to d is empty and the goal is in none before it"
+  -- 9: "a ring up to d is empty and the goal is in none before it", nor is any other
   abbrev pub Lost : ℕ → Type 0
   Lost k = (1 ≤ k) × (k ≤ j .depth) × Bare j bytes (seen j bytes s) k × ((z : ℕ) → Goal (groundIn j bytes) z → ring j bytes (seen j bytes s) z < k → ⊥)
 

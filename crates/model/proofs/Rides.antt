@@ -1,4 +1,4 @@
--- A ride from an accepted job is a trial of `learning` that comes to the goal, and its counts are the trial's.
+-- A ride from an accepted job is a trial of `learning` that comes to a goal, and its counts are the trial's.
 -- What holds while it rides is one record, `Riding`: kept by each decision, while `learning`'s potential falls.
 use Prim.Native.Nat.{ℕ, zero, suc, _+_, _-_, _*_, _/_, _≤_, _<_}
 use mathlib.Core.Path.{_≡_, refl, sym, ap, _∙_, subst}
@@ -124,7 +124,7 @@ module _ (j : Job) (bytes : List ℕ) (start : ℕ) (table path : List ℕ) (R :
       by true e more = subst (Riding j bytes start table path) (sym (ride-there j bytes (suc n) r e)) g
       by false e more = subst (Riding j bytes start table path) (sym (ride-on j bytes n r e)) (more (next j bytes r) (riding-next g e))
 
-  -- ---- it comes to the goal
+  -- ---- it comes to a goal
 
   -- with enough decisions allowed
   arrives : (n : ℕ) (r : Ride) → Riding j bytes start table path r → yet j bytes r < n

@@ -37,7 +37,7 @@ Lowest j bytes table x = Above j bytes table x × ((y : ℕ) → y < x → ¬ Ab
 same-refusal : {r s : Refusal} → Vd.Refused r ≡ Vd.Refused s → r ≡ s
 same-refusal e = cc
 
--- whether a cell can reach the goal, as the opening computes it
+-- whether a cell can reach a goal, as the opening computes it
 module _ (j : Job) (bytes : List ℕ) where
   pub reaches-of : (x : ℕ) → CanReach j bytes x → reaches j bytes (distances j bytes) x ≡ true
   unfolding reachOf

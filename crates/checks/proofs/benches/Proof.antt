@@ -55,4 +55,16 @@ returns-2 c = sym (bench-judges _ _ .done (λ k h. c .before .loop .inv k (omega
 pub benches-spec : {M : Type 1} → statement M
 benches-spec =
     tie.close
-    (tie.spec Inv-loop μ-loop (λ c κs. search needs) (λ c k h. absurd (omega arith)) goal-at-requires (λ c κs. search needs) (λ c κs. search needs) returns (λ c. omega arith) (λ c. omega arith) loop-again returns-2)
+    (tie.spec
+    Inv-loop
+    μ-loop
+    (λ c κs. search needs)
+    (λ c k h. absurd (omega arith))
+    goal-at-requires
+    (λ c κs. search needs)
+    (λ c κs. search needs)
+    returns
+    (λ c. omega arith)
+    (λ c. omega arith)
+    loop-again
+    returns-2)
