@@ -96,6 +96,7 @@ pub record PinsBenches : Type 0 where
   pub trial-27 : openTrial (toward (two 8 0)) hall 6 figures fresh ≡ refused 27
   pub run-27 : openRun (toward (two 8 0)) hall 6 figures fresh 1 1 ≡ refused 27
   pub fill-27 : openTable floor 1 (two 8 0) 9 ≡ refused 27
+  pub fill-4-first : openTable floor 1 (two 8 4) 9 ≡ refused 4
   pub fill-3-first : openTable floor 0 (two 8 0) 9 ≡ refused 3
   pub read-27 : readVerdict floor 1 (two 8 0) [] 9 ≡ refused 27
   pub write-27 : writeVerdict floor 1 (two 8 0) (set figures 8 1834561) 0 ≡ refused 27
@@ -178,6 +179,7 @@ pinsBenches = record {
   trial-27 = refl;
   run-27 = refl;
   fill-27 = refl;
+  fill-4-first = refl;
   fill-3-first = refl;
   read-27 = refl;
   write-27 = refl;
