@@ -195,6 +195,7 @@ fn call(input: &[u8], most: u64) -> Result<Line, NoLine> {
         9 => call_check_trailer(arguments),
         10 => call_opening_table(arguments),
         11 => call_write_floor_text(arguments),
+        12 => call_renew(arguments),
         _ => Err(NoLine::Malformed),
     }
 }
@@ -403,6 +404,19 @@ fn call_write_floor_text(mut arguments: Arguments) -> Result<Line, NoLine> {
     arguments.end()?;
 
     let (refusal, length) = split(floor_text::write(width, height, &floor, &mut buffer));
+    let mut line = Line::default();
+    line.refusal(refusal);
+    line.number(length as u64);
+    line.list(&buffer);
+    Ok(line)
+}
+
+fn call_renew(mut arguments: Arguments) -> Result<Line, NoLine> {
+    let file: Vec<u8> = arguments.list(BYTE_ROOM)?;
+    let mut buffer: Vec<u8> = arguments.list(BYTE_ROOM)?;
+    arguments.end()?;
+
+    let (refusal, length) = split(table_file::renew(&file, &mut buffer));
     let mut line = Line::default();
     line.refusal(refusal);
     line.number(length as u64);

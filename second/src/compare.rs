@@ -4,10 +4,11 @@ use crate::floor::{Floor, SLOW};
 use crate::lookahead::Window;
 use crate::make::weaving::{weaves, Woven};
 use crate::make::{self, Program};
+use crate::output::Output;
 use crate::{aisle, calls};
-use std::io::{Read, Write};
+use std::io::{self, Read, Write};
 use std::process::{Command, Stdio};
-use std::sync::mpsc;
+use std::sync::mpsc::{self, Receiver};
 use std::time::{Duration, Instant};
 
 /// Another program that takes longer than this for one input is taken to hang.
@@ -17,8 +18,8 @@ const PATIENCE: Duration = Duration::from_secs(60);
 const SHOWN: usize = 2_000;
 
 pub struct Plan {
-    pub aisle: Option<String>,
-    pub calls: Option<String>,
+    /// The programs that are asked, and where each of them is.
+    pub others: Vec<(Program, String)>,
     pub from: u64,
     pub count: u64,
     pub seconds: Option<u64>,
@@ -36,14 +37,10 @@ pub fn compare(plan: &Plan) -> bool {
             return false;
         }
         let program = make::program_of(seed);
-        let other = match program {
-            Program::Aisle => &plan.aisle,
-            Program::Calls => &plan.calls,
-        };
-        let Some(other) = other else { continue };
+        let Some((_, other)) = plan.others.iter().find(|(named, _)| *named == program) else { continue };
         let input = make::input(program, seed);
         let ours = program.answer(&input);
-        let theirs = ask(other, &input);
+        let theirs = ask(program, other, &input);
         compared += 1;
         if theirs.as_ref() != Ok(&ours) {
             show_difference(program, seed, &input, &ours, &theirs);
@@ -61,14 +58,17 @@ pub fn compare(plan: &Plan) -> bool {
     complete
 }
 
-/// Runs the other program on an input. An error says in words why it has no output.
-fn ask(path: &str, input: &[u8]) -> Result<Vec<u8>, String> {
+/// Runs the other program on an input. An error says in words why it has no output. Standard error is caught only where the
+/// program tells something there; else it is left to whoever looks on.
+fn ask(program: Program, path: &str, input: &[u8]) -> Result<Output, String> {
+    let error = if program.tells_on_error() { Stdio::piped() } else { Stdio::inherit() };
     let mut child = Command::new(path)
         .stdin(Stdio::piped())
         .stdout(Stdio::piped())
+        .stderr(error)
         .spawn()
         .map_err(|error| format!("{path} can't be started: {error}"))?;
-    let (mut stdin, mut stdout) = match (child.stdin.take(), child.stdout.take()) {
+    let (mut stdin, stdout) = match (child.stdin.take(), child.stdout.take()) {
         (Some(stdin), Some(stdout)) => (stdin, stdout),
         _ => return Err(format!("{path} has no pipes")),
     };
@@ -78,24 +78,17 @@ fn ask(path: &str, input: &[u8]) -> Result<Vec<u8>, String> {
         // A program may rightly stop reading early, so a broken pipe is no fault.
         let _ = stdin.write_all(&bytes);
     });
-    let (send, receive) = mpsc::channel();
-    let reader = std::thread::spawn(move || {
-        let mut output = Vec::new();
-        let read = stdout.read_to_end(&mut output).map(|_| output);
-        let _ = send.send(read);
-    });
-    let output = receive.recv_timeout(PATIENCE);
-    if output.is_err() {
+    let out = read_aside(stdout);
+    let err = child.stderr.take().map(read_aside);
+    let deadline = Instant::now() + PATIENCE;
+    let out = all_read(out, deadline);
+    let err = err.map_or(Ok(Vec::new()), |err| all_read(err, deadline));
+    if out.is_err() || err.is_err() {
         let _ = child.kill();
     }
     let status = child.wait();
     let _ = writer.join();
-    let _ = reader.join();
-    let output = match output {
-        Ok(Ok(output)) => output,
-        Ok(Err(error)) => return Err(format!("its output can't be read: {error}")),
-        Err(_) => return Err(format!("it gave no whole output in {} seconds", PATIENCE.as_secs())),
-    };
+    let output = Output { out: out?, err: err? };
     match status {
         // No code at all means that a signal ended it: it crashed, whatever it printed before.
         Ok(status) if status.code().is_none() => Err(format!("it crashed: {status}")),
@@ -104,26 +97,77 @@ fn ask(path: &str, input: &[u8]) -> Result<Vec<u8>, String> {
     }
 }
 
-fn show_difference(program: Program, seed: u64, input: &[u8], ours: &[u8], theirs: &Result<Vec<u8>, String>) {
+/// Reads a pipe to its end in a thread of its own.
+fn read_aside(mut pipe: impl Read + Send + 'static) -> Receiver<io::Result<Vec<u8>>> {
+    let (send, receive) = mpsc::channel();
+    std::thread::spawn(move || {
+        let mut bytes = Vec::new();
+        let read = pipe.read_to_end(&mut bytes).map(|_| bytes);
+        let _ = send.send(read);
+    });
+    receive
+}
+
+/// All that was read of a pipe, if its end came in time.
+fn all_read(pipe: Receiver<io::Result<Vec<u8>>>, deadline: Instant) -> Result<Vec<u8>, String> {
+    match pipe.recv_timeout(deadline.saturating_duration_since(Instant::now())) {
+        Ok(read) => read.map_err(|error| format!("its output can't be read: {error}")),
+        Err(_) => Err(format!("it gave no whole output in {} seconds", PATIENCE.as_secs())),
+    }
+}
+
+fn show_difference(
+    program: Program,
+    seed: u64,
+    input: &[u8],
+    ours: &Output,
+    theirs: &Result<Output, String>,
+) {
     let name = program.name();
     println!("seed {seed}, {name}: different");
     println!("--- input, {} bytes", input.len());
-    println!("{}", shown(input));
-    println!("--- second's output, {} bytes", ours.len());
-    println!("{}", shown(ours));
+    println!("{}", shown(program, input));
+    show_output("second's", ours, program);
     match theirs {
         Ok(theirs) => {
-            println!("--- the other's output, {} bytes", theirs.len());
-            println!("{}", shown(theirs));
-            let same = ours.iter().zip(theirs).take_while(|(a, b)| a == b).count();
-            println!("--- they differ from byte {same} on (counted from 0)");
+            show_output("the other's", theirs, program);
+            let same = ours.out.iter().zip(&theirs.out).take_while(|(a, b)| a == b).count();
+            if ours.out != theirs.out {
+                println!("--- they differ from byte {same} on (counted from 0)");
+            }
         }
         Err(error) => println!("--- the other gave none: {error}"),
     }
     println!("--- the input again: second make {name} {seed}");
 }
 
-fn shown(bytes: &[u8]) -> String {
+fn show_output(whose: &str, output: &Output, program: Program) {
+    println!("--- {whose} output, {} bytes", output.out.len());
+    println!("{}", shown(program, &output.out));
+    if program.tells_on_error() {
+        println!("--- {whose} standard error, {} bytes", output.err.len());
+        println!("{}", shown_text(&output.err));
+    }
+}
+
+fn shown(program: Program, bytes: &[u8]) -> String {
+    match program {
+        Program::Aisle | Program::Calls => shown_text(bytes),
+        Program::Renew => shown_file(bytes),
+    }
+}
+
+/// A table file in hexadecimal, of a long one its end, where the trailer is.
+fn shown_file(bytes: &[u8]) -> String {
+    let left_out = bytes.len().saturating_sub(SHOWN / 3);
+    let mut words: Vec<String> = bytes[left_out..].iter().map(|byte| format!("{byte:02X}")).collect();
+    if left_out > 0 {
+        words.insert(0, "...".into());
+    }
+    words.join(" ")
+}
+
+fn shown_text(bytes: &[u8]) -> String {
     let text = String::from_utf8_lossy(bytes);
     match text.char_indices().nth(SHOWN) {
         Some((end, _)) => format!("{} ...", &text[..end]),
@@ -132,7 +176,7 @@ fn shown(bytes: &[u8]) -> String {
 }
 
 /// The greatest number that is answered, and those below it that nothing answers.
-const LAST_NUMBER: usize = 27;
+const LAST_NUMBER: usize = 28;
 const UNUSED: [usize; 5] = [15, 23, 24, 25, 26];
 
 /// How often each number, call and kind of decision occurred.
@@ -151,8 +195,13 @@ pub struct Tally {
     several_calls: [u64; CALLS],
     /// How many calls were refused by 27.
     by_27: [u64; CALLS],
-    /// How many table files of each edition were read.
-    editions: [u64; 2],
+    /// How many table files of each edition were read, and how many were refused by 28.
+    pub read: [u64; 2],
+    pub by_28: [u64; 2],
+    /// How many files were renewed by call 12 and by the program, and how many the program refused.
+    renewed_calls: Renewed,
+    renewed: Renewed,
+    renew_refused: u64,
     /// How many had a leg where the lowest cells alone would weave, gone forward and gone back.
     pub woven_decisions: [u64; 2],
     pub woven_aisle: [u64; 2],
@@ -162,8 +211,11 @@ pub struct Tally {
     refused_on_backing_out: u64,
 }
 
+/// How many files of each edition were renewed, without bytes ahead and with them.
+type Renewed = [[u64; 2]; 2];
+
 /// The calls are numbered from 1.
-const CALLS: usize = 12;
+const CALLS: usize = 13;
 
 const CALL_NAMES: [&str; CALLS] = [
     "",
@@ -178,6 +230,7 @@ const CALL_NAMES: [&str; CALLS] = [
     "check trailer",
     "opening table",
     "write floor text",
+    "renew a table file",
 ];
 
 /// How many numbers stand ahead of a call's goals, its own number included, and how many between them and the floor; none
@@ -212,11 +265,24 @@ fn floor_bytes(asked: &[u64]) -> Option<(&[u64], &[u64])> {
     Some(list_at(goals(asked)?.1, between))
 }
 
+/// Of a file whose trailer holds: 0 for edition 1 and 1 for edition 2, and whether bytes stand ahead of its first record.
+fn kind_of_file(file: &[u8]) -> (usize, usize) {
+    let ending = &file[file.len() - 11..];
+    let back = u32::from_be_bytes([ending[3], ending[4], ending[5], ending[6]]);
+    (usize::from(ending[0]) - 1, usize::from((back as usize) < file.len()))
+}
+
+/// A list as the bytes that it tells of.
+fn bytes_of(list: &[u64]) -> Vec<u8> {
+    list.iter().map(|&byte| byte as u8).collect()
+}
+
 impl Tally {
-    pub fn add(&mut self, program: Program, input: &[u8], output: &[u8]) {
+    pub fn add(&mut self, program: Program, input: &[u8], output: &Output) {
         match program {
-            Program::Aisle => self.add_aisle(input, output),
-            Program::Calls => self.add_call(input, output),
+            Program::Aisle => self.add_aisle(input, &output.out),
+            Program::Calls => self.add_call(input, &output.out),
+            Program::Renew => self.add_renew(input, output),
         }
     }
 
@@ -272,9 +338,25 @@ impl Tally {
         self.several += u64::from(several);
         self.several_calls[call] += u64::from(several && number == 0);
         self.by_27[call] += u64::from(number == 27);
-        if let (7, 0, Some((_, rest))) = (call, number, floor_bytes(&asked)) {
-            let (file, _) = list_at(rest, 0);
-            self.editions[file[file.len() - 11] as usize - 1] += 1;
+        if let (7, 0 | 28, Some((_, rest))) = (call, number, floor_bytes(&asked)) {
+            let (edition, _) = kind_of_file(&bytes_of(list_at(rest, 0).0));
+            let counts = if number == 0 { &mut self.read } else { &mut self.by_28 };
+            counts[edition] += 1;
+        }
+        if let (12, 0) = (call, number) {
+            let (edition, ahead) = kind_of_file(&bytes_of(list_at(&asked, 1).0));
+            self.renewed_calls[edition][ahead] += 1;
+        }
+    }
+
+    fn add_renew(&mut self, input: &[u8], output: &Output) {
+        if output.err.is_empty() {
+            let (edition, ahead) = kind_of_file(input);
+            self.renewed[edition][ahead] += 1;
+            self.add_number(0);
+        } else {
+            self.renew_refused += 1;
+            self.add_number(13);
         }
     }
 
@@ -304,7 +386,8 @@ impl Tally {
     }
 
     /// What did not occur of numbers and calls, of calls with slow cells or several goals that are accepted, of calls with
-    /// goals that are refused by 27, of editions read, and of legs that the lowest cells alone would make longer.
+    /// goals that are refused by 27, of editions read, refused by 28 and renewed, and of legs that the lowest cells alone would
+    /// make longer.
     pub fn missing(&self) -> Vec<String> {
         let used = |number: &usize| !UNUSED.contains(number);
         let numbers = (0..self.numbers.len()).filter(used).filter(|&number| self.numbers[number] == 0);
@@ -319,8 +402,23 @@ impl Tally {
         missing.extend(slow_calls.map(|call| format!("call {call} with slow cells")));
         missing.extend(several_calls.map(|call| format!("call {call} with several goals")));
         missing.extend(by_27.map(|call| format!("call {call} refused by 27")));
-        let editions = (0..2).filter(|&at| self.editions[at] == 0);
-        missing.extend(editions.map(|at| format!("a file of edition {} read", at + 1)));
+        for edition in [1, 2] {
+            let mut need = |count: u64, words: &str| {
+                if count == 0 {
+                    missing.push(format!("a file of edition {edition} {words}"));
+                }
+            };
+            need(self.read[edition - 1], "read");
+            need(self.by_28[edition - 1], "refused by 28");
+            for (whose, renewed) in [("call 12", self.renewed_calls), ("renew", self.renewed)] {
+                let [whole, after_older] = renewed[edition - 1];
+                need(whole, &format!("renewed by {whose}"));
+                need(after_older, &format!("with bytes ahead renewed by {whose}"));
+            }
+        }
+        if self.renew_refused == 0 {
+            missing.push("renew refused".into());
+        }
         if self.slow_aisle == 0 {
             missing.push("aisle with slow cells".into());
         }
@@ -337,15 +435,29 @@ impl Tally {
         {
             println!("{number:6}  {count}");
         }
-        println!("call                   made  accepted with slow cells  with several goals  refused by 27");
+        println!(
+            "call                     made  accepted with slow cells  with several goals  refused by 27"
+        );
         for (call, count) in self.calls.iter().enumerate().skip(1) {
             let [slow, several, by_27] = [self.slow_calls, self.several_calls, self.by_27].map(|of| of[call]);
-            println!("{call:2} {:16}  {count:6}  {slow:24}  {several:18}  {by_27:13}", CALL_NAMES[call]);
+            println!("{call:2} {:18}  {count:6}  {slow:24}  {several:18}  {by_27:13}", CALL_NAMES[call]);
         }
-        println!("   {:16}  {:6}", "malformed", self.malformed);
-        println!("   {:16}  {:6}  {:24}", "aisle", self.aisle, self.slow_aisle);
+        println!("   {:18}  {:6}", "malformed", self.malformed);
+        println!("   {:18}  {:6}  {:24}", "aisle", self.aisle, self.slow_aisle);
+        let renewed: u64 = self.renewed.concat().iter().sum();
+        println!("   {:18}  {:6}", "renew", renewed + self.renew_refused);
         println!("slow cells in {} of all, several goals in {}", self.slow, self.several);
-        println!("table files read: {} of edition 1, {} of edition 2", self.editions[0], self.editions[1]);
+        for (edition, at) in [(1, 0), (2, 1)] {
+            let (read, by_28) = (self.read[at], self.by_28[at]);
+            let [[plain, after], [plain_renew, after_renew]] = [self.renewed_calls[at], self.renewed[at]];
+            print!("table files of edition {edition}: {read} read, {by_28} refused by 28; renewed, and of these with bytes ahead: ");
+            println!(
+                "{} and {after} by call 12, {} and {after_renew} by renew",
+                plain + after,
+                plain_renew + after_renew
+            );
+        }
+        println!("renew refused {}", self.renew_refused);
         let [arrived, forward, backed_out, stayed, refused] = self.decisions;
         let (cuts, by_8) = (self.cuts, self.refused_on_backing_out);
         print!("decisions: {arrived} arrived, {forward} forward ({cuts} cut the path), {backed_out} backed out, ");

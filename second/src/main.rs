@@ -3,17 +3,19 @@
 use second::compare::{compare, Plan};
 use second::make::floors::KINDS;
 use second::make::jobs::Kit;
-use second::make::{self, Program};
+use second::make::{self, Program, PROGRAMS};
+use second::output::Output;
 use second::promises;
 use second::timing::time_aisle;
 use std::io::{Read, Write};
 use std::process::ExitCode;
 
 const USAGE: &str = "usage:
-  second aisle                     standard input to standard output, as document 01's program
-  second calls                     standard input to standard output, as CALLS.md
-  second make aisle|calls SEED     the generated input of a seed
-  second compare [--aisle PATH] [--calls PATH] --from A --count N [--seconds S] [--need-all]
+  second aisle                        standard input to standard output, as document 01's program
+  second calls                        standard input to standard output, as CALLS.md
+  second renew                        standard input to standard output, as document 02's program; a refusal to standard error
+  second make aisle|calls|renew SEED  the generated input of a seed
+  second compare [--aisle PATH] [--calls PATH] [--renew PATH] --from A --count N [--seconds S] [--need-all]
   second promises --from A --count N
   second time run KIND WIDTH HEIGHT SEED TRIALS DEPTH [P Q QUOTA] [--as-aisle | --as-calls]
   second time open KIND WIDTH HEIGHT SEED
@@ -24,14 +26,13 @@ fn main() -> ExitCode {
     let arguments: Vec<String> = std::env::args().skip(1).collect();
     let words: Vec<&str> = arguments.iter().map(String::as_str).collect();
     let done = match words.as_slice() {
-        ["aisle"] => answer(Program::Aisle),
-        ["calls"] => answer(Program::Calls),
         ["make", program, seed] => make_input(program, seed),
         ["compare", rest @ ..] => compare_by(rest),
         ["promises", rest @ ..] => check_promises(rest),
         ["time", "run", rest @ ..] => time_run(rest),
         ["time", "open", rest @ ..] => time_open(rest),
         ["time", "aisle", files @ ..] => time_files(files),
+        [name] => Program::named(name).and_then(answer),
         _ => None,
     };
     match done {
@@ -55,7 +56,8 @@ fn answer(program: Program) -> Option<bool> {
     if std::io::stdin().lock().read_to_end(&mut input).is_err() {
         return Some(false);
     }
-    print_bytes(&program.answer(&input))
+    let Output { out, err } = program.answer(&input);
+    Some(std::io::stderr().write_all(&err).is_ok() && print_bytes(&out)?)
 }
 
 fn make_input(program: &str, seed: &str) -> Option<bool> {
@@ -79,15 +81,19 @@ fn number_option(words: &[&str], name: &str) -> Option<Option<u64>> {
 }
 
 fn compare_by(words: &[&str]) -> Option<bool> {
+    let mut others = Vec::new();
+    for program in PROGRAMS {
+        let path = option(words, &format!("--{}", program.name()))?;
+        others.extend(path.map(|path| (program, path)));
+    }
     let plan = Plan {
-        aisle: option(words, "--aisle")?,
-        calls: option(words, "--calls")?,
+        others,
         from: number_option(words, "--from")?.unwrap_or(0),
         count: number_option(words, "--count")?.unwrap_or(1_000),
         seconds: number_option(words, "--seconds")?,
         need_all: words.contains(&"--need-all"),
     };
-    if plan.aisle.is_none() && plan.calls.is_none() {
+    if plan.others.is_empty() {
         return None;
     }
     Some(compare(&plan))

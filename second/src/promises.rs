@@ -1,11 +1,12 @@
 //! The self-check of demand 3: its promises of figures, decisions, kept cost and travel, tried on random jobs of one goal
-//! and of several; and what is promised of distances, of goals that close and of table files.
+//! and of several; and what is promised of distances, of goals that close, and of table files and their renewal.
 
 use crate::checks::{Goals, Job};
 use crate::decision::{decide, Answer, State};
 use crate::floor::{is_free_byte, Floor, FREE, SLOW};
 use crate::lookahead::MOST_MOVES;
 use crate::make::dice::Dice;
+use crate::make::files::Draft;
 use crate::make::jobs::{self, Kit};
 use crate::opening::{self, distances, NO_WAY};
 use crate::refusal::Refusal;
@@ -21,10 +22,12 @@ pub fn check_seeds(from: u64, count: u64) -> Result<u64, String> {
     for seed in from..from.saturating_add(count) {
         let mut dice = Dice::new(seed);
         let kit = if seed % 2 == 0 { jobs::long_kit(&mut dice) } else { jobs::kit(&mut dice) };
+        let told = |fault: String| format!("seed {seed}: {fault}");
         if opening::open(&kit.job(), kit.start as u64, &kit.table).is_ok() {
             accepted += 1;
-            check_job(&kit).map_err(|fault| format!("seed {seed}: {fault}"))?;
+            check_job(&kit).map_err(told)?;
         }
+        check_renewal(&kit, &mut dice).map_err(told)?;
     }
     Ok(accepted)
 }
@@ -171,7 +174,45 @@ fn check_distances(kit: &Kit) -> Result<(), String> {
     holds(kit.distance.iter().zip(&ordinary).all(fits), "slow cells change a distance too much")
 }
 
-/// A table that can be written reads back the same and writes the same bytes again, also behind older material.
+/// Reads a file for a kit's job: the verdict, and the table that is left.
+fn read(kit: &Kit, file: &[u8]) -> (Result<(), Refusal>, Vec<u32>) {
+    let mut table = vec![7u32; kit.cells()];
+    let (width, height) = (kit.width as u64, kit.height as u64);
+    let verdict = table_file::read(width, height, &kit.goals_as_told(), kit.q, &kit.floor, file, &mut table);
+    (verdict, table)
+}
+
+/// A file, good or spoiled, that is renewed reads as its last table alone; with bytes ahead it doesn't read itself; and renewed
+/// again it is the same.
+fn check_renewal(kit: &Kit, dice: &mut Dice) -> Result<(), String> {
+    let mut file = Draft::new(kit, dice);
+    if dice.chance(50) {
+        file.add_older(kit, dice);
+    }
+    if dice.chance(30) {
+        file.spoil_record(kit, dice);
+    }
+    if dice.chance(30) {
+        file.spoil_trailer(kit, dice);
+    }
+    let file = file.bytes();
+    let renewed = table_file::renewed(&file);
+    holds(
+        renewed.as_ref().err() == table_file::check_trailer(&file).err().as_ref(),
+        "a file is renewed that its trailer's check refuses, or the other way round",
+    )?;
+    let Ok(renewed) = renewed else { return Ok(()) };
+    let back = u32::from_be_bytes([8, 7, 6, 5].map(|before_end| file[file.len() - before_end]));
+    let last = &file[file.len() - back as usize..];
+    holds(read(kit, &renewed) == read(kit, last), "a renewed file reads differently")?;
+    // Where the job itself is at fault an empty file isn't refused by 13 either.
+    if last.len() < file.len() && read(kit, b"").0 == Err(Refusal::plain(13)) {
+        holds(read(kit, &file).0 == Err(Refusal::plain(28)), "a file with bytes ahead is read")?;
+    }
+    holds(table_file::renewed(&renewed).as_ref() == Ok(&renewed), "renewed again it is another file")
+}
+
+/// A table that can be written reads back the same and writes the same bytes again.
 fn check_file(kit: &Kit, table: &[u32]) -> Result<(), String> {
     let (width, height, goals) = (kit.width as u64, kit.height as u64, kit.goals_as_told());
     let mut file = vec![0xAA; 24 + 6 * kit.cells() + 3];
@@ -179,21 +220,20 @@ fn check_file(kit: &Kit, table: &[u32]) -> Result<(), String> {
         return Ok(());
     };
     holds(file[length..].iter().all(|&byte| byte == 0xAA), "the writer touched bytes beyond its length")?;
-    let mut with_older = b"older".to_vec();
-    with_older.extend_from_slice(&file[..length]);
-    let mut again = vec![7u32; kit.cells()];
-    table_file::read(width, height, &goals, kit.q, &kit.floor, &with_older, &mut again)
-        .map_err(|refusal| format!("a written table is refused: {refusal:?}"))?;
+    file.truncate(length);
+    let (verdict, again) = read(kit, &file);
+    verdict.map_err(|refusal| format!("a written table is refused: {refusal:?}"))?;
     holds(again == table, "a written table reads back differently")?;
     let mut file_again = vec![0u8; length];
     let written = table_file::write(width, height, &goals, kit.q, &kit.floor, &again, &mut file_again);
-    holds(written == Ok(length) && file_again == file[..length], "a read table writes other bytes")?;
-    check_first_edition(kit, table, &file[..length - 24])
+    holds(written == Ok(length) && file_again == file, "a read table writes other bytes")?;
+    check_first_edition(kit, table, &file)
 }
 
-/// The same records with a trailer of edition 1 read as the same table where there is one goal, and are refused by 14 where
-/// there are several.
-fn check_first_edition(kit: &Kit, table: &[u32], records: &[u8]) -> Result<(), String> {
+/// The same records with a trailer of edition 1 read as the same table where there is one goal, and renew to the file of
+/// edition 2; they are refused by 14 where there are several.
+fn check_first_edition(kit: &Kit, table: &[u32], now: &[u8]) -> Result<(), String> {
+    let records = &now[..now.len() - 24];
     let mut file = records.to_vec();
     file.extend([kit.width as u8, kit.height as u8]);
     file.extend((kit.goals[0] as u16).to_be_bytes());
@@ -201,12 +241,14 @@ fn check_first_edition(kit: &Kit, table: &[u32], records: &[u8]) -> Result<(), S
     file.extend((records.len() as u16 / 6).to_be_bytes());
     file.extend((records.len() as u32 + 16).to_be_bytes());
     file.extend(b"PDLT");
-    let (width, height, goals) = (kit.width as u64, kit.height as u64, kit.goals_as_told());
-    let mut again = vec![7u32; kit.cells()];
-    let read = table_file::read(width, height, &goals, kit.q, &kit.floor, &file, &mut again);
+    let (verdict, again) = read(kit, &file);
     if kit.goals.len() == 1 {
-        holds(read == Ok(()) && again == table, "an edition 1 file reads differently")
+        holds(verdict == Ok(()) && again == table, "an edition 1 file reads differently")?;
+        holds(
+            table_file::renewed(&file).as_deref() == Ok(now),
+            "an edition 1 file isn't renewed to edition 2",
+        )
     } else {
-        holds(read == Err(Refusal::plain(14)), "an edition 1 file is taken for several goals")
+        holds(verdict == Err(Refusal::plain(14)), "an edition 1 file is taken for several goals")
     }
 }

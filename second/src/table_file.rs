@@ -1,4 +1,4 @@
-//! The table file: its trailer in both editions, the finder of its records, its reader and its writer.
+//! The table file: its trailer in both editions, the finder of its records, its reader, its writer and its renewal.
 
 use crate::checks::{self, Goals, CEILING, MOST_GOALS};
 use crate::floor::is_free_byte;
@@ -23,14 +23,17 @@ const ZERO_AT: usize = 3;
 /// The place of a goal that the job doesn't have.
 const NO_GOAL: u16 = u16::MAX;
 
-struct Trailer<'a> {
-    edition: u8,
-    job: &'a [u8],
+/// A file whose trailer holds, by its parts.
+struct Parts<'a> {
+    /// The bytes ahead of the first record.
+    older: &'a [u8],
     records: &'a [u8],
+    job: &'a [u8],
+    edition: u8,
 }
 
 /// Judges a file by 13.
-fn trailer(file: &[u8]) -> Result<Trailer<'_>, Refusal> {
+fn parts(file: &[u8]) -> Result<Parts<'_>, Refusal> {
     let fault = Refusal::plain(13);
     let (ahead, ending) = file.split_at(file.len().checked_sub(ENDING).ok_or(fault)?);
     let edition = ending[0];
@@ -47,36 +50,59 @@ fn trailer(file: &[u8]) -> Result<Trailer<'_>, Refusal> {
     if &ending[7..] != LETTERS || !back_fits || !zero_fits {
         return Err(fault);
     }
-    let begin = ahead.len().checked_sub(RECORD * count).ok_or(fault)?;
-    Ok(Trailer { edition, job, records: &ahead[begin..] })
+    let (older, records) = ahead.split_at(ahead.len().checked_sub(RECORD * count).ok_or(fault)?);
+    Ok(Parts { older, records, job, edition })
+}
+
+/// What a trailer of edition 2 tells of a job.
+fn told_now(width: usize, height: usize, goals: &[usize], q: u32) -> Vec<u8> {
+    let mut job = vec![width as u8, height as u8, goals.len() as u8, 0];
+    for at in 0..MOST_GOALS {
+        let place = goals.get(at).map_or(NO_GOAL, |&goal| goal as u16);
+        job.extend(place.to_be_bytes());
+    }
+    job.push(q as u8);
+    job
 }
 
 /// What a trailer of an edition tells of a job; none of a job that the edition can't tell of.
 fn told(edition: u8, width: usize, height: usize, goals: &[usize], q: u32) -> Option<Vec<u8>> {
-    let mut job = vec![width as u8, height as u8];
     match (edition, goals) {
-        (FIRST_EDITION, &[goal]) => job.extend((goal as u16).to_be_bytes()),
-        (FIRST_EDITION, _) => return None,
-        _ => {
-            job.extend([goals.len() as u8, 0]);
-            for at in 0..MOST_GOALS {
-                let place = goals.get(at).map_or(NO_GOAL, |&goal| goal as u16);
-                job.extend(place.to_be_bytes());
-            }
+        (FIRST_EDITION, &[goal]) => {
+            let [high, low] = (goal as u16).to_be_bytes();
+            Some(vec![width as u8, height as u8, high, low, q as u8])
         }
+        (FIRST_EDITION, _) => None,
+        _ => Some(told_now(width, height, goals, q)),
     }
-    job.push(q as u8);
-    Some(job)
+}
+
+/// A whole file of edition 2, from its records and what its trailer tells of the job.
+fn whole(mut records: Vec<u8>, job: &[u8]) -> Vec<u8> {
+    let count = records.len() / RECORD;
+    let back = records.len() + JOB + ENDING;
+    records.extend_from_slice(job);
+    records.push(EDITION);
+    records.extend((count as u16).to_be_bytes());
+    records.extend((back as u32).to_be_bytes());
+    records.extend(LETTERS);
+    records
+}
+
+/// Fills a buffer from its first byte, or answers 17. Answers how many bytes were written.
+fn put(file: &[u8], buffer: &mut [u8]) -> Result<usize, Refusal> {
+    buffer.get_mut(..file.len()).ok_or(Refusal::plain(17))?.copy_from_slice(file);
+    Ok(file.len())
 }
 
 /// The public check of a file's trailer.
 pub fn check_trailer(file: &[u8]) -> Result<(), Refusal> {
-    trailer(file).map(|_| ())
+    parts(file).map(|_| ())
 }
 
 /// The records of a file, trailer left off; the empty part when the trailer is faulty by 13.
 pub fn find_records(file: &[u8]) -> &[u8] {
-    trailer(file).map_or(&[], |trailer| trailer.records)
+    parts(file).map_or(&[], |parts| parts.records)
 }
 
 fn record(bytes: &[u8]) -> (usize, u32) {
@@ -103,7 +129,7 @@ fn record_fault(
     }
 }
 
-/// The public reader: judges 1, 3, 4, 27, 13, 14 and 18 to 22, and fills the table only when all is well.
+/// The public reader: judges 1, 3, 4, 27, 13, 28, 14 and 18 to 22, and fills the table only when all is well.
 pub fn read(
     width: u64,
     height: u64,
@@ -115,7 +141,10 @@ pub fn read(
 ) -> Result<(), Refusal> {
     let goals = checks::table_job(width, height, goals, q, floor, table)?;
     let (width, height, q) = (width as usize, height as usize, q as u32);
-    let Trailer { edition, job, records } = trailer(file)?;
+    let Parts { older, records, job, edition } = parts(file)?;
+    if !older.is_empty() {
+        return Err(Refusal::plain(28));
+    }
     if told(edition, width, height, &goals, q).as_deref() != Some(job) {
         return Err(Refusal::plain(14));
     }
@@ -145,39 +174,41 @@ pub fn write(
     q: u64,
     floor: &[u8],
     table: &[u32],
-    file: &mut [u8],
+    buffer: &mut [u8],
 ) -> Result<usize, Refusal> {
     let goals = checks::table_job(width, height, goals, q, floor, table)?;
     checks::ceiling(table)?;
     let opening = |cell: usize| opening_figure(width as usize, cell, &goals, q as u32);
-    let mut count = 0usize;
+    let mut records = Vec::new();
     for (cell, &figure) in table.iter().enumerate() {
         let blocked = !is_free_byte(floor[cell]);
         if figure < opening(cell) || (blocked && figure != opening(cell)) {
             return Err(Refusal::at_cell(16, cell));
         }
-        count += usize::from(figure != opening(cell));
-    }
-    let back = JOB + ENDING + RECORD * count;
-    if file.len() < back {
-        return Err(Refusal::plain(17));
-    }
-
-    let mut at = 0;
-    let mut put = |bytes: &[u8]| {
-        file[at..at + bytes.len()].copy_from_slice(bytes);
-        at += bytes.len();
-    };
-    for (cell, &figure) in table.iter().enumerate() {
         if figure != opening(cell) {
-            put(&(cell as u16).to_be_bytes());
-            put(&figure.to_be_bytes());
+            records.extend((cell as u16).to_be_bytes());
+            records.extend(figure.to_be_bytes());
         }
     }
-    put(&told(EDITION, width as usize, height as usize, &goals, q as u32).unwrap_or_default());
-    put(&[EDITION]);
-    put(&(count as u16).to_be_bytes());
-    put(&(back as u32).to_be_bytes());
-    put(LETTERS);
-    Ok(at)
+    let job = told_now(width as usize, height as usize, &goals, q as u32);
+    put(&whole(records, &job), buffer)
+}
+
+/// The last table of a file of either edition as a file of edition 2, which begins with its first record: judges 13.
+pub fn renewed(file: &[u8]) -> Result<Vec<u8>, Refusal> {
+    let Parts { records, job, .. } = parts(file)?;
+    // An edition 2 trailer is kept as it stands, whatever it tells of the job.
+    Ok(match *job {
+        [width, height, high, low, q] => {
+            let goal = usize::from(u16::from_be_bytes([high, low]));
+            let job = told_now(usize::from(width), usize::from(height), &[goal], u32::from(q));
+            whole(records.to_vec(), &job)
+        }
+        _ => whole(records.to_vec(), job),
+    })
+}
+
+/// The public renewal into a buffer: judges 13 and 17, and answers how many bytes it wrote.
+pub fn renew(file: &[u8], buffer: &mut [u8]) -> Result<usize, Refusal> {
+    put(&renewed(file)?, buffer)
 }

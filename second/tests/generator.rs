@@ -1,9 +1,9 @@
-//! The generator and the promises: every number occurs, nothing panics, and demand 3 holds on random jobs.
+//! The generator and the promises: every number occurs, nothing panics, and demand 3 and the rest hold on random jobs.
 
 use second::compare::Tally;
 use second::make::dice::Dice;
-use second::make::{input, program_of, Program};
-use second::{aisle, calls, promises};
+use second::make::{input, program_of, Program, PROGRAMS};
+use second::{aisle, calls, promises, renew};
 
 #[test]
 fn every_number_and_call_occurs() {
@@ -18,6 +18,9 @@ fn every_number_and_call_occurs() {
     assert!((800..1_200).contains(&tally.slow), "{}", tally.slow);
     // Of the calls that take goals, about four in ten name several.
     assert!((600..900).contains(&tally.several), "{}", tally.several);
+    // Files that are read stay more than those with bytes ahead.
+    let sum = |counts: [u64; 2]| counts.iter().sum::<u64>();
+    assert!(sum(tally.read) > sum(tally.by_28) && tally.by_28.iter().all(|&count| count > 5));
     // And on some the fewest moves are others than the lowest cells alone would give.
     let woven = [tally.woven_decisions, tally.woven_aisle].concat();
     assert!(woven.iter().all(|&count| count > 5), "{woven:?}");
@@ -26,7 +29,7 @@ fn every_number_and_call_occurs() {
 #[test]
 fn a_seed_always_gives_the_same_input() {
     for seed in 0..50 {
-        for program in [Program::Aisle, Program::Calls] {
+        for program in PROGRAMS {
             assert_eq!(input(program, seed), input(program, seed));
         }
     }
@@ -48,6 +51,7 @@ fn no_input_is_too_strange() {
         let _ = match program {
             Program::Aisle => aisle::answer_within(&bytes, 5_000),
             Program::Calls => calls::answer_within(&bytes, 5_000),
+            Program::Renew => Some(renew::answer(&bytes).out),
         };
     }
 }

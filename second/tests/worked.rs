@@ -1,13 +1,14 @@
 //! Every case that document 01 works out, worked again with document 02's corners and ceiling, and cases with slow cells, with
-//! routes of one cost and with several goals, tried on the library and on both programs.
+//! routes of one cost, with several goals and with bytes ahead of a table, tried on the library and on the programs.
 
 use second::checks::{Goals, Job};
 use second::decision::{decide, Answer, State};
 use second::floor::Floor;
 use second::opening::{distances, open, opening_figure, opening_table};
+use second::output::Output;
 use second::refusal::{Halt, Refusal};
 use second::trial::{run, trial, Counts, Ran};
-use second::{aisle, calls, floor_text, table_file};
+use second::{aisle, calls, floor_text, renew, table_file};
 
 /// The floor `...`, `@@.`, `...`.
 const FLOOR: [u8; 9] = [0, 0, 0, 1, 1, 0, 0, 0, 0];
@@ -595,7 +596,7 @@ fn a_file_of_several_goals() {
         read.err().map(|refusal| refusal.number)
     };
     assert_eq!(read(&file_of_two(|_| {}), &[0, 5]), None);
-    assert_eq!(read(&file_of_two(|file| drop(file.splice(0..0, [1, 2, 3]))), &[0, 5]), None);
+    assert_eq!(read(&file_of_two(|file| drop(file.splice(0..0, [1, 2, 3]))), &[0, 5]), Some(28));
     for goals in [&[0u64] as &[u64], &[5], &[0, 8], &[1, 5], &[0, 5, 8]] {
         assert_eq!(read(&file_of_two(|_| {}), goals), Some(14));
     }
@@ -633,6 +634,18 @@ fn numbers_3_and_1() {
     assert_eq!(open(&wide, START, &opening(1)).err(), Some(Refusal::plain(1)));
 }
 
+/// The worked run's records, and the trailers of both editions for them.
+const RECORDS: [u8; 24] = [
+    0x00, 0x05, 0x00, 0x00, 0x00, 0x1E, 0x00, 0x06, 0x00, 0x00, 0x00, 0x3C, 0x00, 0x07, 0x00, 0x00, 0x00,
+    0x32, 0x00, 0x08, 0x00, 0x00, 0x00, 0x28,
+];
+const FIRST_TRAILER: [u8; 16] =
+    [0x03, 0x03, 0x00, 0x00, 0x01, 0x01, 0x00, 0x04, 0x00, 0x00, 0x00, 0x28, 0x50, 0x44, 0x4C, 0x54];
+const TRAILER: [u8; 24] = [
+    0x03, 0x03, 0x01, 0x00, 0x00, 0x00, 0xFF, 0xFF, 0xFF, 0xFF, 0xFF, 0xFF, 0x01, 0x02, 0x00, 0x04, 0x00,
+    0x00, 0x00, 0x30, 0x50, 0x44, 0x4C, 0x54,
+];
+
 #[test]
 fn the_run_and_its_table_file() {
     let (mut table, mut path) = (opening(1), vec![0; 9]);
@@ -645,26 +658,125 @@ fn the_run_and_its_table_file() {
 
     let mut file = vec![0xEE; 50];
     let length = table_file::write(3, 3, &one(0), 1, &FLOOR, &table, &mut file);
-    let records = [
-        0x00, 0x05, 0x00, 0x00, 0x00, 0x1E, 0x00, 0x06, 0x00, 0x00, 0x00, 0x3C, 0x00, 0x07, 0x00, 0x00, 0x00,
-        0x32, 0x00, 0x08, 0x00, 0x00, 0x00, 0x28,
-    ];
-    let trailer = [
-        0x03, 0x03, 0x01, 0x00, 0x00, 0x00, 0xFF, 0xFF, 0xFF, 0xFF, 0xFF, 0xFF, 0x01, 0x02, 0x00, 0x04, 0x00,
-        0x00, 0x00, 0x30, 0x50, 0x44, 0x4C, 0x54,
-    ];
     assert_eq!(length, Ok(48));
-    assert_eq!(file[..48], [records, trailer].concat());
+    assert_eq!(file[..48], [RECORDS, TRAILER].concat());
     assert_eq!(file[48..], [0xEE; 2]);
-    let trailer_of_edition_1 =
-        [0x03, 0x03, 0x00, 0x00, 0x01, 0x01, 0x00, 0x04, 0x00, 0x00, 0x00, 0x28, 0x50, 0x44, 0x4C, 0x54];
-    for file in [[&records[..], &trailer].concat(), [&records[..], &trailer_of_edition_1].concat()] {
-        assert_eq!(table_file::find_records(&file), records);
+    for file in [[RECORDS, TRAILER].concat(), [&RECORDS[..], &FIRST_TRAILER].concat()] {
+        assert_eq!(table_file::find_records(&file), RECORDS);
         assert_eq!(table_file::check_trailer(&file), Ok(()));
         let mut again = vec![0; 9];
         assert_eq!(table_file::read(3, 3, &one(0), 1, &FLOOR, &file, &mut again), Ok(()));
         assert_eq!(again, table);
     }
+}
+
+/// The worked table's files of both editions, with bytes ahead.
+fn files_after(older: &[u8]) -> [Vec<u8>; 2] {
+    [[older, &RECORDS, &FIRST_TRAILER].concat(), [older, &RECORDS, &TRAILER].concat()]
+}
+
+#[test]
+fn number_28_stands_between_13_and_14() {
+    let read = |file: &[u8], goals: &[u64], q: u64| {
+        let mut table = [7; 9];
+        let read = table_file::read(3, 3, &Goals::named(goals), q, &FLOOR, file, &mut table);
+        assert_eq!(table == [7; 9], read.is_err());
+        read.err()
+    };
+    let [of_28, of_13, of_14] = [28, 13, 14].map(|number| Some(Refusal::plain(number)));
+    for (at, file) in files_after(&[]).iter().enumerate() {
+        assert_eq!(read(file, &[0], 1), None);
+        assert_eq!(read(file, &[1], 1), of_14);
+        for older in [&[0u8] as &[u8], &[9; 6], &RECORDS, b"PDLT", &files_after(&[])[0], &files_after(&[])[1]]
+        {
+            let after = &files_after(older)[at];
+            assert_eq!(read(after, &[0], 1), of_28);
+            // The trailer's check and the finder pass it.
+            assert_eq!(table_file::check_trailer(after), Ok(()));
+            assert_eq!(table_file::find_records(after), RECORDS);
+            // Before another job and before a faulty record; after a faulty trailer and after a faulty job.
+            assert_eq!(read(after, &[1], 1), of_28);
+            assert_eq!(read(after, &[0], 2), of_28);
+            let mut faulty = after.clone();
+            faulty[older.len() + 1] = 9;
+            assert_eq!(read(&faulty, &[0], 1), of_28);
+            assert_eq!(read(&faulty[older.len()..], &[0], 1), Some(Refusal::at_record(18, 0)));
+            faulty.push(0);
+            assert_eq!(read(&faulty, &[0], 1), of_13);
+            assert_eq!(read(after, &[3], 1), Some(Refusal::plain(4)));
+            assert_eq!(read(after, &[0, 0], 1), Some(Refusal::plain(27)));
+            assert_eq!(read(after, &[0], 17), Some(Refusal::plain(3)));
+        }
+    }
+    // One record fewer than there are: the first is ahead of the table.
+    let [mut first, mut file] = files_after(&[]);
+    (first[31], first[35]) = (3, 34);
+    (file[39], file[43]) = (3, 42);
+    assert_eq!([read(&first, &[0], 1), read(&file, &[0], 1)], [of_28, of_28]);
+}
+
+#[test]
+fn a_file_is_renewed() {
+    let [first, file] = files_after(&[]);
+    assert_eq!((first.len(), file.len()), (40, 48));
+    for older in [&[] as &[u8], &[0], b"older", &RECORDS, &first, &file] {
+        for old in files_after(older) {
+            let mut buffer = [0xEE; 50];
+            assert_eq!(table_file::renew(&old, &mut buffer), Ok(48));
+            assert_eq!((&buffer[..48], &buffer[48..]), (&file[..], &[0xEE; 2][..]));
+            assert_eq!(table_file::renew(&old, &mut buffer[..48]), Ok(48));
+            let mut short = [0xEE; 47];
+            assert_eq!(table_file::renew(&old, &mut short), Err(Refusal::plain(17)));
+            assert_eq!(short, [0xEE; 47]);
+            assert_eq!(renew::answer(&old), Output::plain(file.clone()));
+        }
+    }
+}
+
+#[test]
+fn a_renewal_judges_13_and_17_alone() {
+    let refused = Output { out: Vec::new(), err: b"refused 13\n".to_vec() };
+    let none = |file: &[u8], room: usize| {
+        assert_eq!(table_file::renew(file, &mut vec![0; room]), Err(Refusal::plain(13)));
+        assert_eq!(renew::answer(file), refused);
+    };
+    let [first, file] = files_after(&[]);
+    for room in [0, 99] {
+        (0..40).for_each(|length| none(&first[40 - length..], room));
+        (0..48).for_each(|length| none(&file[48 - length..], room));
+        // Edition, count, back and letters of the first; of the other also the zero byte.
+        for at in 29..40 {
+            none(&[&first[..at], &[first[at] ^ 8], &first[at + 1..]].concat(), room);
+        }
+        for at in (37..48).chain([27]) {
+            none(&[&file[..at], &[file[at] ^ 8], &file[at + 1..]].concat(), room);
+        }
+        none(b"type octile\nheight 3\nwidth 3\nmap\n", room);
+    }
+    // Nothing else is judged: whatever the records and the trailer say of cells, sides, goals and q stands as it stood.
+    let lettered = |bytes: &[u8]| [bytes, b"PDLT"].concat();
+    let renewed = |file: &[u8]| renew::answer(&[b"older", file].concat());
+    let odd_records = [255, 255, 255, 255, 255, 255, 0, 0, 0, 0, 0, 0];
+    let odd_trailer = [0, 255, 7, 0, 9, 9, 0, 0, 9, 9, 255, 254, 0, 2, 0, 2, 0, 0, 0, 36];
+    let odd = lettered(&[&odd_records[..], &odd_trailer].concat());
+    assert_eq!(renewed(&odd), Output::plain(odd));
+    let odd_first = lettered(&[0, 255, 255, 254, 0, 1, 0, 0, 0, 0, 0, 16]);
+    let now = lettered(&[0, 255, 1, 0, 255, 254, 255, 255, 255, 255, 255, 255, 0, 2, 0, 0, 0, 0, 0, 24]);
+    assert_eq!(renewed(&odd_first), Output::plain(now));
+}
+
+#[test]
+fn the_longest_table_is_renewed() {
+    let records = [1, 2, 3, 4, 5, 6].repeat(65_535);
+    let first = [&records[..], &[3, 3, 0, 1, 16, 1, 255, 255, 0, 6, 0, 10], b"PDLT"].concat();
+    let file = renew::answer(&first).out;
+    assert_eq!(file.len(), 393_234);
+    assert_eq!(file[..393_210], records);
+    assert_eq!(file[393_210..393_224], [3, 3, 1, 0, 0, 1, 255, 255, 255, 255, 255, 255, 16, 2]);
+    assert_eq!(file[393_224..393_230], [255, 255, 0, 6, 0, 18]);
+    assert_eq!(renew::answer(&[&[0][..], &first].concat()).out, file);
+    assert_eq!(renew::answer(&first[1..]).err, b"refused 13\n");
+    assert_eq!(renew::answer(&file[1..]).err, b"refused 13\n");
 }
 
 const TEXT: &str = "type octile\nheight 3\nwidth 3\nmap\n...\n@@.\n...\n";
@@ -727,6 +839,14 @@ fn the_program_calls() {
     assert_eq!(call("8 16 3 3 0 0 1 1 0 0 0 0 0 16 80 68 76 84"), "0\n");
     assert_eq!(call("9 16 3 3 0 0 1 1 0 0 0 0 0 16 80 68 76 84"), "0 0 0\n");
     assert_eq!(call("9 15 3 0 0 1 1 0 0 0 0 0 16 80 68 76 84"), "13 0 0\n");
+    let renewed = "3 3 1 0 0 2 255 255 255 255 255 255 1 2 0 0 0 0 0 24 80 68 76 84";
+    let nines = " 9".repeat(25);
+    assert_eq!(
+        call(&format!("12 18 7 7 3 3 0 2 1 1 0 0 0 0 0 16 80 68 76 84 25{nines}")),
+        format!("0 0 0 24 25 {renewed} 9\n")
+    );
+    assert_eq!(call(&format!("12 24 {renewed} 2 5 6")), "17 0 0 0 2 5 6\n");
+    assert_eq!(call("12 0 2 5 6"), "13 0 0 0 2 5 6\n");
     assert_eq!(call(&format!("1 3 3 6 2 0 8 1 1 1 0 {floor} 9 0 10 20 10 14 30 60 50 40")), "7 1 5\n");
     assert_eq!(call(&format!("1 3 3 6 0 1 1 1 0 {floor} {table}")), "27 0 0\n");
     assert_eq!(call(&format!("10 3 3 8 0 1 2 5 4 4 4 4294967295 1 {floor} 1 7")), "1 0 0 1 7\n");
@@ -735,9 +855,23 @@ fn the_program_calls() {
         format!("27 0 0 {table}\n")
     );
     assert_eq!(call(&format!("10 3 3 9 0 1 2 5 4 4 4 4 4 1 {floor} {table}")), "malformed\n");
-    for malformed in
-        ["", "\n", "0", "11", "12", "8", "8 1", "8 1 256", "8 0 0", "8\t0", "8 -0", "8 4294967296", "9 32769"]
-    {
+    for malformed in [
+        "",
+        "\n",
+        "0",
+        "11",
+        "12",
+        "12 0",
+        "13",
+        "8",
+        "8 1",
+        "8 1 256",
+        "8 0 0",
+        "8\t0",
+        "8 -0",
+        "8 4294967296",
+        "9 32769",
+    ] {
         assert_eq!(call(malformed), "malformed\n");
     }
 }

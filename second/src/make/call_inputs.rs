@@ -14,7 +14,7 @@ use crate::calls::{BYTE_ROOM, CELL_ROOM, GOAL_ROOM, MOST_INPUT, MOVE_ROOM, REPOR
 use crate::lookahead::MOST_MOVES;
 
 pub fn input(dice: &mut Dice) -> Vec<u8> {
-    let call = 1 + dice.weighted(&[10, 37, 11, 12, 7, 8, 14, 3, 4, 4, 5]) as u64;
+    let call = 1 + dice.weighted(&[10, 37, 11, 12, 7, 8, 16, 3, 4, 4, 5, 6]) as u64;
     let long = match call {
         2 => dice.chance(50),
         3 | 4 => dice.chance(70),
@@ -31,7 +31,8 @@ pub fn input(dice: &mut Dice) -> Vec<u8> {
         7 => read_table_file(&kit, dice),
         8 | 9 => records_or_trailer(&kit, call, dice),
         10 => opening_table(&kit, dice),
-        _ => write_floor_text(&mut kit, dice),
+        11 => write_floor_text(&mut kit, dice),
+        _ => renew(&kit, dice),
     };
     // Several faults at once show the order in which they are judged.
     let weights = if long { [80, 12, 5, 3] } else { [55, 27, 11, 7] };
@@ -114,7 +115,9 @@ fn malformed(draft: &Draft, mut words: Vec<String>, dice: &mut Dice) -> Vec<u8> 
                 List::Goals => (GOAL_ROOM, 1),
                 List::Moves => (MOVE_ROOM, 1),
                 List::Reports => (REPORT_ROOM, 4),
-                List::Text | List::File | List::FileBuffer | List::TextBuffer => (BYTE_ROOM, 1),
+                List::Text | List::File | List::FileBuffer | List::TextBuffer | List::RenewedBuffer => {
+                    (BYTE_ROOM, 1)
+                }
                 // CALLS.md doesn't say how much room this buffer has, only that it's bytes: too long by any reading.
                 List::FloorBuffer => (BYTE_ROOM + 1, 1),
                 List::Floor | List::Table | List::Path => (CELL_ROOM, 1),
@@ -126,7 +129,7 @@ fn malformed(draft: &Draft, mut words: Vec<String>, dice: &mut Dice) -> Vec<u8> 
             words[length_at] = (new / width).to_string();
         }
         9 => words[length_at] = "4294967295".into(),
-        10 => words[0] = dice.pick(&["0", "12", "4294967295", "256", "267", "x"]).into(),
+        10 => words[0] = dice.pick(&["0", "13", "4294967295", "256", "268", "x"]).into(),
         11 => {
             return dice
                 .pick::<&[u8]>(&[b"", b" ", b"\n", b"\n\n", b"7", b"malformed\n", b"8 0", b"9 0\n"])
@@ -274,7 +277,10 @@ fn write_table_file(kit: &mut Kit, dice: &mut Dice) -> Draft {
 
 fn read_table_file(kit: &Kit, dice: &mut Dice) -> Draft {
     let mut file = files::Draft::new(kit, dice);
-    // The general spoiling seldom hits the file, so some are spoiled here.
+    // The general spoiling seldom hits the file, so some are spoiled here. Older material hides all that comes after it.
+    if dice.chance(15) {
+        file.add_older(kit, dice);
+    }
     if dice.chance(45) {
         file.spoil_record(kit, dice);
     }
@@ -282,16 +288,47 @@ fn read_table_file(kit: &Kit, dice: &mut Dice) -> Draft {
         file.spoil_trailer(kit, dice);
     }
     let table = junk(kit.cells(), dice.pick_bound(kit), dice);
-    let file = bytes_as_entries(&file.bytes());
+    let file = bytes_as_entries(&file.bytes_within(BYTE_ROOM));
     table_call(7, kit, vec![Entries(List::File, file), Entries(List::Table, table)])
 }
 
 fn records_or_trailer(kit: &Kit, call: u64, dice: &mut Dice) -> Draft {
     let mut file = files::Draft::new(kit, dice);
+    if dice.chance(40) {
+        file.add_older(kit, dice);
+    }
     if dice.chance(30) {
         file.spoil_trailer(kit, dice);
     }
-    Draft { call, arguments: vec![Entries(List::File, bytes_as_entries(&file.bytes()))] }
+    Draft { call, arguments: vec![Entries(List::File, bytes_as_entries(&file.bytes_within(BYTE_ROOM)))] }
+}
+
+fn renew(kit: &Kit, dice: &mut Dice) -> Draft {
+    let mut file = files::Draft::new(kit, dice);
+    if dice.chance(50) {
+        file.add_older(kit, dice);
+    }
+    // Records that no reader takes are kept as they stand.
+    if dice.chance(15) {
+        file.spoil_record(kit, dice);
+    }
+    if dice.chance(25) {
+        file.spoil_trailer(kit, dice);
+    }
+    let file = file.bytes_within(BYTE_ROOM);
+    let enough = files::renewed_length(&file);
+    let length = match dice.below(16) {
+        0 | 1 => enough - 1,
+        // As much as the file itself takes, or as an edition 1 trailer would.
+        2 => file.len(),
+        3 => enough - 8,
+        4 => 0,
+        5..=10 => enough + dice.index(65),
+        _ => enough,
+    };
+    let buffer = junk(length.min(BYTE_ROOM), 256, dice);
+    let arguments = vec![Entries(List::File, bytes_as_entries(&file)), Entries(List::RenewedBuffer, buffer)];
+    Draft { call: 12, arguments }
 }
 
 fn opening_table(kit: &Kit, dice: &mut Dice) -> Draft {

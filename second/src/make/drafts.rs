@@ -41,6 +41,8 @@ pub enum List {
     FileBuffer,
     /// The buffer that a floor text is written into.
     TextBuffer,
+    /// The buffer that a renewed table file is written into.
+    RenewedBuffer,
 }
 
 #[derive(Clone, Debug)]
@@ -276,14 +278,13 @@ impl Draft {
             List::File => {
                 let mut file = files::Draft::new(kit, dice);
                 for _ in 0..dice.pick(&[1, 1, 2]) {
-                    if dice.chance(50) {
-                        file.spoil_trailer(kit, dice);
-                    } else {
-                        file.spoil_record(kit, dice);
+                    match dice.below(5) {
+                        0 | 1 => file.spoil_trailer(kit, dice),
+                        2 | 3 => file.spoil_record(kit, dice),
+                        _ => file.add_older(kit, dice),
                     }
                 }
-                entries = file.bytes().into_iter().map(u64::from).collect();
-                entries.truncate(BYTE_ROOM);
+                entries = file.bytes_within(BYTE_ROOM).into_iter().map(u64::from).collect();
             }
             List::FloorBuffer => {
                 let cells = kit.cells();
@@ -302,6 +303,12 @@ impl Draft {
             List::TextBuffer => {
                 let enough = texts::length(kit.width, kit.height);
                 entries.resize(dice.pick(&[enough, enough - 1, enough - 1, 0, kit.cells(), enough + 1]), 9);
+            }
+            List::RenewedBuffer => {
+                let file: Vec<u8> = self.list(List::File).iter().map(|&entry| entry as u8).collect();
+                let enough = files::renewed_length(&file);
+                let length = dice.pick(&[enough, enough - 1, enough - 1, 0, 23, enough - 8, file.len()]);
+                entries.resize(length.min(BYTE_ROOM), 9);
             }
         }
         entries

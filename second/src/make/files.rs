@@ -4,6 +4,7 @@ use super::dice::Dice;
 use super::jobs::Kit;
 use crate::checks::{CEILING, MOST_GOALS};
 use crate::floor::is_free_byte;
+use crate::table_file;
 
 /// A file by its parts, so that each can be made faulty by itself.
 pub struct Draft {
@@ -27,7 +28,7 @@ pub struct Draft {
 }
 
 impl Draft {
-    /// A good file of a job: some of its cells at figures above their opening figures.
+    /// A good file of a job, which begins with its first record: some of its cells at figures above their opening figures.
     pub fn new(kit: &Kit, dice: &mut Dice) -> Draft {
         let from_table = dice.chance(50);
         let percent = dice.pick(&[0, 5, 30, 100]);
@@ -43,12 +44,10 @@ impl Draft {
                 records.push((cell as u16, figure));
             }
         }
-        let older_length = if dice.chance(40) { dice.from_to(1, 40) } else { 0 };
-        let older = (0..older_length).map(|_| dice.byte()).collect();
         // Edition 1 can't tell of several goals; that it is tried with them shows that it is refused.
         let first_edition = dice.chance(if kit.goals.len() == 1 { 45 } else { 10 });
         let mut draft = Draft {
-            older,
+            older: Vec::new(),
             records,
             first_edition,
             width: kit.width as u8,
@@ -113,6 +112,52 @@ impl Draft {
         bytes.truncate(bytes.len().saturating_sub(self.cut_end));
         bytes.drain(..self.cut_front.min(bytes.len()));
         bytes
+    }
+
+    /// The same where there is no more room than this: of a longer file its last part.
+    pub fn bytes_within(&self, room: usize) -> Vec<u8> {
+        let mut bytes = self.bytes();
+        bytes.drain(..bytes.len().saturating_sub(room));
+        bytes
+    }
+
+    /// Puts older material ahead of the first record.
+    pub fn add_older(&mut self, kit: &Kit, dice: &mut Dice) {
+        self.older = match dice.below(6) {
+            // A whole table, of this job or of other goals, now and then with bytes between it and the last one.
+            0 | 1 => {
+                let mut older = Draft::new(kit, dice);
+                if dice.chance(40) {
+                    older.set_goals(other_goals(kit, dice));
+                }
+                let between = dice.pick(&[0, 0, 0, 1, 7]);
+                let mut bytes = older.bytes();
+                bytes.resize(bytes.len() + between, 0);
+                bytes
+            }
+            // A trailer, or an end of one.
+            2 => {
+                let mut bytes = self.bytes();
+                let length = dice.pick(&[self.trailer_length(), 4, 12]);
+                bytes.drain(..bytes.len() - length);
+                bytes
+            }
+            // As many bytes as make a record, or as the trailers differ by.
+            3 => vec![0; dice.pick(&[6, 8, 12, 16, 24])],
+            _ => (0..dice.from_to(1, 40)).map(|_| dice.byte()).collect(),
+        };
+    }
+
+    /// Older material in place of what there is.
+    pub fn set_older(&mut self, older: Vec<u8>) {
+        self.older = older;
+    }
+
+    /// Makes it a table of this many records, whatever they say.
+    pub fn set_records(&mut self, count: u16, dice: &mut Dice) {
+        let figure = dice.roll() as u32;
+        self.records = (0..count).map(|cell| (cell, figure.wrapping_add(u32::from(cell)))).collect();
+        self.recount();
     }
 
     /// Spoils the trailer or the file's length.
@@ -262,6 +307,11 @@ impl Draft {
             _ => *figure = dice.pick(&[CEILING + 1, CEILING + 1, u32::MAX]),
         }
     }
+}
+
+/// How much room renewing a file takes; of a file that is refused, a table without records.
+pub fn renewed_length(file: &[u8]) -> usize {
+    table_file::renewed(file).map_or(24, |renewed| renewed.len())
 }
 
 /// The four places as the writer gives them.

@@ -1,4 +1,4 @@
-//! The seeded generator: an input of `aisle` or `calls` for every seed, the same each time.
+//! The seeded generator: an input of `aisle`, `calls` or `renew` for every seed, the same each time.
 
 pub mod aisle_inputs;
 pub mod bends;
@@ -8,56 +8,65 @@ pub mod drafts;
 pub mod files;
 pub mod floors;
 pub mod jobs;
+pub mod renew_inputs;
 pub mod slow;
 pub mod states;
 pub mod texts;
 pub mod weaving;
 pub mod winding;
 
-use crate::{aisle, calls};
+use crate::output::Output;
+use crate::{aisle, calls, renew};
 use dice::Dice;
 
 #[derive(Clone, Copy, Debug, PartialEq, Eq)]
 pub enum Program {
     Aisle,
     Calls,
+    Renew,
 }
+
+pub const PROGRAMS: [Program; 3] = [Program::Aisle, Program::Calls, Program::Renew];
 
 impl Program {
     pub fn name(self) -> &'static str {
         match self {
             Program::Aisle => "aisle",
             Program::Calls => "calls",
+            Program::Renew => "renew",
         }
     }
 
     pub fn named(name: &str) -> Option<Program> {
-        [Program::Aisle, Program::Calls].into_iter().find(|program| program.name() == name)
+        PROGRAMS.into_iter().find(|program| program.name() == name)
     }
 
-    /// This program's own output.
-    pub fn answer(self, input: &[u8]) -> Vec<u8> {
+    /// What this program itself writes.
+    pub fn answer(self, input: &[u8]) -> Output {
         match self {
-            Program::Aisle => aisle::answer(input),
-            Program::Calls => calls::answer(input),
+            Program::Aisle => Output::plain(aisle::answer(input)),
+            Program::Calls => Output::plain(calls::answer(input)),
+            Program::Renew => renew::answer(input),
         }
+    }
+
+    /// Whether the papers say what stands on standard error.
+    pub fn tells_on_error(self) -> bool {
+        self == Program::Renew
     }
 
     fn answers_within(self, input: &[u8], most: u64) -> bool {
         match self {
             Program::Aisle => aisle::answer_within(input, most).is_some(),
             Program::Calls => calls::answer_within(input, most).is_some(),
+            Program::Renew => true,
         }
     }
 }
 
-/// The program that a seed is for: about one in four is for `aisle`.
+/// The program that a seed is for: about one in twelve is for `renew`, and of the others one in four for `aisle`.
 pub fn program_of(seed: u64) -> Program {
-    if Dice::new(!seed).chance(25) {
-        Program::Aisle
-    } else {
-        Program::Calls
-    }
+    PROGRAMS[Dice::new(!seed).weighted(&[23, 69, 8])]
 }
 
 /// The input of a seed. A job that would take too many decisions is passed over for another of the same seed.
@@ -67,6 +76,7 @@ pub fn input(program: Program, seed: u64) -> Vec<u8> {
         let input = match program {
             Program::Aisle => aisle_inputs::input(&mut dice),
             Program::Calls => call_inputs::input(&mut dice),
+            Program::Renew => renew_inputs::input(&mut dice),
         };
         // Mostly short jobs, so that many can be compared in a short time.
         let most = [3_000, 30_000, 200_000][dice.weighted(&[80, 17, 3])];
