@@ -5,6 +5,7 @@ use crate::lookahead::Window;
 use crate::make::weaving::{weaves, Woven};
 use crate::make::{self, Program};
 use crate::output::Output;
+use crate::table_file::LONGEST;
 use crate::{aisle, calls};
 use std::io::{self, Read, Write};
 use std::process::{Command, Stdio};
@@ -202,6 +203,9 @@ pub struct Tally {
     renewed_calls: Renewed,
     renewed: Renewed,
     renew_refused: u64,
+    /// How many of the inputs that it renewed were longer than the longest table, and how many ended with that table.
+    renewed_long: u64,
+    renewed_longest: u64,
     /// How many had a leg where the lowest cells alone would weave, gone forward and gone back.
     pub woven_decisions: [u64; 2],
     pub woven_aisle: [u64; 2],
@@ -353,6 +357,8 @@ impl Tally {
         if output.err.is_empty() {
             let (edition, ahead) = kind_of_file(input);
             self.renewed[edition][ahead] += 1;
+            self.renewed_long += u64::from(input.len() > LONGEST);
+            self.renewed_longest += u64::from(edition == 1 && output.out.len() == LONGEST);
             self.add_number(0);
         } else {
             self.renew_refused += 1;
@@ -416,9 +422,12 @@ impl Tally {
                 need(after_older, &format!("with bytes ahead renewed by {whose}"));
             }
         }
-        if self.renew_refused == 0 {
-            missing.push("renew refused".into());
-        }
+        let of_renew = [
+            (self.renew_refused, "renew refused"),
+            (self.renewed_long, "renew of more than the longest table"),
+            (self.renewed_longest, "renew of the longest table"),
+        ];
+        missing.extend(of_renew.iter().filter(|(count, _)| *count == 0).map(|(_, words)| words.to_string()));
         if self.slow_aisle == 0 {
             missing.push("aisle with slow cells".into());
         }
@@ -457,7 +466,12 @@ impl Tally {
                 plain_renew + after_renew
             );
         }
-        println!("renew refused {}", self.renew_refused);
+        let (long, longest) = (self.renewed_long, self.renewed_longest);
+        print!(
+            "renew refused {}; of what it renewed, {long} inputs were longer than the longest table, ",
+            self.renew_refused
+        );
+        println!("and {longest} ended with that");
         let [arrived, forward, backed_out, stayed, refused] = self.decisions;
         let (cuts, by_8) = (self.cuts, self.refused_on_backing_out);
         print!("decisions: {arrived} arrived, {forward} forward ({cuts} cut the path), {backed_out} backed out, ");

@@ -20,6 +20,9 @@ const EDITION: u8 = 2;
 const JOB: usize = 5 + 2 * MOST_GOALS;
 const ZERO_AT: usize = 3;
 
+/// The longest file that a trailer can tell of. No more than that is needed of a file with bytes ahead.
+pub const LONGEST: usize = JOB + ENDING + RECORD * u16::MAX as usize;
+
 /// The place of a goal that the job doesn't have.
 const NO_GOAL: u16 = u16::MAX;
 

@@ -277,14 +277,16 @@ fn write_table_file(kit: &mut Kit, dice: &mut Dice) -> Draft {
 
 fn read_table_file(kit: &Kit, dice: &mut Dice) -> Draft {
     let mut file = files::Draft::new(kit, dice);
-    // The general spoiling seldom hits the file, so some are spoiled here. Older material hides all that comes after it.
-    if dice.chance(15) {
+    // The general spoiling seldom hits the file, so some are spoiled here. Few have bytes ahead, which hide the faults of records;
+    // of these more have a faulty trailer too, so that the order shows.
+    let ahead = dice.chance(18);
+    if ahead {
         file.add_older(kit, dice);
     }
     if dice.chance(45) {
         file.spoil_record(kit, dice);
     }
-    if dice.chance(20) {
+    if dice.chance(if ahead { 50 } else { 20 }) {
         file.spoil_trailer(kit, dice);
     }
     let table = junk(kit.cells(), dice.pick_bound(kit), dice);

@@ -4,14 +4,12 @@ use super::dice::Dice;
 use super::files::Draft;
 use super::jobs::{self, Kit};
 use super::texts;
-
-/// The longest file that a trailer can tell of: 65,535 records and an edition 2 trailer. No more than that is ever needed of an input.
-const LONGEST: usize = 24 + 6 * 65_535;
+use crate::table_file::LONGEST;
 
 pub fn input(dice: &mut Dice) -> Vec<u8> {
     let kit = jobs::kit(dice);
     let mut file = Draft::new(&kit, dice);
-    match dice.weighted(&[31, 40, 8, 8, 10, 3]) {
+    match dice.weighted(&[30, 40, 8, 8, 10, 4]) {
         0 => {}
         1 => file.add_older(&kit, dice),
         2 => file.set_older(older_tables(&file, dice)),
@@ -59,13 +57,13 @@ fn no_table(kit: &Kit, file: &[u8], dice: &mut Dice) -> Vec<u8> {
 /// A few hundred kilobytes: a table behind long older material, so that the whole is about as long as the longest file or about
 /// twice that; or the longest table itself, whole, cut or behind other bytes.
 fn long(mut file: Draft, dice: &mut Dice) -> Vec<u8> {
-    if dice.chance(50) {
+    if dice.chance(40) {
         let whole = dice.pick(&[LONGEST / 2, LONGEST, LONGEST, 2 * LONGEST]) - 2 + dice.index(5);
         let (byte, length) = (dice.byte(), whole.saturating_sub(file.bytes().len()));
         file.set_older((0..length).map(|at| byte ^ (at % 251) as u8).collect());
         return file.bytes();
     }
-    file.set_records(dice.pick(&[u16::MAX, u16::MAX, u16::MAX - 1, 20_000]), dice);
+    file.set_records(dice.pick(&[u16::MAX, u16::MAX, u16::MAX, u16::MAX - 1]), dice);
     let mut bytes = file.bytes();
     match dice.below(4) {
         0 => drop(bytes.remove(0)),
