@@ -29,6 +29,7 @@ extern "C" {
         width: usize, height: usize, count: usize, goal: usize, q: usize, floor: *const u8, floor_len: usize,
         table: *const u32, table_len: usize, buffer: *mut u8, buffer_len: usize,
     ) -> usize;
+    fn probe_renew(file: *const u8, file_len: usize, buffer: *mut u8, buffer_len: usize) -> usize;
     fn probe_find(file: *const u8, file_len: usize) -> usize;
     fn probe_trailer(file: *const u8, file_len: usize) -> usize;
 
@@ -186,6 +187,19 @@ fn read_table(map: &Map) -> usize {
     need(|| assert!(unsafe { probe_read(SIDE, SIDE, 1, map.goal, Q, map.floor.as_ptr(), CELLS, file.as_ptr(), file.len(), table.as_mut_ptr(), CELLS) } == 0))
 }
 
+// The file renewed: of edition 1, so that its trailer is made anew, or of edition 2, so that it is copied.
+fn renew_file(map: &Map) -> usize {
+    let (_, second) = file(map);
+    let mut first = second[..6 * CELLS].to_vec();
+    first.extend([SIDE as u8, SIDE as u8, (map.goal >> 8) as u8, map.goal as u8, Q as u8, 1]);
+    first.extend((CELLS as u16).to_be_bytes());
+    first.extend(((16 + 6 * CELLS) as u32).to_be_bytes());
+    first.extend(b"PDLT");
+    let mut buffer = vec![0; second.len()];
+    let mut renewed = |file: &[u8]| need(|| assert!(unsafe { probe_renew(file.as_ptr(), file.len(), buffer.as_mut_ptr(), buffer.len()) } == second.len()));
+    renewed(&first).max(renewed(&second))
+}
+
 fn main() {
     let bare = map(|_, _| false);
     let snake = map(|x, y| y % 2 == 1 && x != if y % 4 == 1 { SIDE - 1 } else { 0 });
@@ -205,6 +219,7 @@ fn main() {
         ("write_floor", most(&write_floor)),
         ("write_table", write_table(&bare)),
         ("read_table", read_table(&bare)),
+        ("renew_file", renew_file(&bare)),
         ("find_records", need(|| assert!(unsafe { probe_find(whole.as_ptr(), whole.len()) } == 6 * CELLS))),
         ("check_trailer", need(|| assert!(unsafe { probe_trailer(whole.as_ptr(), whole.len()) } == 0))),
         ("fill_opening", most(&fill)),

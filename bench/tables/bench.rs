@@ -1,4 +1,4 @@
-// Microseconds for reading and writing a table of 4,096 records, and for filling one with opening figures, the proved calls beside plain Rust in one run.
+// Microseconds for reading, writing and renewing a table of 4,096 records, and for filling one with opening figures, the proved calls beside plain Rust in one run.
 use std::time::Instant;
 
 extern "C" {
@@ -11,12 +11,14 @@ extern "C" {
         width: usize, height: usize, count: usize, goal: usize, q: usize, floor: *const u8, floor_len: usize,
         table: *const u32, table_len: usize, buffer: *mut u8, buffer_len: usize,
     ) -> usize;
+    fn probe_renew(file: *const u8, file_len: usize, buffer: *mut u8, buffer_len: usize) -> usize;
 }
 
 const SIDE: usize = 64;
 const CELLS: usize = SIDE * SIDE;
 const CEILING: u32 = 1_834_560;
 const TRAILER: usize = 24;
+const FIRST_TRAILER: usize = 16;
 
 /// Byte 0 is free, 2 is slow and free, every other is blocked.
 fn is_free(byte: u8) -> bool {
@@ -105,6 +107,9 @@ fn plain_read(goals: &[usize], q: usize, floor: &[u8], file: &[u8], table: &mut 
     if &t[20..] != b"PDLT" || t[13] != 2 || t[3] != 0 || back != TRAILER + 6 * count || back > file.len() {
         return 13;
     }
+    if back < file.len() {
+        return 28;
+    }
     if t[0] as usize != SIDE || t[1] as usize != SIDE || t[2..12] != named(goals) || t[12] as usize != q {
         return 14;
     }
@@ -124,6 +129,31 @@ fn plain_read(goals: &[usize], q: usize, floor: &[u8], file: &[u8], table: &mut 
         table[u16::from_be_bytes([r[0], r[1]]) as usize] = u32::from_be_bytes([r[2], r[3], r[4], r[5]]);
     }
     0
+}
+
+// A file of edition 1 renewed the same way: the length, or 0 where it is refused.
+fn plain_renew(file: &[u8], buffer: &mut [u8]) -> usize {
+    if file.len() < FIRST_TRAILER {
+        return 0;
+    }
+    let t = &file[file.len() - FIRST_TRAILER..];
+    let count = u16::from_be_bytes([t[6], t[7]]) as usize;
+    let back = u32::from_be_bytes([t[8], t[9], t[10], t[11]]) as usize;
+    let length = TRAILER + 6 * count;
+    if &t[12..] != b"PDLT" || t[5] != 1 || back != FIRST_TRAILER + 6 * count || back > file.len() || length > buffer.len() {
+        return 0;
+    }
+    let (records, new) = buffer[..length].split_at_mut(6 * count);
+    records.copy_from_slice(&file[file.len() - back..file.len() - FIRST_TRAILER]);
+    new.copy_from_slice(&[255; TRAILER]);
+    new[..2].copy_from_slice(&t[..2]);
+    new[2..4].copy_from_slice(&[1, 0]);
+    new[4..6].copy_from_slice(&t[2..4]);
+    new[12..14].copy_from_slice(&[t[4], 2]);
+    new[14..16].copy_from_slice(&t[6..8]);
+    new[16..20].copy_from_slice(&(length as u32).to_be_bytes());
+    new[20..].copy_from_slice(b"PDLT");
+    length
 }
 
 fn plain_fill(goals: &[usize], q: usize, floor: &[u8], table: &mut [u32]) -> usize {
@@ -168,6 +198,17 @@ fn main() {
     let ours = micros(|| unsafe { probe_read(SIDE, SIDE, goals.len(), goal, q, open.as_ptr(), CELLS, file.as_ptr(), n, c.as_mut_ptr(), CELLS) });
     let plain = micros(|| plain_read(goals, q, &open, &file, &mut d));
     println!("read 4,096 records     proved {ours:7.1} us  plain {plain:7.1} us  ratio {:.2}", ours / plain);
+    // the same records in edition 1, behind older material
+    let mut old = vec![7u8; 10_000];
+    old.extend(&file[..6 * CELLS]);
+    old.extend([SIDE as u8, SIDE as u8, (goal >> 8) as u8, goal as u8, q as u8, 1]);
+    old.extend((CELLS as u16).to_be_bytes());
+    old.extend(((FIRST_TRAILER + 6 * CELLS) as u32).to_be_bytes());
+    old.extend(b"PDLT");
+    let ours = micros(|| unsafe { probe_renew(old.as_ptr(), old.len(), a.as_mut_ptr(), a.len()) });
+    let plain = micros(|| plain_renew(&old, &mut b));
+    assert!(a[..n] == file && b[..n] == file);
+    println!("renew 4,096 records    proved {ours:7.1} us  plain {plain:7.1} us  ratio {:.2}", ours / plain);
     // opening figures, for one goal and for four side by side
     let open = std::hint::black_box(open);
     for count in [1, 4] {

@@ -9,7 +9,6 @@ use lib.ListN.{length, take, drop, replicate, length-append, length-replicate}
 use lib.Seq.{take-at, length-take-le}
 use Rattle.learning.proofs.Spread.{list-length}
 use Rattle.answers.specs.declared.Job.{Job}
-use Rattle.answers.specs.declared.Place.{Place}
 use Rattle.answers.specs.declared.Place.the-variants as P
 use Rattle.answers.specs.declared.Refusal.{Refusal}
 use Rattle.answers.specs.declared.Settings.{Settings}
@@ -22,8 +21,8 @@ use Rattle.model.specs.Basics.{then}
 use Rattle.model.specs.Floor.{size, oneGoal, opening, openingTable}
 use Rattle.model.specs.Checks.{floorOf, goals, sizes, settings, scale, benches, places, goalsHold}
 use Rattle.model.specs.Opening.{accepts, openJob, openTrial, openTable, filled, trialsHold}
-use Rattle.model.specs.FloorText.{LF, widthIn, heightIn, rowsIn, cellsOf, floorVerdict, floorFrom, readFloor}
-use Rattle.model.specs.Line.{field, placeField, refusalLine, jobIn, readLine, afterLine, judgeAisle, printed, aisle}
+use Rattle.model.specs.FloorText.{widthIn, heightIn, rowsIn, cellsOf, floorVerdict, floorFrom, readFloor}
+use Rattle.model.specs.Line.{refusalLine, jobIn, readLine, afterLine, judgeAisle, printed, aisle}
 use Rattle.model.proofs.Accepted.{not-refused, then-next, then-refused, then-done, sizes-judges, path-judges, settings-judges, trials-judges}
 use Rattle.model.proofs.Accepted.{scale-judges}
 use Rattle.model.proofs.Benches.{AllFree, bench-judges, places-judges, goals-judges, one-in-order}
@@ -37,29 +36,12 @@ use Rattle.line.specs.declared.Line.{Line}
 use Rattle.line.specs.declared.Line.the-variants as Ln
 use Rattle.line.specs.Reading as reading
 use Rattle.line.specs.Printing.{Printed}
-use Rattle.line.proofs.Decimals.{field-few}
+use Rattle.line.proofs.Decimals.{refusal-few}
 use Rattle.journey.specs.Telling.{Ended}
 use Rattle.journey.proofs.Telling.{ended}
 use Rattle.aisle.specs.Answers.{toldOf, openedLines, Readied, Answered}
 
 -- ---- a refusal
-
-place-few : (p : Place) → length (placeField p) ≤ 21
-place-few P.Nowhere = omega arith
-place-few (P.Cell x) = field-few x
-place-few (P.Line x) = field-few x
-place-few (P.Record x) = field-few x
-
-refusal-few : (r : Refusal) → length (refusalLine r) ≤ 50
-unfolding refusalLine
-refusal-few r =
-    omega (
-      arith,
-      length-append (field (r .number)) (placeField (r .place) ++ (LF ∷ [])),
-      length-append (placeField (r .place)) (LF ∷ []),
-      field-few (r .number),
-      place-few (r .place),
-    )
 
 pub refused : {out out′ : List ℕ} {n : ℕ} (r : Refusal) → Printed out 0 (refusalLine r) out′ n → length out ≡ 65536 → Ended out 0 (refusalLine r) out′ n
 refused r p size = ended p size (omega (arith, p .next, refusal-few r))

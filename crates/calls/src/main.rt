@@ -34,6 +34,7 @@ fn answer(input: &[u8], out: &mut Line) -> usize
         9 => files::check_trailer(input, c, out),
         10 => jobs::fill_opening(input, c, out),
         11 => texts::write_floor(input, c, out),
+        12 => files::renew_file(input, c, out),
         _ => show::malformed(out),
     }
 }

@@ -5,7 +5,6 @@ use Prim.Native.Nat.{ℕ, zero, suc, _+_, _-_, _*_, _≤_, _<_}
 use native.Mathlib.Omega.{arith}
 use lib.ListN.{length, take, drop, set, getD, length-append, length-map, length-set, length-drop}
 use lib.Seq.{sets, sets-eq, length-sets, length-take-le}
-use Rattle.answers.specs.Says.{saysWritten}
 use Rattle.answers.specs.declared.Refusal.{Refusal}
 use Rattle.answers.specs.declared.Verdict.{Verdict}
 use Rattle.answers.specs.declared.Verdict.the-variants as Vd
@@ -15,6 +14,7 @@ use Rattle.model.specs.FloorText.{LF, andWidth, andMap, typeAndHeight}
 use Rattle.model.specs.FloorWritten.{letterOf, rowsOf, sizeLine, textOf, textVerdict, writeFloor}
 use Rattle.model.specs.Writing.{Writes}
 use Rattle.model.proofs.Parts.{rest}
+use Rattle.model.proofs.Writings.{writes-refused, writes-done}
 use Rattle.notation.specs.Printing.{Printed}
 use Rattle.notation.proofs.Decimals.{printed-then, bytes-more, bytes-all}
 use Rattle.floor_text.specs.Heads.{headOf}
@@ -135,7 +135,7 @@ room-for-both f = ap length (sym (head-then-rows f)) ∙ length-append (headOf (
 module _ (f : Floor) (buffer : List ℕ) (v : Verdict) (e : v ≡ textVerdict f (length buffer)) where
   pub write-refused : (r : Refusal) → v ≡ Vd.Refused r → Writes (writeFloor f buffer) (Wr.Refused r) buffer
   unfolding writeFloor
-  write-refused r h = rw (sym e ∙ h) (record { answer = refl; buffer = refl })
+  write-refused = writes-refused (textOf f) buffer e
 
   pub write-done : {mid after : List ℕ} {at end : ℕ} → v ≡ Vd.Done → length (textOf f) ≤ length buffer → Printed buffer 0 (headOf (f .width) (f .height)) mid at
       → Printed mid at (rowsOf (f .width) (f .height) (f .bytes)) after end → Writes (writeFloor f buffer) (Wr.Length end) after
@@ -144,4 +144,4 @@ module _ (f : Floor) (buffer : List ℕ) (v : Verdict) (e : v ≡ textVerdict f 
       let T = rw (head-then-rows f) at (printed-then (headOf (f .width) (f .height)) (rowsOf (f .width) (f .height) (f .bytes)) P Q) in
       let z : 0 + length (textOf f) ≡ length (textOf f) = omega arith in
       let whole = rw z at (sets-eq (textOf f) buffer 0 (omega arith)) in
-      rw (sym e ∙ h) (record { answer = ap (λ (n : ℕ). saysWritten (Wr.Length n)) (T .next ∙ z); buffer = T .written ∙ whole })
+      writes-done (textOf f) buffer e _ _ h (T .next ∙ z) (T .written ∙ whole)

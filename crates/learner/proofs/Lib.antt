@@ -1,9 +1,10 @@
 -- What follows from the promises of the public calls. One: everything that a call answers and leaves has one possible value.
 -- The mission. Mission: demand 3, with Deciding below it. Refused: demand 1's last sentence. ReadBack: demand 2's.
--- RecordRefused: what a refused record of a table file means, as document 02 splits it.
+-- RecordRefused: what a refused record of a table file means, as document 02 splits it. Renewing: what reading a renewed file gives.
 pub mod One
 pub mod Deciding
 pub mod Mission
 pub mod Refused
 pub mod ReadBack
 pub mod RecordRefused
+pub mod Renewing

@@ -21,6 +21,7 @@ use Rattle.model.specs.Ride.{TrialOutcome, RunOutcome}
 use Rattle.model.specs.FloorText.{FloorOutcome}
 use Rattle.model.specs.FloorWritten.{writeFloor}
 use Rattle.model.specs.TableFile.{checkTrailer, findRecords, writeTable}
+use Rattle.model.specs.Renewal.{renewFile}
 use Rattle.model.specs.Writing.{WriteOutcome, Writes}
 use Rattle.opening.specs.Promise.{Answers, Fills}
 use Rattle.decision.specs.Ready.{Decides}
@@ -66,7 +67,7 @@ run-one h k = (
 pub read-floor-one : {o : FloorOutcome} {r s : FloorRead} {b c : List ℕ} → text.Reads o r b → text.Reads o s c → (r ≡ s) × (b ≡ c)
 read-floor-one h k = (floor-one _ _ (same (h .answer) (k .answer)), same (h .buffer) (k .buffer))
 
--- what both writers promise: the answer with its length, and the buffer
+-- what all writers promise: the answer with its length, and the buffer
 writes-one : {o : WriteOutcome} {r s : Written} {b c : List ℕ} → Writes o r b → Writes o s c → (r ≡ s) × (b ≡ c)
 writes-one h k = (written-one _ _ (same (h .answer) (k .answer)), same (h .buffer) (k .buffer))
 
@@ -93,3 +94,7 @@ read-table-one h k = (verdict-one _ _ (same (h .answer) (k .answer)), same (h .t
 pub write-table-one : (f : Floor) (q : ℕ) (g : Goals) (table buffer : List ℕ) {r s : Written} {b c : List ℕ}
     → Writes (writeTable f q g table buffer) r b → Writes (writeTable f q g table buffer) s c → (r ≡ s) × (b ≡ c)
 write-table-one f q g table buffer h k = writes-one h k
+
+-- `renew_file`: the answer with its length, and the buffer.
+pub renew-file-one : (old buffer : List ℕ) {r s : Written} {b c : List ℕ} → Writes (renewFile old buffer) r b → Writes (renewFile old buffer) s c → (r ≡ s) × (b ≡ c)
+renew-file-one old buffer h k = writes-one h k

@@ -13,7 +13,7 @@ use Rattle.answers.proofs.One.{verdict-one}
 use Rattle.model.specs.Basics.{refuseAt}
 use Rattle.model.specs.Floor.{Floor, goalsOf}
 use Rattle.model.specs.Opening.{openTable}
-use Rattle.model.specs.TableFile.{countIn, checkTrailer, findRecords, sameJob, readVerdict, readTable}
+use Rattle.model.specs.TableFile.{countIn, checkTrailer, checkAhead, findRecords, sameJob, readVerdict, readTable}
 use Rattle.model.proofs.Refusals.{turnOf}
 use Rattle.model.proofs.FirstFault.{FirstFault, refused-record-means, faulty-record-is-refused}
 use Rattle.table_file.specs.Promises.{Reads}
@@ -24,8 +24,8 @@ module _ (f : Floor) (q : ℕ) (g : Goals) (file table : List ℕ) where
       → (i : ℕ) × (r .place ≡ P.Record i) × FirstFault f q (goalsOf g) (findRecords file) (countIn file) i (r .number)
   refused-record {r} h = refused-record-means f q g file (length table) (sym (verdict-one (Vd.Refused r) _ (h .answer)))
 
-  -- and a file that 1, 3, 4, 27, 13 and 14 let through is refused so
-  pub faulty-record : openTable f q g (length table) ≡ Vd.Done → checkTrailer file ≡ Vd.Done → sameJob f q (goalsOf g) file ≡ Vd.Done
+  -- and a file that 1, 3, 4, 27, 13, 28 and 14 let through is refused so
+  pub faulty-record : openTable f q g (length table) ≡ Vd.Done → checkTrailer file ≡ Vd.Done → checkAhead file ≡ Vd.Done → sameJob f q (goalsOf g) file ≡ Vd.Done
       → {i k : ℕ} → FirstFault f q (goalsOf g) (findRecords file) (countIn file) i k
       → {v : Verdict} {t : List ℕ} → Reads (readVerdict f q g file (length table)) (readTable f q g file table) v t → v ≡ refuseAt k (P.Record i)
-  faulty-record opened checked same first {v} h = verdict-one v _ (h .answer) ∙ faulty-record-is-refused f q g file (length table) opened checked same first
+  faulty-record opened checked whole same first {v} h = verdict-one v _ (h .answer) ∙ faulty-record-is-refused f q g file (length table) opened checked whole same first

@@ -33,6 +33,7 @@ use Rattle.model.specs.Ride.{ride, trialOf, trial, trialBy, courseFrom, runOf, 
 use Rattle.model.specs.FloorText.{floorVerdict, floorFrom, readFloor}
 use Rattle.model.specs.FloorWritten.{textOf, textVerdict, writeFloor}
 use Rattle.model.specs.TableFile.{readVerdict, readOf, readTable, writeVerdict, fileOf, writeTable}
+use Rattle.model.specs.Renewal.{renewed, renewVerdict, renewFile}
 use Rattle.model.specs.Writing.{writeOf, Writes}
 use Rattle.model.proofs.Cases.{act-arrived, act-blind, act-learns, learn-over, learn-forward, learn-back, back-stays, back-lost, back-goes, decide-refused, decide-acts}
 use Rattle.model.proofs.Steps.{newHere, targetHere}
@@ -144,7 +145,7 @@ pub refused-read-table : (f : Floor) (q : ℕ) (g : Goals) (bytes table : List �
 unfolding readTable
 refused-read-table f q g bytes table {x} h = h .table ∙ ap (λ v. readOf v f q g bytes table) (sym (verdict-one (Vd.Refused x) (readVerdict f q g bytes (length table)) (h .answer)))
 
--- what both writers promise
+-- what all writers promise
 refused-writing : (v : Verdict) (file buffer : List ℕ) {x : Refusal} {b : List ℕ} → Writes (writeOf v file buffer) (Wr.Refused x) b → b ≡ buffer
 refused-writing (Vd.Refused y) file buffer h = h .buffer
 refused-writing Vd.Done file buffer h = absurd (omega (arith, ap (λ s. s .kind) (h .answer)))
@@ -158,3 +159,8 @@ refused-write-floor f buffer h = refused-writing (textVerdict f (length buffer))
 pub refused-write-table : (f : Floor) (q : ℕ) (g : Goals) (table buffer : List ℕ) {x : Refusal} {b : List ℕ} → Writes (writeTable f q g table buffer) (Wr.Refused x) b → b ≡ buffer
 unfolding writeTable
 refused-write-table f q g table buffer h = refused-writing (writeVerdict f q g table (length buffer)) (fileOf f q (goalsOf g) table) buffer h
+
+-- `renew_file`: the buffer
+pub refused-renew-file : (old buffer : List ℕ) {x : Refusal} {b : List ℕ} → Writes (renewFile old buffer) (Wr.Refused x) b → b ≡ buffer
+unfolding renewFile
+refused-renew-file old buffer h = refused-writing (renewVerdict old (length buffer)) (renewed old) buffer h

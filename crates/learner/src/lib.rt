@@ -23,4 +23,5 @@ pub use run::trial;
 pub use table_file::check_trailer;
 pub use table_file::find_records;
 pub use table_file::read_table;
+pub use table_file::renew_file;
 pub use table_file::write_table;

@@ -1,10 +1,15 @@
--- Moves as digits, and from notation the laws of what is printed. Assumes nothing.
+-- Moves as digits, how long a refusal's line is, and from notation the laws of what is printed. Assumes nothing.
 use Prim.Native.Nat.{ℕ, zero, suc, _+_, _-_, _≤_, _<_}
 use mathlib.Core.Path.{_≡_, refl, sym, ap, _∙_}
-use mathlib.Core.List.{List, [], _∷_}
+use mathlib.Core.List.{List, [], _∷_, _++_}
 use native.Mathlib.Omega.{arith}
-use lib.ListN.{length, getD, take, length-map}
+use lib.ListN.{length, getD, take, length-append, length-map}
 use lib.Seq.{length-take-le, getD-take}
+use Rattle.answers.specs.declared.Place.{Place}
+use Rattle.answers.specs.declared.Place.the-variants as P
+use Rattle.answers.specs.declared.Refusal.{Refusal}
+use Rattle.model.specs.FloorText.{LF}
+use Rattle.model.specs.Line.{field, placeField, refusalLine}
 use Rattle.line.specs.Printing.{moveDigits}
 pub use Rattle.notation.proofs.Decimals.{digits-few, field-few, printed-then, printed-none}
 
@@ -18,3 +23,21 @@ digit-at ms n i h k = ap (λ x. 48 + x) (sym (getD-take n ms i 0 h)) ∙ sym (ma
     map-at [] i h = absurd (omega arith)
     map-at (x ∷ xs) zero h = refl
     map-at (x ∷ xs) (suc i) h = map-at xs i (omega arith)
+
+-- the line of a refusal, at its longest
+place-few : (p : Place) → length (placeField p) ≤ 21
+place-few P.Nowhere = omega arith
+place-few (P.Cell x) = field-few x
+place-few (P.Line x) = field-few x
+place-few (P.Record x) = field-few x
+
+pub refusal-few : (r : Refusal) → length (refusalLine r) ≤ 50
+unfolding refusalLine
+refusal-few r =
+    omega (
+      arith,
+      length-append (field (r .number)) (placeField (r .place) ++ (LF ∷ [])),
+      length-append (placeField (r .place)) (LF ∷ []),
+      field-few (r .number),
+      place-few (r .place),
+    )

@@ -10,6 +10,5 @@ pub mod Meaning
 mod Aiming
 mod Rising
 mod Linking
-mod Copying
 mod Tracing
 pub mod Fresh

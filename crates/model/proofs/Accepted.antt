@@ -155,6 +155,17 @@ pub fails : (b : Bool) → (b ≡ true → ⊥) → b ≡ false
 fails true h = absurd (h refl)
 fails false h = refl
 
+-- a test of what does not hold fails, and tests that tell the same are the same
+pub refuted : {b : Bool} {F : Type 0} → Tells b F → (F → ⊥) → false ≡ b
+refuted {b} t h = sym (fails b (λ e. h (t .holds e)))
+
+pub same-told : {a b : Bool} {F H : Type 0} → Tells a F → Tells b H → (F → H) → (H → F) → a ≡ b
+same-told {a} {b} s t to from = by a refl
+  where
+    by : (c : Bool) → a ≡ c → c ≡ b
+    by true e = sym (t .shown (to (s .holds e)))
+    by false e = refuted t (λ h. never (s .shown (from h)) e)
+
 module _ (n : ℕ) (fault : ℕ → Bool) where
   low : (x : ℕ) → x < n → fault x ≡ true → lowest n fault ≤ x
   low x h e = lowest-low n fault x h (subst T (sym e) tt)

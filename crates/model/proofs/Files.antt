@@ -8,7 +8,8 @@ use Prim.Native.Nat.{ℕ, zero, suc, _+_, _-_, _*_, _≤_, _<_}
 use native.Mathlib.Omega.{arith}
 use lib.Dec.{leb, ltb, eqb}
 use borrow.Author.Tests.{leb-true, ltb-true, ltb-false, leb-false, le-leb, lt-leb, lt-ltb, le-ltb, eq-eqb, ne-eqb}
-use lib.ListN.{length, getD, take, drop, length-append}
+use lib.ListN.{length, getD, take, drop, length-append, length-drop}
+use lib.Seq.{length-take-le}
 use Rattle.answers.specs.declared.Goals.{Goals}
 use Rattle.answers.specs.declared.Place.the-variants as P
 use Rattle.answers.specs.declared.Verdict.the-variants as Vd
@@ -16,7 +17,7 @@ use Rattle.model.specs.Basics.{choose, refuseAt, unless, naming}
 use Rattle.model.specs.Floor.{Floor, Sized, size, free, opening, goalsOf}
 use Rattle.model.specs.Checks.{mostGoals, ceiling, figures, Benched}
 use Rattle.model.specs.Opening.{openTable}
-use Rattle.model.specs.TableFile.{halfAt, firstLong, secondLong, trailer, ending, scaleIn, editionIn, countIn, backIn, isLetters, holdsAs, checkFirst, secondHolds, trailerHolds, checkTrailer}
+use Rattle.model.specs.TableFile.{halfAt, firstLong, secondLong, trailer, ending, scaleIn, editionIn, countIn, backIn, isLetters, holdsAs, checkFirst, secondHolds, trailerHolds, checkTrailer, checkAhead}
 use Rattle.model.specs.TableFile.{findRecords, goalPlace, firstNames, placesNamed, secondNames, sameJob, cellIn, figureIn, recordFault, judgeRecords, changed}
 use Rattle.model.specs.TableFile.{readVerdict, recordsOf, trailerOf, fileOf, unlike, writeVerdict}
 use Rattle.model.specs.Writing.{fileRoom}
@@ -64,6 +65,9 @@ Second file = Trailer 2 secondLong file × (getD (trailer secondLong file) 3 0 �
 abbrev pub Ended : List ℕ → Type 0
 Ended file = Trailer 1 firstLong file ⊎ Second file
 
+pub second-ended : (file : List ℕ) → Second file → Ended file
+second-ended file s = inr s
+
 module _ (file : List ℕ) where
   pub holds-tells : (edition long : ℕ) → Tells (holdsAs edition long file) (Trailer edition long file)
   unfolding holdsAs
@@ -87,6 +91,11 @@ module _ (file : List ℕ) where
   unfolding checkTrailer
   trailer-judges = unless-judges _ 13 trailer-tells
 
+  -- 28, whatever the edition: the file begins with its first record
+  pub ahead-judges : Judges (checkAhead file) 28 (length file ≤ backIn file)
+  unfolding checkAhead
+  ahead-judges = unless-judges _ 28 (le-tells (length file) (backIn file))
+
   -- "An edition 1 reader answers 13 to an edition 2 file."
   pub edition-1-refuses-edition-2 : secondHolds file ≡ true → checkFirst file ≡ refuseAt 13 P.Nowhere
   unfolding checkFirst
@@ -107,6 +116,12 @@ module _ (file : List ℕ) where
   pub found : Ended file → findRecords file ≡ take (6 * countIn file) (drop (length file - backIn file) file)
   unfolding findRecords
   found t = rw (trailer-tells .shown t)
+
+  pub found-long : Ended file → length (findRecords file) ≡ 6 * countIn file
+  found-long t =
+      let h = pointed t in
+      let d : length (drop (length file - backIn file) file) ≡ length file - (length file - backIn file) = length-drop (length file - backIn file) file in
+      ap length (found t) ∙ length-take-le (6 * countIn file) (drop (length file - backIn file) file) (omega (arith, h .records, h .within))
 
   pub found-none : trailerHolds file ≡ false → findRecords file ≡ []
   unfolding findRecords
@@ -285,7 +300,7 @@ unfolding recordsOf
 length-records table [] = omega arith
 length-records table (x ∷ xs) = let h = length-records table xs in omega arith
 
-length-trailer : (f : Floor) (q : ℕ) (gs : List ℕ) (count : ℕ) → length (trailerOf f q gs count) ≡ secondLong
+pub length-trailer : (f : Floor) (q : ℕ) (gs : List ℕ) (count : ℕ) → length (trailerOf f q gs count) ≡ secondLong
 unfolding trailerOf
 length-trailer f q gs count = refl
 
@@ -297,15 +312,21 @@ length-file f q gs table =
 
 -- ---- the calls' verdicts
 
-pub read-gives : (f : Floor) (q : ℕ) (g : Goals) (file : List ℕ) (n : ℕ) → readVerdict f q g file n ≡ Vd.Done
-    → (openTable f q g n ≡ Vd.Done) × (checkTrailer file ≡ Vd.Done) × (sameJob f q (goalsOf g) file ≡ Vd.Done)
-    × (judgeRecords f q (goalsOf g) (countIn file) 0 0 (findRecords file) ≡ Vd.Done)
+-- what an accepted table met, but for 28; and 28
+pub record Readable (f : Floor) (q : ℕ) (g : Goals) (file : List ℕ) (n : ℕ) : Type 0 where
+  pub opens : openTable f q g n ≡ Vd.Done
+  pub checked : checkTrailer file ≡ Vd.Done
+  pub same : sameJob f q (goalsOf g) file ≡ Vd.Done
+  pub records : judgeRecords f q (goalsOf g) (countIn file) 0 0 (findRecords file) ≡ Vd.Done
+
+pub read-gives : (f : Floor) (q : ℕ) (g : Goals) (file : List ℕ) (n : ℕ) → readVerdict f q g file n ≡ Vd.Done → Readable f q g file n × (length file ≤ backIn file)
 unfolding readVerdict
 read-gives f q g file n e =
     let a = then-done _ _ e in
     let b = then-done _ _ (a .1) in
     let c = then-done _ _ (b .1) in
-    (a .0, b .0, c .0, c .1)
+    let d = then-done _ _ (c .1) in
+    (record { opens = a .0; checked = b .0; same = d .0; records = d .1 }, ahead-judges file .gives (c .0))
 
 pub write-gives : (f : Floor) (q : ℕ) (g : Goals) (table : List ℕ) (room : ℕ) → writeVerdict f q g table room ≡ Vd.Done
     → (openTable f q g (length table) ≡ Vd.Done) × (figures f table ≡ Vd.Done) × (naming (size f) (unlike f q (goalsOf g) table) 16 ≡ Vd.Done)

@@ -16,12 +16,12 @@ use Rattle.model.specs.Basics.{refuseAt}
 use Rattle.model.specs.Floor.{Floor, size, opening, goalsOf}
 use Rattle.model.specs.Checks.{ceiling}
 use Rattle.model.specs.Opening.{openTable}
-use Rattle.model.specs.TableFile.{countIn, checkTrailer, findRecords, sameJob, cellIn, figureIn, judgeRecords, readVerdict}
+use Rattle.model.specs.TableFile.{countIn, checkTrailer, checkAhead, findRecords, sameJob, cellIn, figureIn, judgeRecords, readVerdict}
 use Rattle.model.proofs.Accepted.{not-refused, then-next, sizes-judges, scale-judges}
 use Rattle.model.proofs.Benches.{bench-judges, goals-judges}
 use Rattle.model.proofs.Refusals.{turnOf, Early, early, early-then, Ends, last, after}
 use Rattle.model.proofs.OpeningSound.{opening-within}
-use Rattle.model.proofs.Files.{openable, trailer-judges, same-judges, Lawful, Faulty, no-fault, faulty-is, faulty-numbers, judged, judge-more, judge-stop}
+use Rattle.model.proofs.Files.{openable, trailer-judges, ahead-judges, same-judges, Lawful, Faulty, no-fault, faulty-is, faulty-numbers, judged, judge-more, judge-stop}
 
 -- ---- document 02's words
 
@@ -99,7 +99,7 @@ module _ (f : Floor) (q : ℕ) (g : Goals) (file : List ℕ) (n : ℕ) where
   abbrev gs : List ℕ
   gs = goalsOf g
 
-  -- 1, 3, 4, 27, 13 and 14 come before the records
+  -- 1, 3, 4, 27, 13, 28 and 14 come before the records
   opens-early : Early 15 (openTable f q g n)
   unfolding openTable turnOf
   opens-early =
@@ -110,13 +110,17 @@ module _ (f : Floor) (q : ℕ) (g : Goals) (file : List ℕ) (n : ℕ) where
   unfolding turnOf
   check-early = early (trailer-judges file) (omega arith)
 
+  ahead-early : Early 15 (checkAhead file)
+  unfolding turnOf
+  ahead-early = early (ahead-judges file) (omega arith)
+
   job-early : Early 15 (sameJob f q gs file)
   unfolding turnOf
   job-early = early (same-judges f q gs file) (omega arith)
 
   ends-with-records : Ends 15 (judgeRecords f q gs (countIn file) 0 0 (findRecords file)) (readVerdict f q g file n)
   unfolding readVerdict
-  ends-with-records = after _ opens-early (after _ check-early (after _ job-early (last _)))
+  ends-with-records = after _ opens-early (after _ check-early (after _ ahead-early (after _ job-early (last _))))
 
   none-ahead : 0 + countIn file ≡ countIn file
   none-ahead = omega arith
@@ -127,12 +131,12 @@ module _ (f : Floor) (q : ℕ) (g : Goals) (file : List ℕ) (n : ℕ) where
   refused-record-means {r} e h =
       subst (Named f q gs (findRecords file) r) none-ahead (judged-means f q gs (findRecords file) (countIn file) 0 (λ j l. absurd (omega arith)) (ends-with-records .only h e))
 
-  -- And the other way: a file that 1, 3, 4, 27, 13 and 14 let through is refused for its first faulty record, by the number of its first fault.
-  pub faulty-record-is-refused : openTable f q g n ≡ Vd.Done → checkTrailer file ≡ Vd.Done → sameJob f q gs file ≡ Vd.Done
+  -- And the other way: a file that 1, 3, 4, 27, 13, 28 and 14 let through is refused for its first faulty record, by the number of its first fault.
+  pub faulty-record-is-refused : openTable f q g n ≡ Vd.Done → checkTrailer file ≡ Vd.Done → checkAhead file ≡ Vd.Done → sameJob f q gs file ≡ Vd.Done
       → {i k : ℕ} → FirstFault f q gs (findRecords file) (countIn file) i k → readVerdict f q g file n ≡ refuseAt k (P.Record i)
   unfolding readVerdict
-  faulty-record-is-refused opened checked same {i} {k} first =
-      then-next _ opened ∙ then-next _ checked ∙ then-next _ same
+  faulty-record-is-refused opened checked whole same {i} {k} first =
+      then-next _ opened ∙ then-next _ checked ∙ then-next _ whole ∙ then-next _ same
       ∙ judged-is f q gs (findRecords file) (countIn file) 0 i k (omega arith) (subst (λ m. FirstFault f q gs (findRecords file) m i k) (sym none-ahead) first)
 
   -- "15 is no longer answered"

@@ -18,7 +18,8 @@ use Rattle.model.specs.Checks.{sizes}
 use Rattle.model.specs.Writing.{fileRoom}
 use Rattle.model.specs.FloorWritten.{letterOf, rowsOf, sizeLine, textOf, textVerdict}
 use Rattle.model.proofs.Moves.{both}
-use Rattle.model.proofs.Accepted.{Judges, then-next, then-done, le-tells, unless-judges, sizes-judges}
+use Rattle.model.proofs.Accepted.{then-next, then-done, sizes-judges}
+use Rattle.model.proofs.Writings.{room-judges}
 use Rattle.model.proofs.Digits.{one-digit, two-digits}
 
 -- ---- the rows of a text
@@ -103,10 +104,6 @@ length-text f s =
 pub sized-needs-room : (f : Floor) → Sized f → (room : ℕ) → textVerdict f room ≡ fileRoom (length (textOf f)) room
 unfolding textVerdict
 sized-needs-room f s room = then-next _ (sizes-judges f (length (f .bytes)) .done (s, s .cells))
-
-pub room-judges : (bytes room : ℕ) → Judges (fileRoom bytes room) 17 (bytes ≤ room)
-unfolding fileRoom
-room-judges bytes room = unless-judges _ 17 (le-tells bytes room)
 
 pub text-gives : (f : Floor) (room : ℕ) → textVerdict f room ≡ Vd.Done → Sized f × (length (textOf f) ≤ room)
 unfolding textVerdict

@@ -1,8 +1,9 @@
 -- Laws of the definitions, by what they are of, and the theorems that rest on them.
--- Columns and rows; the eight moves and the price of a move; parts of a list as code takes them.
+-- Columns and rows; the eight moves and the price of a move; parts of a list as code takes them, and a copy to its front.
 pub mod Cells
 pub mod Moves
 pub mod Parts
+pub mod Copying
 -- What each check says and gives; tests over lists; the goals; the path that a decision is handed; an accepted job; 6 and 7 by walks.
 pub mod Accepted
 pub mod Lists
@@ -36,10 +37,13 @@ pub mod Demand
 pub mod Corners
 -- Document 02 on several benches: where one closes, learned tables stay sound.
 pub mod Closing
--- The table file: its checks and its records; what a refused record means; the round trip of demand 2.
+-- What all writers answer and leave. The table file: its checks and its records; what a refused record means; a file as it is laid down, and without what stands ahead of it; the round trip of demand 2.
+pub mod Writings
 pub mod Files
 pub mod Records
 pub mod FirstFault
+pub mod Laid
+pub mod Renewed
 pub mod RoundTrip
 -- Numbers in decimal. Floor text: its rows, and how long it is; its lines, read and written; the round trip.
 pub mod Digits

@@ -1,10 +1,17 @@
 -- Parts of a list as code takes them.
-use mathlib.Core.Path.{_≡_}
+use mathlib.Core.Path.{_≡_, ap, _∙_}
 use mathlib.Core.List.{List}
-use Prim.Native.Nat.{ℕ, _-_, _≤_}
+use Prim.Native.Nat.{ℕ, _+_, _-_, _≤_}
 use native.Mathlib.Omega.{arith}
 use lib.ListN.{length, take, drop, length-drop, drop-of-length-le}
-use lib.Seq.{take-all, take-nil}
+use lib.Seq.{take-all, take-nil, drop-drop}
+use Rattle.model.specs.Basics.{atEnd}
+
+-- a list's end, where something is taken off its front
+pub end-behind : (m k : ℕ) (t : List ℕ) → k + m ≤ length t → atEnd m (drop k t) ≡ atEnd m t
+end-behind m k t h =
+    let z : k + (length (drop k t) - m) ≡ length t - m = omega (arith, length-drop k t) in
+    drop-drop (length (drop k t) - m) k t ∙ ap (λ (n : ℕ). drop n t) z
 
 -- the remaining part, and nothing past the end
 pub rest : (n : ℕ) (t : List ℕ) → take (length t - n) (drop n t) ≡ drop n t

@@ -45,6 +45,9 @@ Bytes l = (k : ℕ) → getD l k 0 < 256
 pub bytes-drop : (n : ℕ) (l : List ℕ) → Bytes l → Bytes (drop n l)
 bytes-drop n l b k = rw (getD-drop n l k 0) (b (n + k))
 
+pub half-small : (l : List ℕ) → Bytes l → (i : ℕ) → halfAt l i < 65536
+half-small l b i = omega (arith, b i, b (i + 1))
+
 pub bytes-take : (n : ℕ) (l : List ℕ) → Bytes l → Bytes (take n l)
 bytes-take zero l b k = omega arith
 bytes-take (suc n) [] b k = b k

@@ -22,9 +22,9 @@ use Rattle.model.specs.Opening.{soundness, accepts, openJob, openTrial, 
 use Rattle.model.proofs.Accepted.{not-refused, Judges, sizes-judges, path-judges, reports-judges, settings-judges, trials-judges}
 use Rattle.model.proofs.Benches.{places-judges, goals-judges}
 
--- where a number stands in the order of checks: the lower number first, but that 27 stands directly after 4
+-- where a number stands in the order of checks: the lower number first, but that 27 stands directly after 4, and 28 directly after 13
 unfoldable pub turnOf : ℕ → ℕ
-turnOf n = pick (eqb n 27) (2 * 4 + 1) (2 * n)
+turnOf n = pick (eqb n 27) (2 * 4 + 1) (pick (eqb n 28) (2 * 13 + 1) (2 * n))
 
 -- nothing is refused by a number ahead of n; and a check all of whose numbers are
 abbrev pub NothingAhead : ℕ → Verdict → Type 0

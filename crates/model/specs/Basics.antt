@@ -1,8 +1,9 @@
--- Small functions that the sections share: a choice, tests over lists, and one check after another.
-use Prim.Native.Nat.{ℕ}
+-- Small functions that the sections share: a choice, tests over lists, the end of a list, and one check after another.
+use Prim.Native.Nat.{ℕ, _-_}
 use mathlib.Core.Bool.{Bool, true, false, not, _&&_, _||_}
 use mathlib.Core.List.{List, [], _∷_}
 use lib.Dec.{eqb, leb, ltb}
+use lib.ListN.{length, drop}
 use Rattle.learning.specs.Look.{lowest}
 use Rattle.answers.specs.declared.Place.{Place}
 use Rattle.answers.specs.declared.Place.the-variants as P
@@ -38,6 +39,10 @@ unfoldable pub rising : List ℕ → Bool
 rising [] = true
 rising (x ∷ []) = true
 rising (x ∷ y ∷ ys) = ltb x y && rising (y ∷ ys)
+
+-- the n entries at a list's end; all of them where there are fewer
+abbrev pub atEnd : (n : ℕ) → List ℕ → List ℕ
+atEnd n xs = drop (length xs - n) xs
 
 -- one check after another: the first refusal stands
 abbrev pub then : Verdict → Verdict → Verdict

@@ -10,8 +10,9 @@ use Rattle.model.specs.Lookahead.{emptyRing, route, movesAlong}
 use Rattle.model.specs.Decision.{movesRoom, stateHolds, judge, forwardBy, backOutBy, stay, goBackBy, learnBy, actBy, decideBy}
 use Rattle.model.specs.Opening.{soundness, accepts, openJob, openTrial, reportsRoom, trialsHold, openRun, openTable}
 use Rattle.model.specs.Ride.{nextBy, rideFromBy, bound, rideBy, kept, trialBy, courseFromBy, runBy}
-use Rattle.model.specs.TableFile.{holdsAs, checkFirst, secondHolds, trailerHolds, checkTrailer, findRecords, firstNames, placesNamed, secondNames, sameJob, recordFault, judgeRecords, applied, readVerdict, readTable, changed, recordsOf, trailerOf, fileOf}
+use Rattle.model.specs.TableFile.{holdsAs, checkFirst, secondHolds, trailerHolds, checkTrailer, checkAhead, findRecords, firstNames, placesNamed, secondNames, sameJob, recordFault, judgeRecords, applied, readVerdict, readTable, changed, recordsOf, trailerOf, fileOf}
 use Rattle.model.specs.TableFile.{unlike, writeVerdict, writeTable}
+use Rattle.model.specs.Renewal.{renewedTrailer, renewed, renewVerdict, renewFile}
 use Rattle.model.specs.Writing.{fileRoom}
 use Rattle.model.specs.FloorText.{begins, sizeIn, header, rowHolds, rows, cellsOf, floorVerdict, readFloor}
 use Rattle.model.specs.FloorWritten.{rowsOf, textOf, textVerdict, writeFloor}
@@ -28,7 +29,7 @@ unfolding decLe ℕ-discrete
     movesRoom stateHolds judge forwardBy backOutBy stay goBackBy learnBy actBy decideBy
     soundness accepts openJob openTrial reportsRoom trialsHold openRun openTable
     nextBy rideFromBy bound rideBy kept trialBy courseFromBy runBy
-    holdsAs checkFirst secondHolds trailerHolds checkTrailer findRecords firstNames placesNamed secondNames sameJob recordFault judgeRecords applied readVerdict readTable changed recordsOf trailerOf fileOf unlike fileRoom writeVerdict writeTable
+    holdsAs checkFirst secondHolds trailerHolds checkTrailer checkAhead findRecords firstNames placesNamed secondNames sameJob recordFault judgeRecords applied readVerdict readTable changed recordsOf trailerOf fileOf unlike fileRoom writeVerdict writeTable renewedTrailer renewed renewVerdict renewFile
     begins sizeIn header rowHolds rows cellsOf floorVerdict readFloor
     rowsOf textOf textVerdict writeFloor
     numbersIn afterLine readLine decimalIn movesField trialLine trialLines courseLines refusalLine judgeAisle aisle

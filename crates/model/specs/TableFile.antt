@@ -9,7 +9,7 @@ use Rattle.answers.specs.declared.Goals.{Goals}
 use Rattle.answers.specs.declared.Place.the-variants as P
 use Rattle.answers.specs.declared.Verdict.{Verdict}
 use Rattle.answers.specs.declared.Verdict.the-variants as Vd
-use Rattle.model.specs.Basics.{choose, every, then, refuseAt, unless, naming}
+use Rattle.model.specs.Basics.{choose, every, atEnd, then, refuseAt, unless, naming}
 use Rattle.model.specs.Floor.{Floor, size, free, goalsOf, opening, openingTable}
 use Rattle.model.specs.Checks.{ceiling, figures}
 use Rattle.model.specs.Opening.{openTable}
@@ -37,7 +37,7 @@ abbrev pub secondLong : ℕ
 secondLong = 24
 
 abbrev pub trailer : (long : ℕ) → List ℕ → List ℕ
-trailer long file = drop (length file - long) file
+trailer long file = atEnd long file
 
 abbrev pub ending : List ℕ → List ℕ
 ending file = trailer 12 file
@@ -81,7 +81,11 @@ trailerHolds file = firstHolds file || secondHolds file
 unfoldable pub checkTrailer : List ℕ → Verdict
 checkTrailer file = unless (trailerHolds file) 13
 
--- The records, trailer left off: `back` is counted from the file's end to the first record, and bytes ahead of that are ignored.
+-- 28: "bytes ahead". A file must "begin with its first record": `back` is not less than the file's length
+unfoldable pub checkAhead : List ℕ → Verdict
+checkAhead file = unless (leb (length file) (backIn file)) 28
+
+-- The records, trailer left off: `back` is counted from the file's end to the first record. Whatever stands ahead of that is not looked at.
 -- A trailer faulty by 13 gives the empty part.
 unfoldable pub findRecords : List ℕ → List ℕ
 findRecords file = choose (trailerHolds file) (take (6 * countIn file) (drop (length file - backIn file) file)) []
@@ -144,13 +148,17 @@ unfoldable pub applied : (n : ℕ) → (part table : List ℕ) → List ℕ
 applied zero part table = table
 applied (suc n) part table = applied n (drop 6 part) (set table (cellIn part) (figureIn part))
 
--- the table calls judge 1, 3 (q alone), 4 (goals alone) and 27 first, as filling a table does
+-- the table that a trailer points to: 14, then 18 to 22
+abbrev pub judgeTable : Floor → ℕ → List ℕ → (file : List ℕ) → Verdict
+judgeTable f q gs file = then (sameJob f q gs file) (judgeRecords f q gs (countIn file) 0 0 (findRecords file))
+
+-- the table calls judge 1, 3 (q alone), 4 (goals alone) and 27 first, as filling a table does. 28 comes "directly after 13"
 unfoldable pub readVerdict : Floor → ℕ → Goals → (file : List ℕ) → (figures : ℕ) → Verdict
 readVerdict f q g file figures =
     then (openTable f q g figures)
     (then (checkTrailer file)
-    (then (sameJob f q (goalsOf g) file)
-    (judgeRecords f q (goalsOf g) (countIn file) 0 0 (findRecords file))))
+    (then (checkAhead file)
+    (judgeTable f q (goalsOf g) file)))
 
 -- The reader: the table after. Every cell without a record has its opening figure; a refusal leaves the table as lent.
 abbrev pub readOf : Verdict → Floor → ℕ → Goals → (file table : List ℕ) → List ℕ

@@ -5,7 +5,7 @@ use Prim.Native.Nat.{ℕ, _+_, _-_, _≤_}
 use native.Mathlib.Omega.{arith}
 use native.Mathlib.Numerals.{add-one}
 use lib.ListN.{length, take, drop, set, length-append, length-drop}
-use lib.Seq.{take-at, drop-at, length-take-le, drop-drop, sets-eq}
+use lib.Seq.{take-at, drop-at, length-take-le, drop-drop, sets, sets-eq}
 use Rattle.notation.specs.Puts.{put}
 
 pub length-put : (at : ℕ) (xs l : List ℕ) → at + length xs ≤ length l → length (put at xs l) ≡ length l
@@ -39,6 +39,9 @@ pub put-then : (at next : ℕ) (xs ys l l₁ l₂ : List ℕ) → l₁ ≡ put a
     → l₂ ≡ put at (xs ++ ys) l
 put-then at next xs ys l l₁ l₂ a b e h = b ∙ (ap (put next ys) a ∙ put-next at next xs ys l e h)
 
--- two stores in a row
+-- bytes stored one after another are put; two in a row
+pub put-sets : (at : ℕ) (xs l : List ℕ) → at + length xs ≤ length l → sets l at xs ≡ put at xs l
+put-sets at xs l h = sets-eq xs l at h ∙ append-assoc (take at l) xs (drop (at + length xs) l)
+
 pub put-two : (at a b : ℕ) (l : List ℕ) → at + 2 ≤ length l → set (set l at a) (at + 1) b ≡ put at (a ∷ b ∷ []) l
-put-two at a b l h = rw (add-one at) (sets-eq (a ∷ b ∷ []) l at h ∙ append-assoc (take at l) (a ∷ b ∷ []) (drop (at + 2) l))
+put-two at a b l h = rw (add-one at) (put-sets at (a ∷ b ∷ []) l h)

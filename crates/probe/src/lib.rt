@@ -208,6 +208,15 @@ pub extern "C" fn probe_write_floor(
     }
 }
 
+// The length of a table file that is renewed; 0 where it is refused.
+#[no_mangle]
+pub extern "C" fn probe_renew(file: &[u8], buffer: &mut [u8]) -> usize {
+    match table_file::renew_file(file, buffer) {
+        Written::Length(n) => n,
+        Written::Refused(_) => 0,
+    }
+}
+
 // How many bytes of a table file are records.
 #[no_mangle]
 pub extern "C" fn probe_find(file: &[u8]) -> usize {

@@ -21,23 +21,9 @@ use Rattle.model.specs.Floor.{Floor, size, openingTable, goalsOf}
 use Rattle.model.specs.TableFile.{firstLong, secondLong, trailer, scaleIn, editionIn, countIn, backIn, trailerHolds, checkTrailer, findRecords, goalPlace}
 use Rattle.model.specs.TableFile.{firstNames, secondNames, named, sameJob, cellIn, figureIn, recordFault, judgeRecords, applied, readVerdict, readOf, readTable}
 use Rattle.model.specs.Opening.{openTable}
-use Rattle.model.proofs.Accepted.{Tells, fails, never}
 use Rattle.model.proofs.Parts.{rest}
 use Rattle.model.proofs.Files.{openable, judge-more, judge-stop, trailer-tells, trailer-judges, Pointed, pointed, found}
 use Rattle.table_file.specs.Promises.{Opened, startOf, Reads}
-
--- ---- tests
-
--- a test of what does not hold fails, and tests that tell the same are the same
-pub refuted : {b : Bool} {F : Type 0} → Tells b F → (F → ⊥) → false ≡ b
-refuted {b} t h = sym (fails b (λ e. h (t .holds e)))
-
-pub same-told : {a b : Bool} {F H : Type 0} → Tells a F → Tells b H → (F → H) → (H → F) → a ≡ b
-same-told {a} {b} s t to from = by a refl
-  where
-    by : (c : Bool) → a ≡ c → c ≡ b
-    by true e = sym (t .shown (to (s .holds e)))
-    by false e = refuted t (λ h. never (s .shown (from h)) e)
 
 -- ---- what an opened table gives
 

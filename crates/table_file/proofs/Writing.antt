@@ -8,24 +8,20 @@ use native.Mathlib.Numerals.{add-one}
 use native.Mathlib.Omega.{arith}
 use lib.Dec.{ltb, eqb}
 use borrow.Author.Tests.{le-leb, lt-leb}
-use lib.ListN.{length, take, drop, getD, take-append-drop}
+use lib.ListN.{length, take, drop, getD, take-append-drop, length-append}
 use lib.Seq.{take-at, drop-at, drop-drop}
-use Rattle.answers.specs.Says.{saysWritten}
 use Rattle.answers.specs.declared.Goals.{Goals}
 use Rattle.answers.specs.declared.Place.the-variants as P
-use Rattle.answers.specs.declared.Refusal.{Refusal}
-use Rattle.answers.specs.declared.Verdict.{Verdict}
 use Rattle.answers.specs.declared.Verdict.the-variants as Vd
-use Rattle.answers.specs.declared.Written.the-variants as Wr
 use Rattle.model.specs.Basics.{refuseAt}
 use Rattle.model.specs.Floor.{Floor, size, free, opening, goalsOf}
-use Rattle.model.specs.TableFile.{secondLong, half, word, changed, recordsOf, trailerOf, fileOf, unlike, writeVerdict, writeTable}
-use Rattle.model.specs.Writing.{fileRoom, Writes}
+use Rattle.model.specs.TableFile.{secondLong, half, word, changed, recordsOf, trailerOf, fileOf, unlike, writeVerdict}
+use Rattle.model.specs.Writing.{fileRoom}
 use Rattle.model.proofs.Files.{changed-same, changed-more, changed-few, length-records, length-file, write-gives}
 use Rattle.model.proofs.Benches.{goals-many}
 use Rattle.model.proofs.Cells.{cells-le}
 use Rattle.table_file.specs.declared.Site.{Site}
-use Rattle.table_file.specs.Site.{floorAt, goalsAt, changedAt, jobOf}
+use Rattle.table_file.specs.Site.{floorAt, goalsAt, changedAt, jobOf, backOf}
 use Rattle.table_file.specs.Promises.{Opened}
 use Rattle.notation.specs.Puts.{put}
 use Rattle.notation.proofs.Puts.{put-next, put-then, length-put}
@@ -127,7 +123,7 @@ module _ (f : Floor) (q : ℕ) (gs table out₀ : List ℕ) (all : ℕ) where
         let d : 0 + length (recordsOf table (changed f q gs table all 0)) ≡ 6 * n = omega (arith, length-records table (changed f q gs table all 0)) in
         (c, rw d at h)
 
--- The room, and the writer's answer and buffer.
+-- The room.
 module _ (f : Floor) (q : ℕ) (gs table : List ℕ) (count room : ℕ) (c : count ≡ length (changed f q gs table (size f) 0)) where
   pub no-room : room < secondLong + 6 * count → fileRoom (length (fileOf f q gs table)) room ≡ refuseAt 17 P.Nowhere
   unfolding fileRoom
@@ -140,39 +136,39 @@ module _ (f : Floor) (q : ℕ) (gs table : List ℕ) (count room : ℕ) (c : cou
 pub ample : (f : Floor) (q : ℕ) (gs table : List ℕ) (n room : ℕ) → n ≡ size f → secondLong + 6 * n ≤ room → fileRoom (length (fileOf f q gs table)) room ≡ Vd.Done
 ample f q gs table n room e h = roomy f q gs table (length (changed f q gs table (size f) 0)) room refl (omega (arith, changed-few f q gs table (size f) 0))
 
--- the trailer's two parts after the records are the whole file
-module _ (s : Site) (bytes table : List ℕ) where
-  abbrev cells : List ℕ
-  cells = changedAt s bytes table
+-- the trailer's two parts are the trailer, where each number fits in its byte
+pub trailer-is : (s : Site) (bytes : List ℕ) (n : ℕ) → s .width < 256 → s .height < 256 → s .q < 256 → jobOf s ++ backOf n ≡ trailerOf (floorAt s bytes) (s .q) (goalsAt s) n
+unfolding trailerOf
+trailer-is s bytes n a b c =
+    let w : s .width % 256 ≡ s .width = mod-eq-of-lt a in
+    let y : s .height % 256 ≡ s .height = mod-eq-of-lt b in
+    let g : length (goalsAt s) % 256 ≡ length (goalsAt s) = mod-eq-of-lt (omega (arith, goals-many (s .goals))) in
+    let q : s .q % 256 ≡ s .q = mod-eq-of-lt c in
+    rw (w, y, g, q)
 
-  abbrev back : ℕ → List ℕ
-  back n = half n ++ (word (secondLong + 6 * n) ++ (80 ∷ 68 ∷ 76 ∷ 84 ∷ []))
+-- records at the front of a list and a trailer put behind them are a file at its front
+pub behind : (records end l l₁ l₂ : List ℕ) (at : ℕ) → length records ≡ at → l₁ ≡ records ++ drop at l → l₂ ≡ put at end l₁ → l₂ ≡ (records ++ end) ++ drop (length (records ++ end)) l
+behind records end l l₁ l₂ at long e₁ e₂ =
+    let a : take at l₁ ≡ records = ap (take at) e₁ ∙ take-at records (drop at l) at long in
+    let d : drop (at + length end) l₁ ≡ drop (at + length end) l =
+    sym (drop-drop (length end) at l₁) ∙ (ap (drop (length end)) (ap (drop at) e₁ ∙ drop-at records (drop at l) at long) ∙ drop-drop (length end) at l) in
+    let n : at + length end ≡ length (records ++ end) = omega (arith, length-append records end, long) in
+    e₂ ∙ ((λ i. a i ++ (end ++ d i)) ∙ (sym (append-assoc records end (drop (at + length end) l)) ∙ ap (λ (m : ℕ). (records ++ end) ++ drop m l) n))
 
-  trailer-is : (n : ℕ) → Opened (floorAt s bytes) (s .q) (goalsAt s) → jobOf s ++ back n ≡ trailerOf (floorAt s bytes) (s .q) (goalsAt s) n
-  unfolding trailerOf
-  trailer-is n o =
-      let w : s .width % 256 ≡ s .width = mod-eq-of-lt (omega (arith, o .sized .narrow)) in
-      let y : s .height % 256 ≡ s .height = mod-eq-of-lt (omega (arith, o .sized .low)) in
-      let g : length (goalsAt s) % 256 ≡ length (goalsAt s) = mod-eq-of-lt (omega (arith, goals-many (s .goals))) in
-      let q : s .q % 256 ≡ s .q = mod-eq-of-lt (omega (arith, o .scale)) in
-      rw (w, y, g, q)
+-- how long the whole is, and where its records and its trailer are put
+pub file-long : (s : Site) (bytes table : List ℕ) (n : ℕ) → n ≡ length (changedAt s bytes table) → secondLong + 6 * n ≡ length (fileOf (floorAt s bytes) (s .q) (goalsAt s) table)
+file-long s bytes table n c = omega (arith, length-file (floorAt s bytes) (s .q) (goalsAt s) table)
 
-  pub whole : (n : ℕ) (b₀ b₁ b₂ b₃ : List ℕ) → n ≡ length cells → b₁ ≡ recordsOf table cells ++ drop (6 * n) b₀
-      → b₂ ≡ put (6 * n) (jobOf s) b₁ → b₃ ≡ put (6 * n + 14) (back n) b₂
-      → Opened (floorAt s bytes) (s .q) (goalsAt s) → secondLong + 6 * n ≤ length b₁
-      → let file = fileOf (floorAt s bytes) (s .q) (goalsAt s) table in b₃ ≡ file ++ drop (length file) b₀
-  unfolding fileOf
-  whole n b₀ b₁ b₂ b₃ c e₁ e₂ e₃ o h =
-      let file = fileOf (floorAt s bytes) (s .q) (goalsAt s) table in
-      let end = trailerOf (floorAt s bytes) (s .q) (goalsAt s) in
-      let t : b₃ ≡ put (6 * n) (jobOf s ++ back n) b₁ = put-then (6 * n) (6 * n + 14) (jobOf s) (back n) b₁ b₂ b₃ e₂ e₃ refl (omega arith) in
-      let r : length (recordsOf table cells) ≡ 6 * n = omega (arith, length-records table cells) in
-      let a : take (6 * n) b₁ ≡ recordsOf table cells = ap (take (6 * n)) e₁ ∙ take-at (recordsOf table cells) (drop (6 * n) b₀) (6 * n) r in
-      let d : drop (6 * n + secondLong) b₁ ≡ drop (6 * n + secondLong) b₀ =
-      sym (drop-drop secondLong (6 * n) b₁) ∙ (ap (drop secondLong) (ap (drop (6 * n)) e₁ ∙ drop-at (recordsOf table cells) (drop (6 * n) b₀) (6 * n) r) ∙ drop-drop secondLong (6 * n) b₀) in
-      let l : length file ≡ 6 * n + secondLong = omega (arith, length-file (floorAt s bytes) (s .q) (goalsAt s) table) in
-      t ∙ ((λ i. a i ++ ((trailer-is n o ∙ ap end c) i ++ d i)) ∙ (sym (append-assoc (recordsOf table cells) (end (length cells)) (drop (6 * n + secondLong) b₀))
-      ∙ ap (λ (m : ℕ). file ++ drop m b₀) (sym l)))
+pub whole : (s : Site) (bytes table : List ℕ) (n : ℕ) (b₀ b₁ b₂ : List ℕ) → n ≡ length (changedAt s bytes table) → b₁ ≡ recordsOf table (changedAt s bytes table) ++ drop (6 * n) b₀
+    → b₂ ≡ put (6 * n) (jobOf s ++ backOf n) b₁ → Opened (floorAt s bytes) (s .q) (goalsAt s)
+    → let file = fileOf (floorAt s bytes) (s .q) (goalsAt s) table in b₂ ≡ file ++ drop (length file) b₀
+unfolding fileOf
+whole s bytes table n b₀ b₁ b₂ c e₁ e₂ o =
+    let cells = changedAt s bytes table in
+    let end = trailerOf (floorAt s bytes) (s .q) (goalsAt s) in
+    let t : jobOf s ++ backOf n ≡ end (length cells) =
+    trailer-is s bytes n (omega (arith, o .sized .narrow)) (omega (arith, o .sized .low)) (omega (arith, o .scale)) ∙ ap end c in
+    behind (recordsOf table cells) (end (length cells)) b₀ b₁ b₂ (6 * n) (omega (arith, length-records table cells)) e₁ (e₂ ∙ ap (λ (l : List ℕ). put (6 * n) l b₁) t)
 
 -- what an accepted writing gives
 pub write-open : (f : Floor) (q : ℕ) (g : Goals) (table : List ℕ) (room : ℕ) → writeVerdict f q g table room ≡ Vd.Done
@@ -182,15 +178,3 @@ write-open f q g table room e =
     let (o, z) = opened f q g (length table) (w .0) in
     let few = changed-few f q (goalsOf g) table (size f) 0 in
     (o, z, omega (arith, length-file f q (goalsOf g) table, w .3), omega (arith, few, cells-le (f .width) (f .height) (o .sized .narrow) (o .sized .low)))
-
-module _ (f : Floor) (q : ℕ) (g : Goals) (table buffer : List ℕ) (v : Verdict) (e : v ≡ writeVerdict f q g table (length buffer)) where
-  pub write-refused : (r : Refusal) → v ≡ Vd.Refused r → Writes (writeTable f q g table buffer) (Wr.Refused r) buffer
-  unfolding writeTable
-  write-refused r h = rw (sym e ∙ h) (record { answer = refl; buffer = refl })
-
-  pub write-done : (n : ℕ) (after : List ℕ) → v ≡ Vd.Done → n ≡ length (changed f q (goalsOf g) table (size f) 0)
-      → after ≡ fileOf f q (goalsOf g) table ++ drop (length (fileOf f q (goalsOf g) table)) buffer → Writes (writeTable f q g table buffer) (Wr.Length (secondLong + 6 * n)) after
-  unfolding writeTable
-  write-done n after h c k =
-      let l : secondLong + 6 * n ≡ length (fileOf f q (goalsOf g) table) = omega (arith, length-file f q (goalsOf g) table) in
-      rw (sym e ∙ h) (record { answer = ap (λ (m : ℕ). saysWritten (Wr.Length m)) l; buffer = k })

@@ -1,10 +1,12 @@
 // The table file: records of the figures that differ from the opening figure, and a trailer that points back to them.
 mod reader;
+mod renewal;
 mod trailer;
 mod writer;
 
 use answers::Goals;
 pub use reader::read_table;
+pub use renewal::renew_file;
 pub use trailer::check_trailer;
 pub use trailer::find_records;
 pub use writer::write_table;

@@ -12,6 +12,7 @@ ghost use Rattle.table_file.specs.Promises.{Opened, Reads};
 use super::Site;
 use super::trailer::FIRST_LONG;
 use super::trailer::SECOND_LONG;
+use super::trailer::back_in;
 use super::trailer::count_in;
 use super::trailer::edition_in;
 use super::trailer::ending_of;
@@ -171,7 +172,7 @@ fn apply_records(part: &[u8], n: usize, table: &mut [u32])
     }
 }
 
-// 1, 3, 4, 27, then 13, 14 and 18 to 22.
+// 1, 3, 4, 27, then 13, 28, 14 and 18 to 22.
 fn judge_read(site: Site, floor: &[u8], file: &[u8], figures: usize) -> Verdict
     ensures { λ r. ⌜ r ≡ readVerdict (floorAt site (now (floor .entry))) (site .q) (site .goals) (now (file .entry)) figures ⌝ }
 {
@@ -181,6 +182,9 @@ fn judge_read(site: Site, floor: &[u8], file: &[u8], figures: usize) -> Verdict
     };
     if !trailer_holds(file) {
         return checks::refuse(13);
+    }
+    if back_in(file) < file.len() {
+        return checks::refuse(28);
     }
     let v = same_job(site, file);
     let Verdict::Done = v else {

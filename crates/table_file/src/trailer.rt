@@ -70,7 +70,7 @@ pub fn count_in(file: &[u8]) -> usize
     half_at(ending_of(file), 2)
 }
 
-fn back_in(file: &[u8]) -> usize
+pub fn back_in(file: &[u8]) -> usize
     requires { ⌜ 12 ≤ length (now file) ⌝ }
     ensures { λ r. ⌜ r ≡ backIn (now (file .entry)) ⌝ }
 {

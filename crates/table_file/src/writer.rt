@@ -1,6 +1,6 @@
 // The writer of a table file: it judges everything before it stores.
 ghost use mathlib.Core.Path.{_≡_};
-ghost use mathlib.Core.List.{[], _∷_, _++_};
+ghost use mathlib.Core.List.{_++_};
 ghost use Prim.Native.Nat.{_+_, _*_, _≤_, _<_};
 ghost use lib.ListN.{length, drop};
 ghost use Rattle.model.specs.Basics.{naming};
@@ -9,7 +9,7 @@ ghost use Rattle.model.specs.TableFile.{secondLong, half, word, recordsOf, unli
 ghost use Rattle.model.specs.Writing.{Writes};
 ghost use Rattle.floor.specs.Moves.{flat};
 ghost use Rattle.notation.specs.Puts.{put};
-ghost use Rattle.table_file.specs.Site.{floorAt, goalsAt, changedAt, placesOf, jobOf};
+ghost use Rattle.table_file.specs.Site.{floorAt, goalsAt, changedAt, placesOf, jobOf, backOf};
 ghost use Rattle.table_file.specs.Promises.{Opened};
 use super::Site;
 use super::trailer::SECOND_LONG;
@@ -127,13 +127,22 @@ fn put_job(out: &mut [u8], at: usize, site: Site)
 
 // and what points back, 10 bytes: count, back and the letters.
 fn put_back(out: &mut [u8], at: usize, count: usize)
-    requires { ⌜ (at + 10 ≤ length (now out)) × (count ≤ 4096) ⌝ }
-    ensures { λ _. ⌜ now (out .exit) ≡ put at (half count ++ (word (secondLong + 6 * count) ++ (80 ∷ 68 ∷ 76 ∷ 84 ∷ []))) (now (out .entry)) ⌝ }
+    requires { ⌜ (at + 10 ≤ length (now out)) × (count < 65536) ⌝ }
+    ensures { λ _. ⌜ now (out .exit) ≡ put at (backOf count) (now (out .entry)) ⌝ }
 {
     put_half(out, at, count);
     put_word(out, at + 2, SECOND_LONG + 6 * count);
     put_pair(out, at + 6, 80, 68);
     put_pair(out, at + 8, 76, 84);
+}
+
+// The trailer of edition 2, 24 bytes.
+pub fn put_trailer(out: &mut [u8], at: usize, site: Site, count: usize)
+    requires { ⌜ (at + secondLong ≤ length (now out)) × (count < 65536) ⌝ }
+    ensures { λ _. ⌜ now (out .exit) ≡ put at (jobOf site ++ backOf count) (now (out .entry)) ⌝ }
+{
+    put_job(out, at, site);
+    put_back(out, at + 14, count);
 }
 
 // 1, 3, 4, 27, 5, 16 and 17.
@@ -193,8 +202,7 @@ pub fn write_table(
         Verdict::Refused(r) => Written::Refused(r),
         Verdict::Done => {
             let n = put_records(site, floor, table, buffer);
-            put_job(buffer, 6 * n, site);
-            put_back(buffer, 6 * n + 14, n);
+            put_trailer(buffer, 6 * n, site, n);
             Written::Length(SECOND_LONG + 6 * n)
         }
     }

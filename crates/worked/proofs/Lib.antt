@@ -10,6 +10,7 @@ pub mod PinsOpening
 pub mod PinsRide
 pub mod PinsTable
 pub mod PinsBenches
+pub mod PinsRenewal
 pub mod PinsText
 pub mod PinsFloorWritten
 pub mod PinsLine

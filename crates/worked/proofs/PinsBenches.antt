@@ -135,7 +135,6 @@ pub record PinsBenches : Type 0 where
   -- Edition 2, read: the job's goals, the count and each place, unused ones FF FF
   pub accepted : reads oneRecord ≡ Vd.Done
   pub read : readTable floor 1 (two 0 8) oneRecord (replicate 9 5) ≡ 0 ∷ 10 ∷ 20 ∷ 10 ∷ 14 ∷ 10 ∷ 48 ∷ 10 ∷ 0 ∷ []
-  pub older : readTable floor 1 (two 0 8) (9 ∷ 8 ∷ 7 ∷ oneRecord) (replicate 9 5) ≡ 0 ∷ 10 ∷ 20 ∷ 10 ∷ 14 ∷ 10 ∷ 48 ∷ 10 ∷ 0 ∷ []
   pub found : findRecords (9 ∷ 8 ∷ workedFile) ≡ workedRecords
   pub no-records : reads (trailer 0 24) ≡ Vd.Done
   -- 13: under 24 bytes, letters, editions 0 and 3, the zero byte, `back` not 24 + 6 × count, `back` past the start
@@ -202,7 +201,6 @@ pinsBenches = record {
   yard-opens-again = refl;
   accepted = refl;
   read = refl;
-  older = refl;
   found = refl;
   no-records = refl;
   short = refl;

@@ -82,8 +82,6 @@ pub record PinsTable : Type 0 where
   pub read : Read firstFile learnt
   pub read-written : Read workedFile learnt
   pub read-none : Read (trailer 0 16) figures
-  -- bytes ahead of the first record are older material and are ignored
-  pub older : Read (9 ∷ 8 ∷ 7 ∷ firstFile) learnt
   -- The finder of the records, trailer left off; a faulty trailer gives the empty part
   pub found : findRecords (9 ∷ 8 ∷ firstFile) ≡ entry 5 30 ++ entry 6 60 ++ entry 7 50 ++ entry 8 40
   pub found-none : findRecords (entry 6 48 ++ trailer 0 16) ≡ []
@@ -187,7 +185,6 @@ pinsTable = record {
   read = refl;
   read-written = refl;
   read-none = refl;
-  older = refl;
   found = refl;
   found-none = refl;
   found-faulty = refl;

@@ -11,7 +11,7 @@ use Rattle.model.specs.Checks.{sizes}
 use Rattle.model.specs.FloorWritten.{textOf, textVerdict}
 use Rattle.floor.specs.Moves.{flat}
 use Rattle.model.proofs.Accepted.{then-stops, then-goes, sizes-judges}
-use Rattle.model.proofs.FloorTexts.{room-judges}
+use Rattle.model.proofs.Writings.{room-judges}
 use borrow.Author.Needs.{needs}
 use native.Mathlib.Omega.{arith}
 use Rattle.floor_text.proofs.writer.judge_text.Statement.{statement}

@@ -5,7 +5,7 @@ use mathlib.Core.Path.{_≡_, refl, subst}
 use mathlib.Core.List.{_++_}
 use lib.ListN.{length, take, drop}
 use native.Mathlib.Omega.{arith}
-use Rattle.lookahead.proofs.Copying.{copied-room, copied-more}
+use Rattle.model.proofs.Copying.{copied-room, copied-more}
 use Rattle.lookahead.proofs.route.copy.Statement.{statement}
 use Rattle.lookahead.proofs.route.copy.Tie as tie
 

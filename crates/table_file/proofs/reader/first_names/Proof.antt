@@ -3,10 +3,9 @@
 use mathlib.Core.Path.{refl, sym, _∙_}
 use native.Mathlib.Omega.{arith}
 use borrow.Author.Needs.{needs}
-use Rattle.model.proofs.Accepted.{eq-tells}
+use Rattle.model.proofs.Accepted.{eq-tells, refuted, same-told}
 use Rattle.model.proofs.Benches.{goal-at}
 use Rattle.model.proofs.Files.{first-names}
-use Rattle.table_file.proofs.Reading.{refuted, same-told}
 use Rattle.table_file.proofs.reader.first_names.Statement.{statement}
 use Rattle.table_file.proofs.reader.first_names.Tie as tie
 

@@ -9,7 +9,7 @@ use Rattle.model.specs.Checks.{mostGoals}
 use Rattle.model.specs.Floor.{goalsOf}
 use Rattle.model.specs.TableFile.{halfAt, goalPlace}
 use Rattle.model.proofs.Files.{places-named}
-use Rattle.table_file.proofs.Reading.{refuted}
+use Rattle.model.proofs.Accepted.{refuted}
 use Rattle.table_file.proofs.reader.places_named.Statement.{statement}
 use Rattle.table_file.proofs.reader.places_named.Tie as tie
 

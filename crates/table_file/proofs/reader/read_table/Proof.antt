@@ -29,17 +29,17 @@ returns c = read-refused _ _ _ _ _ _ (c .before .before .judge-read .ensures) (c
 
 fill-figures-requires : tie.Need-fill-figures-requires
 fill-figures-requires c κs =
-    let o = openable _ _ _ _ (read-gives _ _ _ _ _ (passed (c .before)) .0) in
+    let o = openable _ _ _ _ (read-gives _ _ _ _ _ (passed (c .before)) .0 .opens) in
     (o .sized .wide, o .sized .narrow, o .sized .low, o .scale, o .benches, o .cells)
 
 count-in-requires : tie.Need-count-in-requires
-count-in-requires c κs = omega (arith, points _ (checked _ (read-gives _ _ _ _ _ (passed (at-passed (c .before .before))) .1)) .room)
+count-in-requires c κs = omega (arith, points _ (checked _ (read-gives _ _ _ _ _ (passed (at-passed (c .before .before))) .0 .checked)) .room)
 
 apply-records-requires : tie.Need-apply-records-requires
 apply-records-requires c κs =
     let counted = c .before .before in
     let gives = read-gives _ _ _ _ _ (passed (at-passed (at-filled counted))) in
-    records-long _ _ _ (counted .count-in .ensures .0) (c .before .find-records .ensures .0) (checked _ (gives .1))
+    records-long _ _ _ (counted .count-in .ensures .0) (c .before .find-records .ensures .0) (checked _ (gives .0 .checked))
 
 returns-2 : tie.Need-returns-2
 returns-2 c =

@@ -3,7 +3,7 @@
 use mathlib.Core.Path.{sym, _∙_}
 use borrow.Author.Needs.{needs}
 use Rattle.model.proofs.Files.{places-named, second-names}
-use Rattle.table_file.proofs.Reading.{refuted, same-told}
+use Rattle.model.proofs.Accepted.{refuted, same-told}
 use Rattle.table_file.proofs.reader.second_names.Statement.{statement}
 use Rattle.table_file.proofs.reader.second_names.Tie as tie
 

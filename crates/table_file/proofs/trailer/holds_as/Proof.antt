@@ -5,9 +5,8 @@ use borrow.Author.Tests.{not-true, not-false}
 use denote.Ref.{now}
 use lib.ListN.{length}
 use Rattle.model.specs.TableFile.{ending, isLetters}
-use Rattle.model.proofs.Accepted.{never, le-tells}
+use Rattle.model.proofs.Accepted.{never, le-tells, refuted, same-told}
 use Rattle.model.proofs.Files.{holds-tells}
-use Rattle.table_file.proofs.Reading.{refuted, same-told}
 use borrow.Author.Needs.{needs}
 use native.Mathlib.Omega.{arith}
 use Rattle.table_file.proofs.trailer.holds_as.Statement.{statement}

@@ -5,9 +5,8 @@ use borrow.Author.Tests.{not-true, not-false}
 use denote.Ref.{now}
 use lib.ListN.{getD}
 use Rattle.model.specs.TableFile.{secondLong}
-use Rattle.model.proofs.Accepted.{never, eq-tells}
+use Rattle.model.proofs.Accepted.{never, eq-tells, refuted, same-told}
 use Rattle.model.proofs.Files.{Trailer, holds-tells, second-tells}
-use Rattle.table_file.proofs.Reading.{refuted, same-told}
 use borrow.Author.Needs.{needs}
 use Rattle.table_file.proofs.trailer.second_holds.Statement.{statement}
 use Rattle.table_file.proofs.trailer.second_holds.Tie as tie

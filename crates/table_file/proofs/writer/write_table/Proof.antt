@@ -1,28 +1,26 @@
--- `table_file::writer::write_table` meets its contract: a refusal leaves the buffer; else the records and the two parts of the trailer are the whole file.
+-- `table_file::writer::write_table` meets its contract: a refusal leaves the buffer; else the records and the trailer are the whole file.
 -- Assumes nothing.
 use mathlib.Core.Path.{_≡_, sym, _∙_}
 use Prim.Native.Nat.{_+_, _*_, _≤_}
 use denote.Ref.{now}
 use lib.ListN.{length}
 use Rattle.model.specs.Floor.{size, goalsOf}
-use Rattle.model.specs.TableFile.{secondLong, changed}
+use Rattle.model.specs.TableFile.{secondLong, changed, writeTable}
+use Rattle.model.proofs.Writings.{writes-refused, writes-done}
 use Rattle.floor.specs.Moves.{flat}
 use Rattle.table_file.specs.Promises.{Opened}
-use Rattle.table_file.proofs.Writing.{write-open, whole, write-refused, write-done}
+use Rattle.table_file.proofs.Writing.{write-open, file-long, whole}
 use borrow.Author.Needs.{needs}
 use native.Mathlib.Omega.{arith}
 use Rattle.table_file.proofs.writer.write_table.Statement.{statement}
 use Rattle.table_file.proofs.writer.write_table.Tie as tie
 
--- the places: once the checks are passed, the records put, and the job put
+-- the places: once the checks are passed, and the records put
 abbrev at-passed : tie.After-put-records → tie.After-enum-told
 at-passed e = e .before .before
 
-abbrev at-records : tie.After-put-job → tie.After-put-records
+abbrev at-records : tie.After-put-trailer → tie.After-put-records
 at-records e = e .before .before .before .before
-
-abbrev at-job : tie.After-put-back → tie.After-put-job
-at-job e = e .before .before .before .before
 
 -- what the checks have shown, and that there are at most 4,096 records
 passed : (e : tie.After-enum-told) →
@@ -36,18 +34,18 @@ put-records-requires : tie.Need-put-records-requires
 put-records-requires c κs = let p = passed (c .before) in (p .0, (p .1, omega arith))
 
 returns : tie.Need-returns
-returns c = write-refused _ _ _ _ _ _ (c .before .before .before .judge-write .ensures) (c .before .v .given .0 .0) (c .before .v .given .1)
+unfolding writeTable
+returns c = writes-refused _ _ (c .before .before .before .judge-write .ensures) (c .before .v .given .0 .0) (c .before .v .given .1)
 
 returns-2 : tie.Need-returns-2
+unfolding writeTable
 returns-2 c =
-    let back = c .before .before in
-    let job = at-job back in
-    let records = at-records job in
+    let trailer = c .before .before in
+    let records = at-records trailer in
     let checked = at-passed records in
-    let p = passed checked in
     let n = records .put-records .ensures in
-    write-done _ _ _ _ _ _ (checked .before .before .judge-write .ensures) _ _ (checked .enum-told .given .1) (n .0)
-    (whole _ _ _ _ _ _ _ _ (n .0) (n .1) (job .put-job .ensures) (back .put-back .ensures) (p .0) (omega arith))
+    writes-done _ _ (checked .before .before .judge-write .ensures) _ _ (checked .enum-told .given .1) (file-long _ _ _ _ (n .0))
+    (whole _ _ _ _ _ _ _ (n .0) (n .1) (trailer .put-trailer .ensures) (passed checked .0))
 
 pub write-table-spec : {M : Type 1} → statement M
 write-table-spec =
@@ -59,11 +57,8 @@ write-table-spec =
     put-records-requires
     (λ c. omega (arith, passed (at-passed (c .before .before .before))))
     (λ c κs. omega (arith, passed (at-passed (c .before .before .before))))
-    (λ c. omega (arith, passed (at-passed (at-records (c .before .before .before)))))
-    (λ c. omega (arith, passed (at-passed (at-records (c .before .before .before)))))
-    (λ c κs. omega (arith, passed (at-passed (at-records (c .before .before .before)))))
-    (λ c. omega (arith, passed (at-passed (at-records (at-job (c .before .before))))))
-    (λ c. omega (arith, passed (at-passed (at-records (at-job (c .before .before))))))
+    (λ c. omega (arith, passed (at-passed (at-records (c .before .before)))))
+    (λ c. omega (arith, passed (at-passed (at-records (c .before .before)))))
     returns
     (λ c. search needs)
     returns-2)

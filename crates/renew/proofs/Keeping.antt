@@ -1,0 +1,115 @@
+-- The last part of a stream in a list: bytes moved to its front, one after another; what is held, where the oldest go and where more is put behind; room made for more.
+-- Assumes nothing.
+use mathlib.Core.Path.{_≡_, refl, sym, ap, ap₂, _∙_}
+use mathlib.Core.List.{List, _++_}
+use mathlib.Core.Logic.{inl, inr, ⊎-elim}
+use Prim.Native.Nat.{ℕ, _+_, _-_, _≤_, _<_}
+use native.Mathlib.Omega.{arith}
+use lib.ListN.{length, getD, take, drop, set, length-append, length-drop, length-set}
+use lib.Seq.{sets-eq, length-sets, length-take-le, length-front, take-add, take-at, drop-at, drop-drop, drop-append-le, getD-append-add, getD-drop}
+use Rattle.model.specs.Renewal.{longest}
+use Rattle.model.proofs.Copying.{copied-more}
+use Rattle.notation.specs.Printing.{Printed}
+use Rattle.renew.specs.Kept.{Kept}
+
+-- bytes of a list, moved from a place on to its front
+pub record Moving (list₀ : List ℕ) (from n : ℕ) (list : List ℕ) (i : ℕ) : Type 0 where
+  -- i of them, and no more than are asked for
+  pub most : i ≤ n
+  -- the list is as long as it was
+  pub same : length list ≡ length list₀
+  -- they stand in front, and all else is as it was
+  pub so-far : list ≡ take i (drop from list₀) ++ drop i list₀
+
+module _ (list₀ : List ℕ) (from n : ℕ) where
+  pub moving : Moving list₀ from n list₀ 0
+  moving = record { most = omega arith; same = refl; so-far = refl }
+
+  module _ (list : List ℕ) (i : ℕ) (g : Moving list₀ from n list i) where
+    abbrev src : List ℕ
+    src = drop from list₀
+
+    pub moving-all : n ≤ i → list ≡ take n (drop from list₀) ++ drop n list₀
+    moving-all h =
+        let z : i ≡ n = omega (arith, g .most) in
+        g .so-far ∙ ap (λ (k : ℕ). take k src ++ drop k list₀) z
+
+    module _ (room : from + n ≤ length list₀) (h : i < n) where
+      moved : length (take i src) ≡ i
+      moved = length-take-le i src (omega (arith, length-drop from list₀))
+
+      -- what is read is not stored over yet
+      read : getD list (from + i) 0 ≡ getD list₀ (from + i) 0
+      read =
+          let p : from + i ≡ length (take i src) + from = omega (arith, moved) in
+          let q : i + from ≡ from + i = omega arith in
+          ap₂ (λ l k. getD l k 0) (g .so-far) p ∙ getD-append-add (take i src) (drop i list₀) from 0 ∙ getD-drop i list₀ from 0 ∙ ap (λ k. getD list₀ k 0) q
+
+      stored : set list i (getD list (from + i) 0) ≡ take (i + 1) src ++ drop (i + 1) list₀
+      stored = ap (set list i) read ∙ copied-more list₀ from list₀ list i n room (g .most) (omega arith) (g .so-far) h
+
+      pub moving-more : Moving list₀ from n (set list i (getD list (from + i) 0)) (i + 1)
+      moving-more = record { most = omega arith; same = length-set list i (getD list (from + i) 0) ∙ g .same; so-far = stored }
+
+-- the oldest of what a list holds go: as many as the longest file has stay, moved to its front
+module _ (kept : List ℕ) (held : ℕ) (list : List ℕ) (e : list ≡ take longest (drop (held - longest) kept) ++ drop longest kept) (h : longest ≤ held) (w : held ≤ length kept) where
+  front : length (take longest (drop (held - longest) kept)) ≡ longest
+  front = length-take-le longest (drop (held - longest) kept) (omega (arith, length-drop (held - longest) kept))
+
+  length-longest : length list ≡ length kept
+  length-longest = ap length e ∙ length-front kept (take longest (drop (held - longest) kept)) longest (front ∙ sym (length-take-le longest kept (omega arith)))
+
+  kept-longest : (all : List ℕ) → Kept all kept held → Kept all list longest
+  kept-longest all g =
+      let k : ℕ = held - longest in
+      let p : length (take k kept) ≡ k = length-take-le k kept (omega arith) in
+      let j : held ≡ k + longest = omega arith in
+      let z : length all - held + k ≡ length all - longest = omega (arith, g .some) in
+      record {
+        within = omega (arith, length-longest);
+        some = omega (arith, g .some);
+        last = ap (take longest) e ∙ take-at (take longest (drop k kept)) (drop longest kept) longest front
+            ∙ sym (ap (λ (i : ℕ). drop k (take i kept)) j ∙ ap (drop k) (take-add k longest kept) ∙ drop-at (take k kept) (take longest (drop k kept)) k p)
+            ∙ ap (drop k) (g .last) ∙ drop-drop k (length all - held) all ∙ ap (λ (i : ℕ). drop i all) z;
+        enough = inr (omega arith);
+      }
+
+-- more is put behind what a list holds
+kept-more : {held end : ℕ} {all kept more list : List ℕ} → Kept all kept held → Printed kept held more list end → held + length more ≤ length kept → Kept (all ++ more) list end
+kept-more {held} {end} {all} {kept} {more} {list} g p h =
+    let m : ℕ = length more in
+    let n : length (take held kept ++ more) ≡ held + m = length-append (take held kept) more ∙ ap (λ (k : ℕ). k + m) (length-take-le held kept (g .within)) in
+    let l : length (all ++ more) ≡ length all + m = length-append all more in
+    let z : length all - held ≡ length (all ++ more) - (held + m) = omega (arith, g .some) in
+    rw (p .next) (record {
+      within = omega (arith, ap length (p .written), length-sets kept held more);
+      some = omega (arith, g .some);
+      last = ap (take (held + m)) (p .written ∙ sets-eq more kept held h) ∙ take-at (take held kept ++ more) (drop (held + m) kept) (held + m) n
+          ∙ ap (λ (r : List ℕ). r ++ more) (g .last) ∙ sym (drop-append-le (length all - held) all more (omega arith)) ∙ ap (λ (k : ℕ). drop k (all ++ more)) z;
+      enough = ⊎-elim (λ a. inl (omega arith)) (λ a. inr (omega arith)) (g .enough);
+    })
+
+-- room for more behind what stays in a list
+pub record Roomy (kept₀ : List ℕ) (held : ℕ) (more kept : List ℕ) (stay : ℕ) : Type 0 where
+  -- as much as there is of it
+  pub room : stay + length more ≤ length kept
+  -- the list is as long as it was
+  pub same : length kept ≡ length kept₀
+  -- and holds the last of all that went in, as before
+  pub still : (all : List ℕ) → Kept all kept₀ held → Kept all kept stay
+
+module _ (kept₀ : List ℕ) (held : ℕ) (more : List ℕ) (w : held ≤ length kept₀) where
+  pub roomy : length more ≤ length kept₀ - held → Roomy kept₀ held more kept₀ held
+  roomy h = record { room = omega arith; same = refl; still = λ all g. g }
+
+  pub roomy-moved : (kept : List ℕ) → kept ≡ take longest (drop (held - longest) kept₀) ++ drop longest kept₀ → longest ≤ held → longest + length more ≤ length kept₀
+      → Roomy kept₀ held more kept longest
+  roomy-moved kept e h r =
+      let l : length kept ≡ length kept₀ = length-longest kept₀ held kept e h w in
+      record { room = omega arith; same = l; still = kept-longest kept₀ held kept e h w }
+
+pub roomy-more : {held stay end : ℕ} {kept₀ more kept list : List ℕ} → Roomy kept₀ held more kept stay → Printed kept stay more list end
+    → ((all : List ℕ) → Kept all kept₀ held → Kept (all ++ more) list end) × ((end ≤ length list) × (length list ≡ length kept₀))
+roomy-more {stay = stay} {more = more} {kept = kept} {list = list} g p =
+    let l : length list ≡ length kept = ap length (p .written) ∙ length-sets kept stay more in
+    (λ all k. kept-more (g .still all k) p (g .room), (omega (arith, p .next, g .room), l ∙ g .same))

@@ -1,0 +1,24 @@
+-- `renew::tell` meets its contract: a length that is answered fits in the list. Assumes nothing.
+use borrow.Author.Needs.{needs}
+use Rattle.renew.proofs.tell.Statement.{statement}
+use Rattle.renew.proofs.tell.Tie as tie
+
+write-requires : tie.Need-write-requires
+write-requires c κs =
+    let known = c .before .before in
+    let told = known .before .before .before .before in
+    told .answer .ensures .fits _ (known .n .given .1)
+
+pub tell-spec : {M : Type 1} → statement M
+tell-spec =
+    tie.close
+    (tie.spec
+    (λ c κs. search needs)
+    (λ c. search needs)
+    write-requires
+    (λ c. search needs)
+    (λ c κs. search needs)
+    (λ c. search needs)
+    (λ c. search needs)
+    (λ c. search needs)
+    (λ c. search needs))

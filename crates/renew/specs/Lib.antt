@@ -1,0 +1,3 @@
+-- What is held of a stream, and what is answered of it.
+pub mod Kept
+pub mod Answers
