@@ -1,7 +1,7 @@
-"""Times the proved programs beside the second program, by turns on the same jobs: `run` through `calls`, and the whole of `aisle`."""
+"""Times the proved programs beside the second program, by turns on the same jobs: `run` through `calls`, and the whole of `aisle` and of `renew`."""
 import statistics, subprocess, sys, time
 
-calls, aisle, second = sys.argv[1:]
+calls, aisle, renew, second = sys.argv[1:]
 
 
 def told(command, given):
@@ -31,3 +31,9 @@ for kind in ('rooms', 'walls', 'racks', 'maze', 'snake'):
         _, r = compared([calls], [second, 'calls'], told(job + ['--as-calls'], b''))
         print(f'{kind:7}{depth:6}{decisions:11}{decisions / r[0]:12.0f}{decisions / r[1]:12.0f}{r[1] / r[0]:7.2f}'
               f'{a[0] * 1000:12.2f}{a[1] * 1000:11.2f}{a[1] / a[0]:7.2f}', flush=True)
+
+# The last table of edition 1, 4,096 records, behind 100 MB of older bytes, through a pipe.
+records = b''.join(cell.to_bytes(2, 'big') + (9000 + cell).to_bytes(4, 'big') for cell in range(4096))
+trailer = bytes([64, 64, 15, 255, 16, 1, 16, 0]) + (16 + len(records)).to_bytes(4, 'big') + b'PDLT'
+_, r = compared([renew], [second, 'renew'], bytes(range(256)) * 390625 + records + trailer)
+print(f'renew, 100 MB: proved {r[0] * 1000:.0f} ms, plain {r[1] * 1000:.0f} ms, ratio {r[1] / r[0]:.2f}')

@@ -1,8 +1,8 @@
 -- What document 02 says of older material, from what `renew_file`, `read_table` and `write_table` promise: for any floor and job, reading the new file gives the verdict and
 -- table that reading the old file's last table gave while bytes ahead were ignored; and the new file is what writing that table gives. What the calls answer and leave is
 -- the model's, and of that Renewed and RoundTrip say it.
-use Prim.Native.Nat.{ℕ, _≤_}
-use mathlib.Core.Path.{_≡_, sym, ap, _∙_, subst}
+use Prim.Native.Nat.{ℕ}
+use mathlib.Core.Path.{_≡_, sym, ap, _∙_}
 use mathlib.Core.List.{List}
 use lib.ListN.{length, take}
 use Rattle.answers.specs.declared.Goals.{Goals}

@@ -1,7 +1,6 @@
 -- A file laid down: records, and behind them the trailer that the writer puts. Read back field by field it holds, points to these records and names this job.
 -- The written table and the renewed file are both laid so.
-use mathlib.Core.Path.{_≡_, refl, sym, _∙_, ap}
-use mathlib.Core.Bool.{true}
+use mathlib.Core.Path.{_≡_, sym, _∙_, ap}
 use mathlib.Core.List.{List, [], _∷_, _++_}
 use Prim.Native.Nat.{ℕ, zero, suc, _+_, _-_, _*_, _≤_, _<_}
 use native.Mathlib.Omega.{arith}
@@ -9,7 +8,7 @@ use lib.ListN.{length, getD, take, drop, length-append}
 use lib.Seq.{take-at, drop-at, drop-drop}
 use Rattle.model.specs.Floor.{Floor}
 use Rattle.model.specs.Checks.{mostGoals}
-use Rattle.model.specs.TableFile.{halfAt, wordAt, secondLong, trailer, ending, scaleIn, editionIn, countIn, backIn, isLetters, goalPlace, findRecords, trailerOf}
+use Rattle.model.specs.TableFile.{halfAt, wordAt, secondLong, trailer, ending, scaleIn, countIn, backIn, isLetters, goalPlace, findRecords, trailerOf}
 use Rattle.model.proofs.Files.{Second, second-ended, SecondSame, found, length-trailer}
 use Rattle.model.proofs.Records.{half-read, word-read}
 

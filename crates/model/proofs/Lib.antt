@@ -43,6 +43,7 @@ pub mod Files
 pub mod Records
 pub mod FirstFault
 pub mod Laid
+pub mod Behind
 pub mod Renewed
 pub mod RoundTrip
 -- Numbers in decimal. Floor text: its rows, and how long it is; its lines, read and written; the round trip.

@@ -26,6 +26,10 @@ use Rattle.model.proofs.Benches.{places-judges, goals-judges}
 unfoldable pub turnOf : ℕ → ℕ
 turnOf n = pick (eqb n 27) (2 * 4 + 1) (pick (eqb n 28) (2 * 13 + 1) (2 * n))
 
+pub ahead-between : (turnOf 13 < turnOf 28) × (turnOf 28 < turnOf 14)
+unfolding turnOf
+ahead-between = (omega arith, omega arith)
+
 -- nothing is refused by a number ahead of n; and a check all of whose numbers are
 abbrev pub NothingAhead : ℕ → Verdict → Type 0
 NothingAhead n v = (r : Refusal) → v ≡ Vd.Refused r → turnOf n ≤ turnOf (r .number)

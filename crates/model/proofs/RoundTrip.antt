@@ -1,7 +1,7 @@
 -- The round trip of a table file, both ways: the writer's file is laid down and read back as `Laid` says, and its records as `Records` says; what the reader accepts, written
 -- again, is the renewed file, and of edition 2 the file itself.
 -- A file is a list of bytes: each of its numbers is below 256, which code has from its slice's type.
-use mathlib.Core.Path.{_≡_, refl, sym, _∙_, ap, subst}
+use mathlib.Core.Path.{_≡_, sym, _∙_, ap, subst}
 use mathlib.Core.Bool.{true, _&&_}
 use mathlib.Core.Logic.{inr, ⊎-elim}
 use mathlib.Core.List.{List, [], _∷_, _++_}

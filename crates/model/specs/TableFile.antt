@@ -81,7 +81,7 @@ trailerHolds file = firstHolds file || secondHolds file
 unfoldable pub checkTrailer : List ℕ → Verdict
 checkTrailer file = unless (trailerHolds file) 13
 
--- 28: "bytes ahead". A file must "begin with its first record": `back` is not less than the file's length
+-- 28, "bytes ahead": "Edition 2 files must begin with their first record. Edition 1 files with bytes ahead are no longer read." So `back` is not less than the file's length
 unfoldable pub checkAhead : List ℕ → Verdict
 checkAhead file = unless (leb (length file) (backIn file)) 28
 

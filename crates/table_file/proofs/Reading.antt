@@ -9,7 +9,6 @@ use native.Mathlib.Omega.{arith}
 use lib.Dec.{eqb}
 use borrow.Author.Tests.{eq-eqb, ne-eqb}
 use lib.ListN.{length, getD, take, drop, set, length-drop, length-set}
-use lib.Seq.{length-take-le}
 use Rattle.answers.specs.Says.{saysVerdict}
 use Rattle.answers.specs.declared.Goals.{Goals}
 use Rattle.answers.specs.declared.Place.the-variants as P
@@ -22,7 +21,7 @@ use Rattle.model.specs.TableFile.{firstLong, secondLong, trailer, scaleIn, edit
 use Rattle.model.specs.TableFile.{firstNames, secondNames, named, sameJob, cellIn, figureIn, recordFault, judgeRecords, applied, readVerdict, readOf, readTable}
 use Rattle.model.specs.Opening.{openTable}
 use Rattle.model.proofs.Parts.{rest}
-use Rattle.model.proofs.Files.{openable, judge-more, judge-stop, trailer-tells, trailer-judges, Pointed, pointed, found}
+use Rattle.model.proofs.Files.{openable, judge-more, judge-stop, trailer-tells, trailer-judges, Pointed, pointed, found, found-long}
 use Rattle.table_file.specs.Promises.{Opened, startOf, Reads}
 
 -- ---- what an opened table gives
@@ -67,15 +66,8 @@ module _ (file : List ℕ) where
       let z : length file - b + 6 * k - (length file - b) ≡ 6 * k = omega arith in
       rw (z, d, c) (sym (found file (trailer-tells file .holds e)))
 
-  found-long : trailerHolds file ≡ true → countIn file * 6 ≤ length (findRecords file)
-  found-long e =
-      let t = points e in
-      let d : length (drop (length file - backIn file) file) ≡ length file - (length file - backIn file) = length-drop (length file - backIn file) file in
-      rw (found file (trailer-tells file .holds e))
-      (omega (arith, length-take-le (6 * countIn file) (drop (length file - backIn file) file) (omega (arith, t .records, t .within))))
-
   pub records-long : (n : ℕ) (part : List ℕ) → n ≡ countIn file → part ≡ findRecords file → trailerHolds file ≡ true → n * 6 ≤ length part
-  records-long n part a b e = rw (a, b) (found-long e)
+  records-long n part a b e = rw (a, b) (omega (arith, found-long file (trailer-tells file .holds e)))
 
 -- ---- the job that it names
 

@@ -7,7 +7,6 @@ use Prim.Native.Nat.{ℕ, _+_, _*_, _≤_, _<_}
 use native.Mathlib.Omega.{arith}
 use lib.ListN.{length, drop}
 use Rattle.answers.specs.declared.Verdict.the-variants as Vd
-use Rattle.model.specs.Floor.{oneGoal, goalsOf}
 use Rattle.model.specs.TableFile.{halfAt, firstLong, secondLong, trailer, scaleIn, editionIn, countIn, trailerHolds, findRecords, trailerOf}
 use Rattle.model.specs.Renewal.{renewedTrailer, renewed, renewVerdict}
 use Rattle.model.proofs.Accepted.{then-done}

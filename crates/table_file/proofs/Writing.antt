@@ -1,7 +1,7 @@
 -- Where the writer's loops stand: what is left to count, or to put, makes the whole. And the writer's answer, check by check.
 use mathlib.Core.Path.{_≡_, refl, sym, _∙_, ap}
 use mathlib.Core.Bool.{true, false, not}
-use mathlib.Core.List.{List, [], _∷_, _++_, append-assoc}
+use mathlib.Core.List.{List, _++_, append-assoc}
 use Prim.Native.Nat.{ℕ, suc, _+_, _-_, _*_, _%_, _≤_, _<_}
 use native.Mathlib.Nat.{mod-eq-of-lt}
 use native.Mathlib.Numerals.{add-one}
@@ -24,7 +24,7 @@ use Rattle.table_file.specs.declared.Site.{Site}
 use Rattle.table_file.specs.Site.{floorAt, goalsAt, changedAt, jobOf, backOf}
 use Rattle.table_file.specs.Promises.{Opened}
 use Rattle.notation.specs.Puts.{put}
-use Rattle.notation.proofs.Puts.{put-next, put-then, length-put}
+use Rattle.notation.proofs.Puts.{put-next, length-put}
 use Rattle.table_file.proofs.Reading.{opened}
 
 -- 16, of one cell

@@ -1,8 +1,7 @@
 -- No older material: 28 and its place in the order of the reader's checks, and a table file renewed, each fault alone and each limit on both sides.
-use Prim.Native.Nat.{ℕ, _<_}
+use Prim.Native.Nat.{ℕ}
 use mathlib.Core.Path.{_≡_, refl}
 use mathlib.Core.List.{List, [], _∷_, _++_, map}
-use native.Mathlib.Omega.{arith}
 use lib.ListN.{length, set, replicate, drop}
 use Rattle.answers.specs.declared.Goals.{Goals}
 use Rattle.answers.specs.declared.Place.the-variants as P
@@ -13,7 +12,6 @@ use Rattle.model.specs.Floor.{Floor, oneGoal}
 use Rattle.model.specs.TableFile.{checkTrailer, findRecords, readVerdict, readTable}
 use Rattle.model.specs.Renewal.{renewFile, longest}
 use Rattle.model.specs.Compute.{compute}
-use Rattle.model.proofs.Refusals.{turnOf}
 use Rattle.model.proofs.Renewed.{verdictBefore, tableBefore}
 use Rattle.worked.proofs.Hall.{hall, no, learnt, workedRecords, workedFile, firstFile}
 
@@ -74,7 +72,6 @@ pub record PinsRenewal : Type 0 where
   pub thirteen-first : Unread 1 (oneGoal 0) (9 ∷ set workedFile 47 85) 13
   pub before-fourteen : map (λ q. readVerdict floor q (oneGoal 0) (9 ∷ workedFile) 9) (1 ∷ 2 ∷ []) ≡ no 28 P.Nowhere ∷ no 28 P.Nowhere ∷ []
   pub before-records : Unread 1 (oneGoal 0) (9 ∷ set workedFile 1 3) 28
-  pub turns : (turnOf 13 < turnOf 28) × (turnOf 28 < turnOf 14)
   -- the trailer's check and the finder do not look ahead
   pub check-ahead : map checkTrailer ((9 ∷ firstFile) ∷ (9 ∷ workedFile) ∷ []) ≡ Vd.Done ∷ Vd.Done ∷ []
   pub found-ahead : map findRecords ((9 ∷ firstFile) ∷ (9 ∷ workedFile) ∷ []) ≡ workedRecords ∷ workedRecords ∷ []
@@ -106,7 +103,7 @@ pub record PinsRenewal : Type 0 where
   pub most : longest ≡ 393234
 
 pub pinsRenewal : PinsRenewal
-unfolding compute turnOf
+unfolding compute
 pinsRenewal = record {
   ahead-first = refl;
   ahead-second = refl;
@@ -121,7 +118,6 @@ pinsRenewal = record {
   thirteen-first = refl;
   before-fourteen = refl;
   before-records = refl;
-  turns = (omega arith, omega arith);
   check-ahead = refl;
   found-ahead = refl;
   before = refl;

@@ -1,6 +1,6 @@
 -- `table_file::renewal::site_in` meets its contract: each field is a byte, or two, of the trailer. Assumes nothing.
 use Prim.Native.Nat.{ℕ}
-use mathlib.Core.Path.{_≡_, _∙_, ap}
+use mathlib.Core.Path.{_∙_, ap}
 use mathlib.Core.List.{List}
 use lib.ListN.{getD}
 use Rattle.model.specs.Floor.{oneGoal}
