@@ -25,12 +25,14 @@ fn is_free(byte: u8) -> bool {
     byte & !2 == 0
 }
 
+#[inline(always)]
 fn octile(goal: usize, q: usize, x: usize) -> u32 {
     let (dx, dy) = ((x % SIDE).abs_diff(goal % SIDE), (x / SIDE).abs_diff(goal / SIDE));
     (q * (14 * dx.min(dy) + 10 * dx.abs_diff(dy))) as u32
 }
 
 /// The least over the goals.
+#[inline(always)]
 fn opening(goals: &[usize], q: usize, x: usize) -> u32 {
     let mut least = octile(goals[0], q, x);
     for &goal in &goals[1..] {
@@ -208,7 +210,7 @@ fn main() {
     let ours = micros(|| unsafe { probe_renew(old.as_ptr(), old.len(), a.as_mut_ptr(), a.len()) });
     let plain = micros(|| plain_renew(&old, &mut b));
     assert!(a[..n] == file && b[..n] == file);
-    println!("renew 4,096 records    proved {ours:7.1} us  plain {plain:7.1} us  ratio {:.2}", ours / plain);
+    println!("renew 4,096 records    proved {ours:7.2} us  plain {plain:7.2} us  ratio {:.2}", ours / plain);
     // opening figures, for one goal and for four side by side
     let open = std::hint::black_box(open);
     for count in [1, 4] {
