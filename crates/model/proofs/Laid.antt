@@ -18,14 +18,24 @@ place-small [] h i = omega arith
 place-small (g ∷ gs) h zero = h 0 (omega arith)
 place-small (g ∷ gs) h (suc i) = place-small gs (λ k l. h (suc k) (omega arith)) i
 
+-- what such a file is read as
+pub record Laid (f : Floor) (q : ℕ) (gs records : List ℕ) (count : ℕ) (file : List ℕ) : Type 0 where
+  pub sound : Second file
+  -- it begins with its first record
+  pub begins : length file ≤ backIn file
+  pub counts : countIn file ≡ count
+  pub scale : scaleIn file ≡ q
+  pub names : SecondSame f gs (trailer secondLong file)
+  pub finds : findRecords file ≡ records
+
 module _ (f : Floor) (q : ℕ) (gs records : List ℕ) (count : ℕ) (long : length records ≡ 6 * count) (few : count < 65536) (small : (i : ℕ) → goalPlace gs i < 65536) where
   abbrev laid : List ℕ
   laid = records ++ trailerOf f q gs count
 
-  pub laid-length : length laid ≡ secondLong + 6 * count
+  laid-length : length laid ≡ secondLong + 6 * count
   laid-length = length-append records (trailerOf f q gs count) ∙ omega (arith, long, length-trailer f q gs count)
 
-  pub trailer-is : trailer secondLong laid ≡ trailerOf f q gs count
+  trailer-is : trailer secondLong laid ≡ trailerOf f q gs count
   trailer-is = drop-at records (trailerOf f q gs count) (length laid - secondLong) (omega (arith, laid-length, long))
 
   ending-is : ending laid ≡ drop 12 (trailerOf f q gs count)
@@ -33,19 +43,19 @@ module _ (f : Floor) (q : ℕ) (gs records : List ℕ) (count : ℕ) (long : len
       let at : length laid - 12 ≡ length laid - secondLong + 12 = omega (arith, laid-length) in
       ap (λ (k : ℕ). drop k laid) at ∙ sym (drop-drop 12 (length laid - secondLong) laid) ∙ ap (drop 12) trailer-is
 
-  pub count-is : countIn laid ≡ count
+  count-is : countIn laid ≡ count
   unfolding trailerOf
   count-is = ap (λ (t : List ℕ). halfAt t 2) ending-is ∙ half-read count few
 
-  pub back-is : backIn laid ≡ secondLong + 6 * count
+  back-is : backIn laid ≡ secondLong + 6 * count
   unfolding trailerOf
   back-is = ap (λ (t : List ℕ). wordAt t 4) ending-is ∙ word-read (secondLong + 6 * count) (omega (arith, few))
 
-  pub scale-is : scaleIn laid ≡ q
+  scale-is : scaleIn laid ≡ q
   unfolding trailerOf
   scale-is = ap (λ (t : List ℕ). getD t 0 0) ending-is
 
-  pub sound : Second laid
+  sound : Second laid
   unfolding trailerOf
   sound = (
     record {
@@ -58,11 +68,10 @@ module _ (f : Floor) (q : ℕ) (gs records : List ℕ) (count : ℕ) (long : len
     ap (λ (t : List ℕ). getD t 3 0) trailer-is,
   )
 
-  -- it begins with its first record
-  pub begins : length laid ≤ backIn laid
+  begins : length laid ≤ backIn laid
   begins = omega (arith, back-is, laid-length)
 
-  pub names : SecondSame f gs (trailer secondLong laid)
+  names : SecondSame f gs (trailer secondLong laid)
   unfolding trailerOf
   names = record {
     width = ap (λ (t : List ℕ). getD t 0 0) trailer-is;
@@ -78,8 +87,11 @@ module _ (f : Floor) (q : ℕ) (gs records : List ℕ) (count : ℕ) (long : len
       at (suc (suc (suc zero))) h = half-read (goalPlace gs 3) (small 3)
       at (suc (suc (suc (suc i)))) h = absurd (omega arith)
 
-  pub found-is : findRecords laid ≡ records
+  found-is : findRecords laid ≡ records
   found-is =
       let a : length laid - backIn laid ≡ 0 = omega (arith, begins) in
       let b : length records ≡ 6 * countIn laid = omega (arith, count-is, long) in
       found laid (second-ended laid sound) ∙ (ap (λ (k : ℕ). take (6 * countIn laid) (drop k laid)) a ∙ take-at records (trailerOf f q gs count) (6 * countIn laid) b)
+
+  pub laid-down : Laid f q gs records count laid
+  laid-down = record { sound = sound; begins = begins; counts = count-is; scale = scale-is; names = names; finds = found-is }

@@ -23,10 +23,10 @@ use Rattle.model.specs.Renewal.{secondOf, renewedTrailer, renewed, renew
 use Rattle.model.specs.Writing.{fileRoom, writeOf}
 use Rattle.model.proofs.Accepted.{then-next, then-refused, then-done, same-told}
 use Rattle.model.proofs.Parts.{end-behind}
-use Rattle.model.proofs.Files.{Trailer, Second, Ended, second-ended, second-tells, trailer-tells, trailer-judges, ahead-judges, found, found-long, FirstSame, SecondSame, first-names, second-names, length-trailer, Readable}
+use Rattle.model.proofs.Files.{Trailer, Second, Ended, second-ended, second-tells, trailer-judges, ahead-judges, found, found-long, FirstSame, SecondSame, first-names, second-names, length-trailer, Readable}
 use Rattle.model.proofs.Records.{Bytes, bytes-drop, half-small}
 use Rattle.model.proofs.Writings.{room-judges}
-use Rattle.model.proofs.Laid.{place-small, sound, begins, count-is, scale-is, names, found-is}
+use Rattle.model.proofs.Laid.{place-small, Laid, laid-down}
 use Rattle.model.proofs.Behind.{count-same, back-same, second-same, check-same, records-same, job-same, renewed-same}
 
 -- a list of one
@@ -71,7 +71,6 @@ module _ (file : List ℕ) (s : Second file) where
   renews-second : Renews file (drop ahead file)
   renews-second =
       let left : ahead + (secondLong + 6 * countIn file) ≤ length file = omega (arith, whole) in
-      let held = trailer-tells file .shown (inr s) in
       record {
         sound = second-tells (drop ahead file) .holds (second-same file ahead left ∙ second-tells file .shown s);
         begins = omega (arith, length-drop ahead file, back-same file ahead left, s .0 .within);
@@ -112,18 +111,15 @@ module _ (file : List ℕ) (b : Bytes file) (t : Trailer 1 firstLong file) where
   unfolding renewed
   renewed-first = ap (λ (l : List ℕ). findRecords file ++ l) (trailer-first file t)
 
-  long : length (findRecords file) ≡ 6 * countIn file
-  long = found-long file (inl t)
-
-  new-sound : Second new
-  new-sound = sound sizes (scaleIn file) goal (findRecords file) (countIn file) long few small
+  down : Laid sizes (scaleIn file) goal (findRecords file) (countIn file) new
+  down = laid-down sizes (scaleIn file) goal (findRecords file) (countIn file) (found-long file (inl t)) few small
 
   -- the new trailer names a job just where the old one does
   named-alike : (f : Floor) (gs : List ℕ) → secondNames f gs (trailer secondLong new) ≡ firstNames f gs old
   named-alike f gs = same-told (second-names f gs (trailer secondLong new)) (first-names f gs old) to from
     where
       n : SecondSame sizes goal (trailer secondLong new)
-      n = names sizes (scaleIn file) goal (findRecords file) (countIn file) long few small
+      n = down .names
 
       to : SecondSame f gs (trailer secondLong new) → FirstSame f gs old
       to s =
@@ -148,21 +144,15 @@ module _ (file : List ℕ) (b : Bytes file) (t : Trailer 1 firstLong file) where
   job-alike : (f : Floor) (q : ℕ) (gs : List ℕ) → sameJob f q gs new ≡ sameJob f q gs file
   unfolding sameJob
   job-alike f q gs =
-      let two : eqb (editionIn new) 1 ≡ false = ne-eqb (editionIn new) 1 (λ z. omega (arith, z, new-sound .0 .edition-is)) in
+      let two : eqb (editionIn new) 1 ≡ false = ne-eqb (editionIn new) 1 (λ z. omega (arith, z, down .sound .0 .edition-is)) in
       let one : eqb (editionIn file) 1 ≡ true = eq-eqb (editionIn file) 1 (t .edition-is) in
       let name : named f gs new ≡ named f gs file =
       ap (λ b. choose b (firstNames f gs (trailer firstLong new)) (secondNames f gs (trailer secondLong new))) two
       ∙ (named-alike f gs ∙ sym (ap (λ b. choose b (firstNames f gs old) (secondNames f gs (trailer secondLong file))) one)) in
-      ap₂ (λ b (x : ℕ). unless (b && eqb x q) 14) name (scale-is sizes (scaleIn file) goal (findRecords file) (countIn file) long few small)
+      ap₂ (λ b (x : ℕ). unless (b && eqb x q) 14) name (down .scale)
 
   renews-first : Renews file new
-  renews-first = record {
-    sound = new-sound;
-    begins = begins sizes (scaleIn file) goal (findRecords file) (countIn file) long few small;
-    count = count-is sizes (scaleIn file) goal (findRecords file) (countIn file) long few small;
-    records = found-is sizes (scaleIn file) goal (findRecords file) (countIn file) long few small;
-    job = job-alike;
-  }
+  renews-first = record { sound = down .sound; begins = down .begins; count = down .counts; records = down .finds; job = job-alike }
 
 -- how long it is
 trailer-long : (file : List ℕ) → Ended file → length (renewedTrailer file) ≡ secondLong

@@ -31,7 +31,7 @@ use Rattle.model.proofs.Files.{Openable, openable, Trailer, Second, End
 use Rattle.model.proofs.Files.{Readable, read-gives, write-gives}
 use Rattle.model.proofs.Records.{half-written, word-written, Bytes, bytes-drop, half-small, bytes-take, Fine, written-judged, written-applied, applied-length, Again}
 use Rattle.model.proofs.Records.{again, fine-opening, applied-fine}
-use Rattle.model.proofs.Laid.{place-small, sound, begins, count-is, scale-is, names, found-is}
+use Rattle.model.proofs.Laid.{place-small, Laid, laid-down}
 use Rattle.model.proofs.Renewed.{only, trailer-first, trailer-second, renewed-stays, renews, verdictBefore, tableBefore, before-gives}
 
 -- a list of n bytes is what stands at its places
@@ -94,20 +94,11 @@ module _ (f : Floor) (q : ℕ) (g : Goals) where
     small : (i : ℕ) → goalPlace gs i < 65536
     small = place-small gs (λ i h. omega (arith, given .benches .on i h, few-cells))
 
-    held : Second file
-    held = sound f q gs (recordsOf table cells) count (length-records table cells) few small
-
-    counted : countIn file ≡ count
-    counted = count-is f q gs (recordsOf table cells) count (length-records table cells) few small
-
-    records-found : findRecords file ≡ recordsOf table cells
-    records-found = found-is f q gs (recordsOf table cells) count (length-records table cells) few small
+    down : Laid f q gs (recordsOf table cells) count file
+    down = laid-down f q gs (recordsOf table cells) count (length-records table cells) few small
 
     named : Same f q gs file
-    named = (
-      subst (Names f gs file) (sym (ap (λ n. eqb n 1) (held .0 .edition-is))) (names f q gs (recordsOf table cells) count (length-records table cells) few small),
-      scale-is f q gs (recordsOf table cells) count (length-records table cells) few small,
-    )
+    named = (subst (Names f gs file) (sym (ap (λ n. eqb n 1) (down .sound .0 .edition-is))) (down .names), down .scale)
 
     -- it is accepted,
     written-accepted : (n : ℕ) → n ≡ length table → readVerdict f q g (fileOf f q gs table) n ≡ Vd.Done
@@ -116,18 +107,18 @@ module _ (f : Floor) (q : ℕ) (g : Goals) where
         read-all file n
         (record {
           opens = rw z (write-gives f q g table room e .0);
-          checked = trailer-judges file .done (inr held);
+          checked = trailer-judges file .done (inr (down .sound));
           same = same-judges f q gs file .done named;
-          records = (λ i. judgeRecords f q gs (counted i) 0 0 (records-found i)) ∙ written-judged f q gs table few-cells fine (size f) 0 0 0 (omega arith) (omega arith);
+          records = (λ i. judgeRecords f q gs (down .counts i) 0 0 (down .finds i)) ∙ written-judged f q gs table few-cells fine (size f) 0 0 0 (omega arith) (omega arith);
         })
-        (begins f q gs (recordsOf table cells) count (length-records table cells) few small)
+        (down .begins)
 
     -- and gives the same table
     written-reads-back : (other : List ℕ) → length other ≡ length table → readTable f q g (fileOf f q gs table) other ≡ table
     unfolding readTable openingTable fileOf
     written-reads-back other z =
         ap (λ (v : Verdict). readOf v f q g file other) (written-accepted (length other) z)
-        ∙ ((λ i. applied (counted i) (records-found i) (openingTable f q gs))
+        ∙ ((λ i. applied (down .counts i) (down .finds i) (openingTable f q gs))
         ∙ written-applied f q gs table few-cells fine (size f) 0 (openingTable f q gs)
         (record {
           same = list-length (size f) (opening f q gs) ∙ sym (given .cells);

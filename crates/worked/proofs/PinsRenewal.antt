@@ -14,6 +14,7 @@ use Rattle.model.specs.Renewal.{renewFile, longest}
 use Rattle.model.specs.Compute.{compute}
 use Rattle.model.proofs.Renewed.{verdictBefore, tableBefore}
 use Rattle.worked.proofs.Hall.{hall, no, learnt, workedRecords, workedFile, firstFile}
+use Rattle.worked.proofs.PinsTable.{longFile, longWritten}
 
 abbrev floor : Floor
 floor = record { width = 3; height = 3; bytes = hall }
@@ -47,15 +48,6 @@ noJobNow = 0 ∷ 0 ∷ 1 ∷ 0 ∷ 255 ∷ 255 ∷ 255 ∷ 255 ∷ 255 ∷ 255 �
 abbrev nineGoals : List ℕ
 nineGoals = 255 ∷ 65 ∷ 9 ∷ 0 ∷ 0 ∷ 8 ∷ 0 ∷ 7 ∷ 0 ∷ 6 ∷ 255 ∷ 0 ∷ 17 ∷ 2 ∷ 0 ∷ 0 ∷ 0 ∷ 0 ∷ 0 ∷ 24 ∷ 80 ∷ 68 ∷ 76 ∷ 84 ∷ []
 
--- one record, of numbers that take all their bytes: width 64, height 5, goal 257, q 2, cell 300 at 70000
-abbrev longFirst : List ℕ
-longFirst = 1 ∷ 44 ∷ 0 ∷ 1 ∷ 17 ∷ 112 ∷ 64 ∷ 5 ∷ 1 ∷ 1 ∷ 2 ∷ 1 ∷ 0 ∷ 1 ∷ 0 ∷ 0 ∷ 0 ∷ 22 ∷ 80 ∷ 68 ∷ 76 ∷ 84 ∷ []
-
-abbrev longSecond : List ℕ
-longSecond =
-    1 ∷ 44 ∷ 0 ∷ 1 ∷ 17 ∷ 112
-    ∷ 64 ∷ 5 ∷ 1 ∷ 0 ∷ 1 ∷ 1 ∷ 255 ∷ 255 ∷ 255 ∷ 255 ∷ 255 ∷ 255 ∷ 2 ∷ 2 ∷ 0 ∷ 1 ∷ 0 ∷ 0 ∷ 0 ∷ 30 ∷ 80 ∷ 68 ∷ 76 ∷ 84 ∷ []
-
 pub record PinsRenewal : Type 0 where
   -- 28 bytes ahead: one or several, in both editions, also where there is no record; a file that begins with its first record is read
   pub ahead-first : Unread 1 (oneGoal 0) (9 ∷ firstFile) 28
@@ -81,9 +73,9 @@ pub record PinsRenewal : Type 0 where
   -- Renewed: of edition 1 the records and edition 2's trailer, with one goal and three times FF FF; bytes beyond are untouched
   pub first : Renewed firstFile 50 workedFile
   pub first-ahead : Renewed (9 ∷ 8 ∷ 7 ∷ firstFile) 50 workedFile
-  pub last-alone : Renewed (longFirst ++ firstFile) 50 workedFile
+  pub last-alone : Renewed (longFile ++ firstFile) 50 workedFile
   pub first-none : Renewed noJob 24 noJobNow
-  pub first-long : Renewed (9 ∷ longFirst) 31 longSecond
+  pub first-long : Renewed (9 ∷ longFile) 31 longWritten
   -- count and back take all their bytes: 257 records
   pub first-many : drop 1542 (renewFile (replicate 1542 7 ++ (3 ∷ 3 ∷ 0 ∷ 0 ∷ 1 ∷ 1 ∷ 1 ∷ 1 ∷ 0 ∷ 0 ∷ 6 ∷ 22 ∷ 80 ∷ 68 ∷ 76 ∷ 84 ∷ [])) (replicate 1566 5) .buffer)
       ≡ 3 ∷ 3 ∷ 1 ∷ 0 ∷ 0 ∷ 0 ∷ 255 ∷ 255 ∷ 255 ∷ 255 ∷ 255 ∷ 255 ∷ 1 ∷ 2 ∷ 1 ∷ 1 ∷ 0 ∷ 0 ∷ 6 ∷ 30 ∷ 80 ∷ 68 ∷ 76 ∷ 84 ∷ []

@@ -69,10 +69,10 @@ long = record { width = 64; height = 5; bytes = replicate 320 0 }
 abbrev longTable : List ℕ
 longTable = openingTable long 2 (257 ∷ [])
 
-abbrev longFile : List ℕ
+abbrev pub longFile : List ℕ
 longFile = 1 ∷ 44 ∷ 0 ∷ 1 ∷ 17 ∷ 112 ∷ 64 ∷ 5 ∷ 1 ∷ 1 ∷ 2 ∷ 1 ∷ 0 ∷ 1 ∷ 0 ∷ 0 ∷ 0 ∷ 22 ∷ 80 ∷ 68 ∷ 76 ∷ 84 ∷ []
 
-abbrev longWritten : List ℕ
+abbrev pub longWritten : List ℕ
 longWritten =
     1 ∷ 44 ∷ 0 ∷ 1 ∷ 17 ∷ 112
     ∷ 64 ∷ 5 ∷ 1 ∷ 0 ∷ 1 ∷ 1 ∷ 255 ∷ 255 ∷ 255 ∷ 255 ∷ 255 ∷ 255 ∷ 2 ∷ 2 ∷ 0 ∷ 1 ∷ 0 ∷ 0 ∷ 0 ∷ 30 ∷ 80 ∷ 68 ∷ 76 ∷ 84 ∷ []
