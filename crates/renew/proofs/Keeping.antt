@@ -1,7 +1,7 @@
 -- The last part of a stream in a list: bytes moved to its front, one after another; what is held, where the oldest go and where more is put behind; room made for more.
 -- Assumes nothing.
 use mathlib.Core.Path.{_≡_, refl, sym, ap, ap₂, _∙_}
-use mathlib.Core.List.{List, _++_}
+use mathlib.Core.List.{List, [], _++_}
 use mathlib.Core.Logic.{inl, inr, ⊎-elim}
 use Prim.Native.Nat.{ℕ, _+_, _-_, _≤_, _<_}
 use native.Mathlib.Omega.{arith}
@@ -73,6 +73,10 @@ module _ (kept : List ℕ) (held : ℕ) (list : List ℕ) (e : list ≡ take lon
             ∙ ap (drop k) (g .last) ∙ drop-drop k (length all - held) all ∙ ap (λ (i : ℕ). drop i all) z;
         enough = inr (omega arith);
       }
+
+-- at first nothing is held, of nothing
+pub kept-none : (kept : List ℕ) → Kept [] kept 0
+kept-none kept = record { within = omega arith; some = omega arith; last = refl; enough = inl refl }
 
 -- more is put behind what a list holds
 kept-more : {held end : ℕ} {all kept more list : List ℕ} → Kept all kept held → Printed kept held more list end → held + length more ≤ length kept → Kept (all ++ more) list end

@@ -16,3 +16,7 @@ pub record Kept (all kept : List ℕ) (held : ℕ) : Type 0 where
   pub last : take held kept ≡ atEnd held all
   -- and all of it, or as many as the longest file has
   pub enough : (held ≡ length all) ⊎ (longest ≤ held)
+
+-- so much of some stream: of all that was handed over, part after part. Which bytes these are the C library's `read` does not promise
+abbrev pub Taken : (kept : List ℕ) → (held : ℕ) → Type 0
+Taken kept held = (all : List ℕ) × Kept all kept held

@@ -8,6 +8,7 @@ ghost use Prim.Native.Nat.{_+_, _≤_};
 ghost use lib.ListN.{length};
 ghost use Rattle.model.specs.Renewal.{longest};
 ghost use Rattle.io.specs.Counts.{Counts};
+ghost use Rattle.renew.specs.Kept.{Taken};
 ghost use Rattle.renew.specs.Answers.{Answered};
 use learner::Refusal;
 use learner::Written;
@@ -25,6 +26,7 @@ struct Input {
 // Reads standard input to its end. A loop has to end and nothing says that an input does, so the turns are counted down from a number that no input uses up.
 fn take_in(kept: &mut [u8], part: &mut [u8]) -> Input
     requires { ⌜ longest + length (now part) ≤ length (now kept) ⌝ }
+    ensures { λ r. ⌜ Taken (now (kept .exit)) (r .held) ⌝ }
     ensures { λ r. ⌜ Counts (r .held) (now (kept .exit)) ⌝ }
 {
     let mut held = 0;

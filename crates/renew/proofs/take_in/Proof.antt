@@ -1,24 +1,41 @@
--- `renew::take_in` meets its contract: what is held stands in the list's places, and both lists are as long as they were. Assumes nothing.
-use Prim.Native.Nat.{ℕ, _≤_}
+-- `renew::take_in` meets its contract: the list holds the last bytes of all the parts that were read, and each further part is put behind them. Assumes nothing.
+use Prim.Native.Nat.{ℕ}
 use mathlib.Core.Path.{_≡_, refl, sym}
-use mathlib.Core.List.{List}
+use mathlib.Core.List.{List, []}
 use lib.ListN.{length}
 use lib.Seq.{length-take-le}
 use Rattle.io.specs.Counts.{Counts}
+use Rattle.renew.specs.Kept.{Taken}
+use Rattle.renew.proofs.Keeping.{kept-none}
 use borrow.Author.Needs.{needs}
 use native.Mathlib.Omega.{arith}
 use Rattle.renew.proofs.take_in.Statement.{statement}
 use Rattle.renew.proofs.take_in.Tie as tie
 
 abbrev Inv-loop : tie.InvT-loop
-Inv-loop kept₀ part₀ held₀ turns₀ kept part held turns = (held ≤ length kept) × (length kept ≡ length kept₀) × (length part ≡ length part₀)
+Inv-loop kept₀ part₀ held₀ turns₀ kept part held turns = Taken kept held × (length kept ≡ length kept₀) × (length part ≡ length part₀)
 
 abbrev μ-loop : tie.MeasureT-loop
 μ-loop kept₀ part₀ held₀ turns₀ kept part held turns = turns
 
--- so many of a list's bytes are so many
-counted : (n : ℕ) (list : List ℕ) → n ≤ length list → Counts n list
-counted n list h = (h, sym (length-take-le n list h))
+-- what is held, and that so many of a list's bytes are so many
+taken : (kept : List ℕ) (held : ℕ) → Taken kept held → Taken kept held × Counts held kept
+taken kept held (all, k) = ((all, k), (k .within, sym (length-take-le held kept (k .within))))
+
+keep-requires : tie.Need-keep-requires Inv-loop μ-loop
+keep-requires c κs =
+    let counted = c .before .before in
+    let read = counted .before .before .before .before .before in
+    let l = read .before .before .before .loop in
+    (l .inv .0 .1 .within, omega arith)
+
+loop-again : tie.Need-loop-again Inv-loop μ-loop
+loop-again c =
+    let kept = c .before .before in
+    let counted = kept .before .before .before in
+    let read = counted .before .before .before .before .before in
+    let l = read .before .before .before .loop in
+    ((_, kept .keep .ensures .0 (l .inv .0 .0) (l .inv .0 .1)), omega arith, omega arith)
 
 pub take-in-spec : {M : Type 1} → statement M
 take-in-spec =
@@ -26,18 +43,18 @@ take-in-spec =
     (tie.spec
     Inv-loop
     μ-loop
-    (λ c. (omega arith, refl, refl))
+    (λ c. (([], kept-none _), refl, refl))
     (λ c κs. search needs)
     (λ c. omega arith)
     (λ c. omega arith)
-    (λ c. counted _ _ (omega arith))
+    (λ c. taken _ _ (c .before .before .before .before .before .before .loop .inv .0))
     (λ c κs. search needs)
     (λ c. search needs)
     (λ c. search needs)
-    (λ c κs. (omega arith, omega arith))
+    keep-requires
     (λ c. omega arith)
     (λ c. omega arith)
-    (λ c. (omega arith, omega arith, omega arith))
+    loop-again
     (λ c. omega arith)
     (λ c. omega arith)
-    (λ c. counted _ _ (omega arith)))
+    (λ c. taken _ _ (c .before .loop .inv .0)))
