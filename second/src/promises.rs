@@ -189,12 +189,7 @@ fn check_renewal(kit: &Kit, dice: &mut Dice) -> Result<(), String> {
     if dice.chance(50) {
         file.add_older(kit, dice);
     }
-    if dice.chance(30) {
-        file.spoil_record(kit, dice);
-    }
-    if dice.chance(30) {
-        file.spoil_trailer(kit, dice);
-    }
+    file.spoil(kit, 30, 30, dice);
     let file = file.bytes();
     let renewed = table_file::renewed(&file);
     holds(

@@ -29,11 +29,10 @@ use Rattle.model.proofs.Writings.{room-judges}
 use Rattle.model.proofs.Laid.{place-small, Laid, laid-down}
 use Rattle.model.proofs.Behind.{count-same, back-same, second-same, check-same, records-same, job-same, renewed-same}
 
--- a list of one
-pub only : (l : List ℕ) → length l ≡ 1 → l ≡ getD l 0 0 ∷ []
-only [] h = absurd (omega arith)
-only (x ∷ []) h = refl
-only (x ∷ y ∷ l) h = absurd (omega arith)
+pub list-of-one : (l : List ℕ) → length l ≡ 1 → l ≡ getD l 0 0 ∷ []
+list-of-one [] h = absurd (omega arith)
+list-of-one (x ∷ []) h = refl
+list-of-one (x ∷ y ∷ l) h = absurd (omega arith)
 
 -- ---- the renewed file
 
@@ -127,13 +126,13 @@ module _ (file : List ℕ) (b : Bytes file) (t : Trailer 1 firstLong file) where
           record {
             width = sym (n .width) ∙ s .width;
             height = sym (n .height) ∙ s .height;
-            goal = sym (n .places 0 (omega arith)) ∙ (s .places 0 (omega arith) ∙ ap (λ (l : List ℕ). goalPlace l 0) (only gs one));
+            goal = sym (n .places 0 (omega arith)) ∙ (s .places 0 (omega arith) ∙ ap (λ (l : List ℕ). goalPlace l 0) (list-of-one gs one));
             alone = one;
           }
 
       from : FirstSame f gs old → SecondSame f gs (trailer secondLong new)
       from s =
-          let same : goal ≡ gs = ap (λ (x : ℕ). x ∷ []) (s .goal) ∙ sym (only gs (s .alone)) in
+          let same : goal ≡ gs = ap (λ (x : ℕ). x ∷ []) (s .goal) ∙ sym (list-of-one gs (s .alone)) in
           record {
             width = n .width ∙ s .width;
             height = n .height ∙ s .height;

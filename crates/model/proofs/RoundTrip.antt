@@ -32,7 +32,7 @@ use Rattle.model.proofs.Files.{Readable, read-gives, write-gives}
 use Rattle.model.proofs.Records.{half-written, word-written, Bytes, bytes-drop, half-small, bytes-take, Fine, written-judged, written-applied, applied-length, Again}
 use Rattle.model.proofs.Records.{again, fine-opening, applied-fine}
 use Rattle.model.proofs.Laid.{place-small, Laid, laid-down}
-use Rattle.model.proofs.Renewed.{only, trailer-first, trailer-second, renewed-stays, renews, verdictBefore, tableBefore, before-gives}
+use Rattle.model.proofs.Renewed.{list-of-one, trailer-first, trailer-second, renewed-stays, renews, verdictBefore, tableBefore, before-gives}
 
 -- a list of n bytes is what stands at its places
 spelled : (n : ℕ) (t : List ℕ) → length t ≡ n → t ≡ listOf n (λ i. getD t i 0)
@@ -185,7 +185,7 @@ module _ (f : Floor) (q : ℕ) (g : Goals) where
     unfolding trailerOf
     first-again t =
         let s : FirstSame f gs (trailer firstLong file) = subst (Names f gs file) (ap (λ n. eqb n 1) (t .edition-is)) (named-so .0) in
-        let one : gs ≡ halfAt (trailer firstLong file) 2 ∷ [] = only gs (s .alone) ∙ ap (λ (x : ℕ). x ∷ []) (sym (s .goal)) in
+        let one : gs ≡ halfAt (trailer firstLong file) 2 ∷ [] = list-of-one gs (s .alone) ∙ ap (λ (x : ℕ). x ∷ []) (sym (s .goal)) in
         (λ i. sym (s .width) i ∷ sym (s .height) i ∷ length (one i) ∷ 0
         ∷ (half (goalPlace (one i) 0) ++ (half (goalPlace (one i) 1) ++ (half (goalPlace (one i) 2) ++ (half (goalPlace (one i) 3)
         ++ (sym (named-so .1) i ∷ 2 ∷ (half (countIn file) ++ (word (secondLong + 6 * countIn file) ++ (80 ∷ 68 ∷ 76 ∷ 84 ∷ [])))))))))

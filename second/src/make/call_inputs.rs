@@ -283,12 +283,7 @@ fn read_table_file(kit: &Kit, dice: &mut Dice) -> Draft {
     if ahead {
         file.add_older(kit, dice);
     }
-    if dice.chance(45) {
-        file.spoil_record(kit, dice);
-    }
-    if dice.chance(if ahead { 50 } else { 20 }) {
-        file.spoil_trailer(kit, dice);
-    }
+    file.spoil(kit, 45, if ahead { 50 } else { 20 }, dice);
     let table = junk(kit.cells(), dice.pick_bound(kit), dice);
     let file = bytes_as_entries(&file.bytes_within(BYTE_ROOM));
     table_call(7, kit, vec![Entries(List::File, file), Entries(List::Table, table)])
@@ -311,12 +306,7 @@ fn renew(kit: &Kit, dice: &mut Dice) -> Draft {
         file.add_older(kit, dice);
     }
     // Records that no reader takes are kept as they stand.
-    if dice.chance(15) {
-        file.spoil_record(kit, dice);
-    }
-    if dice.chance(25) {
-        file.spoil_trailer(kit, dice);
-    }
+    file.spoil(kit, 15, 25, dice);
     let file = file.bytes_within(BYTE_ROOM);
     let enough = files::renewed_length(&file);
     let length = match dice.below(16) {

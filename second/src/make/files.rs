@@ -160,6 +160,16 @@ impl Draft {
         self.recount();
     }
 
+    /// Spoils a record, the trailer, both or neither, by chances in a hundred.
+    pub fn spoil(&mut self, kit: &Kit, record: u64, trailer: u64, dice: &mut Dice) {
+        if dice.chance(record) {
+            self.spoil_record(kit, dice);
+        }
+        if dice.chance(trailer) {
+            self.spoil_trailer(kit, dice);
+        }
+    }
+
     /// Spoils the trailer or the file's length.
     pub fn spoil_trailer(&mut self, kit: &Kit, dice: &mut Dice) {
         match dice.below(21) {

@@ -17,12 +17,7 @@ pub fn input(dice: &mut Dice) -> Vec<u8> {
         4 => return no_table(&kit, &file.bytes(), dice),
         _ => return long(file, dice),
     }
-    if dice.chance(15) {
-        file.spoil_record(&kit, dice);
-    }
-    if dice.chance(25) {
-        file.spoil_trailer(&kit, dice);
-    }
+    file.spoil(&kit, 15, 25, dice);
     let mut bytes = file.bytes();
     if dice.chance(4) {
         // Bytes behind the trailer: it isn't the end any more.
