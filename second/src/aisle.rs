@@ -3,21 +3,11 @@
 use crate::checks::{self, Goals, Job};
 use crate::floor::MOST_CELLS;
 use crate::floor_text;
+use crate::line;
 use crate::opening::{self, opening_table};
 use crate::refusal::{Halt, Place, Refusal};
 use crate::trial::{Cart, Counts, Leg};
 use std::io::Write;
-
-/// The program's line; what is left out has its stated value.
-struct Line {
-    start: u64,
-    goal: u64,
-    depth: u64,
-    p: u64,
-    q: u64,
-    quota: u64,
-    trials: u64,
-}
 
 /// The whole output for a whole input.
 pub fn answer(input: &[u8]) -> Vec<u8> {
@@ -55,14 +45,12 @@ struct Run {
 
 impl Run {
     fn open(input: &[u8]) -> Result<Run, Refusal> {
-        // An input without any LF is a malformed line.
-        let end = input.iter().position(|&byte| byte == b'\n').ok_or(Refusal::plain(3))?;
-        let line = read_line(&input[..end]).ok_or(Refusal::plain(3))?;
+        let (line, text) = line::read(input).ok_or(Refusal::plain(3))?;
         checks::settings(line.depth, line.p, line.q, line.quota)?;
         checks::trials(line.trials)?;
 
         let mut buffer = vec![0u8; MOST_CELLS];
-        let (width, height) = floor_text::read(&input[end + 1..], &mut buffer)?;
+        let (width, height) = floor_text::read(text, &mut buffer)?;
         let job = Job {
             width: width as u64,
             height: height as u64,
@@ -117,28 +105,4 @@ pub fn show_legs(input: &[u8], show: &mut dyn FnMut(Leg)) {
     if let Ok(mut run) = Run::open(input) {
         while !run.is_over() && run.trial(show, u64::MAX).is_ok() {}
     }
-}
-
-/// Reads 2, 3, 5, 6 or 7 numbers of 1 to 7 digits, one space apart.
-fn read_line(line: &[u8]) -> Option<Line> {
-    let mut numbers = Vec::new();
-    for digits in line.split(|&byte| byte == b' ') {
-        if digits.is_empty() || digits.len() > 7 || !digits.iter().all(u8::is_ascii_digit) {
-            return None;
-        }
-        numbers.push(digits.iter().fold(0u64, |number, digit| number * 10 + u64::from(digit - b'0')));
-    }
-    if !matches!(numbers.len(), 2 | 3 | 5 | 6 | 7) {
-        return None;
-    }
-    let or = |index: usize, left_out: u64| numbers.get(index).copied().unwrap_or(left_out);
-    Some(Line {
-        start: numbers[0],
-        goal: numbers[1],
-        depth: or(2, 1),
-        p: or(3, 1),
-        q: or(4, 1),
-        quota: or(5, 1_000_000),
-        trials: or(6, 10),
-    })
 }

@@ -3,6 +3,7 @@
 use crate::checks::{Goals, Job};
 use crate::decision::{decide, Answer, State};
 use crate::floor_text;
+use crate::line;
 use crate::opening;
 use crate::refusal::{Halt, Place, Refusal};
 use crate::table_file;
@@ -22,6 +23,9 @@ pub const REPORT_ROOM: usize = 1_001;
 pub const GOAL_ROOM: usize = 8;
 /// Room for files and texts, and for every buffer of bytes.
 pub const BYTE_ROOM: usize = 32_768;
+
+/// The numbers of the calls.
+pub const CALLS: [usize; 13] = [1, 2, 3, 4, 5, 6, 7, 8, 9, 10, 11, 12, 16];
 
 /// Why there is no line of numbers to print.
 enum NoLine {
@@ -196,6 +200,7 @@ fn call(input: &[u8], most: u64) -> Result<Line, NoLine> {
         10 => call_opening_table(arguments),
         11 => call_write_floor_text(arguments),
         12 => call_renew(arguments),
+        16 => call_keep_depth(arguments),
         _ => Err(NoLine::Malformed),
     }
 }
@@ -417,6 +422,19 @@ fn call_renew(mut arguments: Arguments) -> Result<Line, NoLine> {
     arguments.end()?;
 
     let (refusal, length) = split(table_file::renew(&file, &mut buffer));
+    let mut line = Line::default();
+    line.refusal(refusal);
+    line.number(length as u64);
+    line.list(&buffer);
+    Ok(line)
+}
+
+fn call_keep_depth(mut arguments: Arguments) -> Result<Line, NoLine> {
+    let given: Vec<u8> = arguments.list(BYTE_ROOM)?;
+    let mut buffer: Vec<u8> = arguments.list(BYTE_ROOM)?;
+    arguments.end()?;
+
+    let (refusal, length) = split(line::keep_depth(&given, &mut buffer));
     let mut line = Line::default();
     line.refusal(refusal);
     line.number(length as u64);

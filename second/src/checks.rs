@@ -137,3 +137,9 @@ pub fn ceiling(table: &[u32]) -> Result<(), Refusal> {
         None => Ok(()),
     }
 }
+
+/// Fills a buffer from its first byte, or answers 17. Answers how many bytes were written.
+pub fn put(bytes: &[u8], buffer: &mut [u8]) -> Result<usize, Refusal> {
+    buffer.get_mut(..bytes.len()).ok_or(Refusal::plain(17))?.copy_from_slice(bytes);
+    Ok(bytes.len())
+}

@@ -61,9 +61,7 @@ pub fn write(width: u64, height: u64, floor: &[u8], buffer: &mut [u8]) -> Result
         }));
         text.push(b'\n');
     }
-    let place = buffer.get_mut(..text.len()).ok_or(Refusal::plain(17))?;
-    place.copy_from_slice(&text);
-    Ok(text.len())
+    checks::put(&text, buffer)
 }
 
 /// One header line that holds a size from 1 to 64 with no zero in front; answers it and what follows the line.

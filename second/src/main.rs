@@ -1,6 +1,7 @@
 //! The program `second`: reads its mode and runs it.
 
 use second::compare::{compare, Plan};
+use second::keep_depth;
 use second::make::floors::KINDS;
 use second::make::jobs::Kit;
 use second::make::{self, Program, PROGRAMS};
@@ -14,8 +15,9 @@ const USAGE: &str = "usage:
   second aisle                        standard input to standard output, as document 01's program
   second calls                        standard input to standard output, as CALLS.md
   second renew                        standard input to standard output, as document 02's program; a refusal to standard error
-  second make aisle|calls|renew SEED  the generated input of a seed
-  second compare [--aisle PATH] [--calls PATH] [--renew PATH] --from A --count N [--seconds S] [--need-all]
+  second keep_depth                   the same for lines, which are copied as they come
+  second make PROGRAM SEED            the generated input of a seed for one of these four
+  second compare [--aisle PATH] [--calls PATH] [--renew PATH] [--keep_depth PATH] --from A --count N [--seconds S] [--need-all]
   second promises --from A --count N
   second time run KIND WIDTH HEIGHT SEED TRIALS DEPTH [P Q QUOTA] [--as-aisle | --as-calls]
   second time open KIND WIDTH HEIGHT SEED
@@ -32,6 +34,7 @@ fn main() -> ExitCode {
         ["time", "run", rest @ ..] => time_run(rest),
         ["time", "open", rest @ ..] => time_open(rest),
         ["time", "aisle", files @ ..] => time_files(files),
+        ["keep_depth"] => Some(copy_lines().is_ok()),
         [name] => Program::named(name).and_then(answer),
         _ => None,
     };
@@ -58,6 +61,12 @@ fn answer(program: Program) -> Option<bool> {
     }
     let Output { out, err } = program.answer(&input);
     Some(std::io::stderr().write_all(&err).is_ok() && print_bytes(&out)?)
+}
+
+/// The one program whose input may be longer than what can be held.
+fn copy_lines() -> std::io::Result<()> {
+    let refused = keep_depth::copy(std::io::stdin().lock(), std::io::stdout().lock())?;
+    std::io::stderr().write_all(keep_depth::told(refused).as_bytes())
 }
 
 fn make_input(program: &str, seed: &str) -> Option<bool> {

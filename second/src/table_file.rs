@@ -1,6 +1,6 @@
 //! The table file: its trailer in both editions, the finder of its records, its reader, its writer and its renewal.
 
-use crate::checks::{self, Goals, CEILING, MOST_GOALS};
+use crate::checks::{self, put, Goals, CEILING, MOST_GOALS};
 use crate::floor::is_free_byte;
 use crate::opening::opening_figure;
 use crate::refusal::Refusal;
@@ -90,12 +90,6 @@ fn whole(mut records: Vec<u8>, job: &[u8]) -> Vec<u8> {
     records.extend((back as u32).to_be_bytes());
     records.extend(LETTERS);
     records
-}
-
-/// Fills a buffer from its first byte, or answers 17. Answers how many bytes were written.
-fn put(file: &[u8], buffer: &mut [u8]) -> Result<usize, Refusal> {
-    buffer.get_mut(..file.len()).ok_or(Refusal::plain(17))?.copy_from_slice(file);
-    Ok(file.len())
 }
 
 /// The public check of a file's trailer.

@@ -2,6 +2,7 @@
 
 use super::dice::Dice;
 use super::jobs;
+use super::lines;
 use super::texts;
 use super::weaving;
 
@@ -65,79 +66,17 @@ pub fn input(dice: &mut Dice) -> Vec<u8> {
     numbers.resize(length, 1);
     let mut words: Vec<String> = numbers.iter().map(u64::to_string).collect();
     if dice.chance(10) {
-        zeros_in_front(&mut words, 7, dice);
+        lines::zeros_in_front(&mut words, dice);
     }
     if spoil_words {
-        spoil_one_word(&mut words, dice);
+        lines::spoil_one_word(&mut words, dice);
     }
-    let mut line = words.join(" ").into_bytes();
-    line.push(b'\n');
+    let mut input = lines::whole(&words);
     if spoil_line {
-        spoil_whole_line(&mut line, dice);
+        lines::spoil_whole_line(&mut input, dice);
     }
-    let mut input = line;
     if dice.chance(99) {
         input.extend(text);
     }
     input
-}
-
-/// Zeros in front of some words, up to so many digits.
-fn zeros_in_front(words: &mut [String], digits: usize, dice: &mut Dice) {
-    for word in words {
-        if dice.chance(50) {
-            *word = format!("{word:0>width$}", width = dice.from_to(1, digits as u64) as usize);
-        }
-    }
-}
-
-fn spoil_one_word(words: &mut [String], dice: &mut Dice) {
-    if words.is_empty() {
-        return;
-    }
-    let at = dice.index(words.len());
-    let word = words[at].clone();
-    words[at] = match dice.below(9) {
-        0 => format!("{word:0>8}"),
-        1 => format!("{word:0>7}"),
-        2 => format!("-{word}"),
-        3 => format!("+{word}"),
-        4 => format!("{word}x"),
-        5 => String::new(),
-        6 => "12345678".into(),
-        7 => "10000000000000000000000".into(),
-        _ => format!("{word}."),
-    };
-}
-
-fn spoil_whole_line(line: &mut Vec<u8>, dice: &mut Dice) {
-    match dice.below(11) {
-        // Longer than any good line, and than any floor text.
-        10 => {
-            line.splice(0..0, vec![b'0'; dice.pick(&[60, 6_000])]);
-        }
-        0 => line.insert(0, b' '),
-        1 => line.insert(line.len() - 1, b' '),
-        2 => line.insert(line.len() - 1, b'\r'),
-        3 => {
-            if let Some(space) = line.iter().position(|&byte| byte == b' ') {
-                line.insert(space, dice.pick(b" \t"));
-            }
-        }
-        4 => {
-            if let Some(space) = line.iter().position(|&byte| byte == b' ') {
-                line[space] = b'\t';
-            }
-        }
-        5 => line.clear(),
-        6 => {
-            line.pop();
-        }
-        7 => *line = b"\n".to_vec(),
-        8 => {
-            let place = dice.index(line.len());
-            line[place] = dice.byte();
-        }
-        _ => line.insert(0, b'\n'),
-    }
 }

@@ -6,15 +6,16 @@ use super::drafts::{Argument, Draft, List, Scalar};
 use super::files;
 use super::floors;
 use super::jobs::{self, Kit, TableKind};
+use super::lines;
 use super::slow;
 use super::states;
 use super::texts;
 use super::winding;
-use crate::calls::{BYTE_ROOM, CELL_ROOM, GOAL_ROOM, MOST_INPUT, MOVE_ROOM, REPORT_ROOM};
+use crate::calls::{BYTE_ROOM, CALLS, CELL_ROOM, GOAL_ROOM, MOST_INPUT, MOVE_ROOM, REPORT_ROOM};
 use crate::lookahead::MOST_MOVES;
 
 pub fn input(dice: &mut Dice) -> Vec<u8> {
-    let call = 1 + dice.weighted(&[10, 37, 11, 12, 7, 8, 16, 3, 4, 4, 5, 6]) as u64;
+    let call = CALLS[dice.weighted(&[10, 37, 11, 12, 7, 8, 17, 3, 4, 4, 5, 6, 6])] as u64;
     let long = match call {
         2 => dice.chance(50),
         3 | 4 => dice.chance(70),
@@ -32,7 +33,8 @@ pub fn input(dice: &mut Dice) -> Vec<u8> {
         8 | 9 => records_or_trailer(&kit, call, dice),
         10 => opening_table(&kit, dice),
         11 => write_floor_text(&mut kit, dice),
-        _ => renew(&kit, dice),
+        12 => renew(&kit, dice),
+        _ => keep_depth(dice),
     };
     // Several faults at once show the order in which they are judged.
     let weights = if long { [80, 12, 5, 3] } else { [55, 27, 11, 7] };
@@ -115,12 +117,13 @@ fn malformed(draft: &Draft, mut words: Vec<String>, dice: &mut Dice) -> Vec<u8> 
                 List::Goals => (GOAL_ROOM, 1),
                 List::Moves => (MOVE_ROOM, 1),
                 List::Reports => (REPORT_ROOM, 4),
-                List::Text | List::File | List::FileBuffer | List::TextBuffer | List::RenewedBuffer => {
-                    (BYTE_ROOM, 1)
-                }
                 // CALLS.md doesn't say how much room this buffer has, only that it's bytes: too long by any reading.
                 List::FloorBuffer => (BYTE_ROOM + 1, 1),
                 List::Floor | List::Table | List::Path => (CELL_ROOM, 1),
+                List::Text | List::File | List::Line => (BYTE_ROOM, 1),
+                List::FileBuffer | List::TextBuffer | List::RenewedBuffer | List::LineBuffer => {
+                    (BYTE_ROOM, 1)
+                }
             };
             let new = (room + dice.index(2)) * width;
             let end = length_at + 1 + entries.len();
@@ -129,7 +132,11 @@ fn malformed(draft: &Draft, mut words: Vec<String>, dice: &mut Dice) -> Vec<u8> 
             words[length_at] = (new / width).to_string();
         }
         9 => words[length_at] = "4294967295".into(),
-        10 => words[0] = dice.pick(&["0", "13", "4294967295", "256", "268", "x"]).into(),
+        10 => {
+            // No calls; the last would be this one if numbers were cut off.
+            let cut = (256 + draft.call).to_string();
+            words[0] = dice.pick(&["0", "13", "14", "15", "17", "4294967295", "256", "x", &cut]).into();
+        }
         11 => {
             return dice
                 .pick::<&[u8]>(&[b"", b" ", b"\n", b"\n\n", b"7", b"malformed\n", b"8 0", b"9 0\n"])
@@ -321,6 +328,26 @@ fn renew(kit: &Kit, dice: &mut Dice) -> Draft {
     let buffer = junk(length.min(BYTE_ROOM), 256, dice);
     let arguments = vec![Entries(List::File, bytes_as_entries(&file)), Entries(List::RenewedBuffer, buffer)];
     Draft { call: 12, arguments }
+}
+
+fn keep_depth(dice: &mut Dice) -> Draft {
+    let mut line = lines::line(dice);
+    let enough = lines::length_with_depth(&line);
+    let length = match dice.below(16) {
+        0 | 1 => enough - 1,
+        // As much as the line itself takes.
+        2 => line.len(),
+        3 => 0,
+        4..=8 => enough + dice.index(65),
+        _ => enough,
+    };
+    // The general spoiling hits the buffer as often as the line.
+    if dice.chance(15) {
+        lines::spoil(&mut line, dice);
+    }
+    let buffer = junk(length, 256, dice);
+    let arguments = vec![Entries(List::Line, bytes_as_entries(&line)), Entries(List::LineBuffer, buffer)];
+    Draft { call: 16, arguments }
 }
 
 fn opening_table(kit: &Kit, dice: &mut Dice) -> Draft {

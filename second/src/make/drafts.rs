@@ -3,6 +3,7 @@
 use super::dice::Dice;
 use super::files;
 use super::jobs::Kit;
+use super::lines;
 use super::texts;
 use crate::calls::{BYTE_ROOM, CELL_ROOM, GOAL_ROOM, MOVE_ROOM, REPORT_ROOM};
 use crate::checks::{CEILING, MOST_GOALS};
@@ -43,6 +44,9 @@ pub enum List {
     TextBuffer,
     /// The buffer that a renewed table file is written into.
     RenewedBuffer,
+    Line,
+    /// The buffer that a line with its depth is written into.
+    LineBuffer,
 }
 
 #[derive(Clone, Debug)]
@@ -269,9 +273,10 @@ impl Draft {
                     dice.pick(&[trials, trials.saturating_sub(1), trials.saturating_sub(1), 0, trials + 1]);
                 entries.resize(4 * reports.min(REPORT_ROOM), 3);
             }
-            List::Text => {
-                let mut text: Vec<u8> = entries.iter().map(|&entry| entry as u8).collect();
-                texts::spoil(&mut text, dice);
+            List::Text | List::Line => {
+                let mut text = as_bytes(&entries);
+                let spoil = if name == List::Text { texts::spoil } else { lines::spoil };
+                spoil(&mut text, dice);
                 text.truncate(BYTE_ROOM);
                 entries = text.into_iter().map(u64::from).collect();
             }
@@ -305,9 +310,15 @@ impl Draft {
                 entries.resize(dice.pick(&[enough, enough - 1, enough - 1, 0, kit.cells(), enough + 1]), 9);
             }
             List::RenewedBuffer => {
-                let file: Vec<u8> = self.list(List::File).iter().map(|&entry| entry as u8).collect();
+                let file = as_bytes(self.list(List::File));
                 let enough = files::renewed_length(&file);
                 let length = dice.pick(&[enough, enough - 1, enough - 1, 0, 23, enough - 8, file.len()]);
+                entries.resize(length.min(BYTE_ROOM), 9);
+            }
+            List::LineBuffer => {
+                let line = as_bytes(self.list(List::Line));
+                let enough = lines::length_with_depth(&line);
+                let length = dice.pick(&[enough, enough.saturating_sub(1), 0, line.len(), line.len() + 1]);
                 entries.resize(length.min(BYTE_ROOM), 9);
             }
         }
@@ -331,6 +342,10 @@ impl Draft {
         }
         entries[at] = dice.pick(&choices).min(65_535);
     }
+}
+
+fn as_bytes(entries: &[u64]) -> Vec<u8> {
+    entries.iter().map(|&entry| entry as u8).collect()
 }
 
 /// A list one entry too short or too long, empty, or much too long.

@@ -1,4 +1,4 @@
-//! The seeded generator: an input of `aisle`, `calls` or `renew` for every seed, the same each time.
+//! The seeded generator: an input of each program for every seed, the same each time.
 
 pub mod aisle_inputs;
 pub mod bends;
@@ -8,6 +8,8 @@ pub mod drafts;
 pub mod files;
 pub mod floors;
 pub mod jobs;
+pub mod keep_depth_inputs;
+pub mod lines;
 pub mod renew_inputs;
 pub mod slow;
 pub mod states;
@@ -16,7 +18,7 @@ pub mod weaving;
 pub mod winding;
 
 use crate::output::Output;
-use crate::{aisle, calls, renew};
+use crate::{aisle, calls, keep_depth, renew};
 use dice::Dice;
 
 #[derive(Clone, Copy, Debug, PartialEq, Eq)]
@@ -24,9 +26,10 @@ pub enum Program {
     Aisle,
     Calls,
     Renew,
+    KeepDepth,
 }
 
-pub const PROGRAMS: [Program; 3] = [Program::Aisle, Program::Calls, Program::Renew];
+pub const PROGRAMS: [Program; 4] = [Program::Aisle, Program::Calls, Program::Renew, Program::KeepDepth];
 
 impl Program {
     pub fn name(self) -> &'static str {
@@ -34,6 +37,7 @@ impl Program {
             Program::Aisle => "aisle",
             Program::Calls => "calls",
             Program::Renew => "renew",
+            Program::KeepDepth => "keep_depth",
         }
     }
 
@@ -47,26 +51,28 @@ impl Program {
             Program::Aisle => Output::plain(aisle::answer(input)),
             Program::Calls => Output::plain(calls::answer(input)),
             Program::Renew => renew::answer(input),
+            Program::KeepDepth => keep_depth::answer(input),
         }
     }
 
     /// Whether the papers say what stands on standard error.
     pub fn tells_on_error(self) -> bool {
-        self == Program::Renew
+        matches!(self, Program::Renew | Program::KeepDepth)
     }
 
     fn answers_within(self, input: &[u8], most: u64) -> bool {
         match self {
             Program::Aisle => aisle::answer_within(input, most).is_some(),
             Program::Calls => calls::answer_within(input, most).is_some(),
-            Program::Renew => true,
+            Program::Renew | Program::KeepDepth => true,
         }
     }
 }
 
-/// The program that a seed is for: about one in twelve is for `renew`, and of the others one in four for `aisle`.
+/// The program that a seed is for: of a hundred about seven are for `renew` and five for `keep_depth`, and of the others one in
+/// four is for `aisle`.
 pub fn program_of(seed: u64) -> Program {
-    PROGRAMS[Dice::new(!seed).weighted(&[23, 69, 8])]
+    PROGRAMS[Dice::new(!seed).weighted(&[22, 66, 7, 5])]
 }
 
 /// The input of a seed. A job that would take too many decisions is passed over for another of the same seed.
@@ -77,6 +83,7 @@ pub fn input(program: Program, seed: u64) -> Vec<u8> {
             Program::Aisle => aisle_inputs::input(&mut dice),
             Program::Calls => call_inputs::input(&mut dice),
             Program::Renew => renew_inputs::input(&mut dice),
+            Program::KeepDepth => keep_depth_inputs::input(&mut dice),
         };
         // Mostly short jobs, so that many can be compared in a short time.
         let most = [3_000, 30_000, 200_000][dice.weighted(&[80, 17, 3])];
