@@ -188,20 +188,27 @@ impl Tally {
         self.several += u64::from(several);
         self.several_calls[call] += u64::from(several && number == 0);
         self.by_27[call] += u64::from(number == 27);
-        if let (7, 0 | 28, Some((_, rest))) = (call, number, floor_bytes(&asked)) {
-            let (edition, _) = kind_of_file(&bytes_of(list_at(rest, 0).0));
-            let counts = if number == 0 { &mut self.read } else { &mut self.by_28 };
-            counts[edition] += 1;
-        }
-        if let (12, 0) = (call, number) {
-            let (edition, ahead) = kind_of_file(&bytes_of(list_at(&asked, 1).0));
-            self.renewed_calls[edition][ahead] += 1;
-        }
-        if call == 16 {
-            let longer = answered[3] > asked[1];
-            let what = [(0, false), (0, true), (3, false), (17, false)];
-            let what = what.iter().position(|&what| what == (number, longer));
-            what.into_iter().for_each(|what| self.kept_calls[what] += 1);
+        self.add_file_or_line(&asked, number, &answered);
+    }
+
+    /// What became of the file of call 7 or 12, or of the line of call 16.
+    fn add_file_or_line(&mut self, asked: &[u64], number: u64, answered: &[u64]) {
+        match (asked[0], number) {
+            (7, 0 | 28) => {
+                let Some((_, rest)) = floor_bytes(asked) else { return };
+                let (edition, _) = kind_of_file(&bytes_of(list_at(rest, 0).0));
+                let counts = if number == 0 { &mut self.read } else { &mut self.by_28 };
+                counts[edition] += 1;
+            }
+            (12, 0) => {
+                let (edition, ahead) = kind_of_file(&bytes_of(list_at(asked, 1).0));
+                self.renewed_calls[edition][ahead] += 1;
+            }
+            // In the order of `OF_CALL_16`.
+            (16, 0) => self.kept_calls[usize::from(answered[3] > asked[1])] += 1,
+            (16, 3) => self.kept_calls[2] += 1,
+            (16, _) => self.kept_calls[3] += 1,
+            _ => {}
         }
     }
 
