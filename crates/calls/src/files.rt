@@ -1,4 +1,4 @@
-// Calls 6 to 9 and 12: the table file, written, read, looked into and renewed.
+// Calls 6 to 9: the table file, written, read and looked into.
 ghost use Prim.Native.Nat.{_≤_};
 ghost use lib.ListN.{length};
 use crate::jobs;
@@ -119,31 +119,4 @@ pub fn check_trailer(input: &[u8], c: Cursor, out: &mut Line) -> usize
     let v = learner::check_trailer(&file[..bytes]);
     let end = show::verdict(out, 0, v);
     print::byte(out, end, 10)
-}
-
-// The answer and the buffer.
-fn renewed(file: &[u8], buffer: &mut [u8], out: &mut [u8]) -> usize
-    requires { ⌜ (length (now buffer) ≤ 32768) × (688256 ≤ length (now out)) ⌝ }
-    ensures { λ r. ⌜ (1 ≤ r) × (r ≤ 688256) ⌝ }
-{
-    let w = learner::renew_file(file, buffer);
-    let at = show::written(out, 0, w);
-    let end = show::list8(out, at, &buffer[..]);
-    print::byte(out, end, 10)
-}
-
-// Call 12: file, buffer. Prints the refusal, the length, then the buffer.
-pub fn renew_file(input: &[u8], c: Cursor, out: &mut Line) -> usize
-    ensures { λ r. ⌜ (1 ≤ r) × (r ≤ 688256) ⌝ }
-{
-    let mut file = rooms::bytes();
-    let mut buffer = rooms::bytes();
-    let f = numbers::list8(input, c, &mut file);
-    let b = numbers::list8(input, f, &mut buffer);
-    if !numbers::ended(input, b) {
-        return show::malformed(out);
-    }
-    let bytes = f.value;
-    let room = b.value;
-    renewed(&file[..bytes], &mut buffer[..room], out)
 }

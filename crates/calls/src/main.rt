@@ -2,6 +2,7 @@
 mod decisions;
 mod files;
 mod jobs;
+mod rewrites;
 mod rooms;
 mod runs;
 mod show;
@@ -34,7 +35,8 @@ fn answer(input: &[u8], out: &mut Line) -> usize
         9 => files::check_trailer(input, c, out),
         10 => jobs::fill_opening(input, c, out),
         11 => texts::write_floor(input, c, out),
-        12 => files::renew_file(input, c, out),
+        12 => rewrites::written(12, input, c, out),
+        16 => rewrites::written(16, input, c, out),
         _ => show::malformed(out),
     }
 }

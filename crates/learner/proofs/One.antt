@@ -22,6 +22,7 @@ use Rattle.model.specs.FloorText.{FloorOutcome}
 use Rattle.model.specs.FloorWritten.{writeFloor}
 use Rattle.model.specs.TableFile.{checkTrailer, findRecords, writeTable}
 use Rattle.model.specs.Renewal.{renewFile}
+use Rattle.model.specs.KeepDepth.{withDepth}
 use Rattle.model.specs.Writing.{WriteOutcome, Writes}
 use Rattle.opening.specs.Promise.{Answers, Fills}
 use Rattle.decision.specs.Ready.{Decides}
@@ -98,3 +99,7 @@ write-table-one f q g table buffer h k = writes-one h k
 -- `renew_file`: the answer with its length, and the buffer.
 pub renew-file-one : (old buffer : List ℕ) {r s : Written} {b c : List ℕ} → Writes (renewFile old buffer) r b → Writes (renewFile old buffer) s c → (r ≡ s) × (b ≡ c)
 renew-file-one old buffer h k = writes-one h k
+
+-- `with_depth`: the answer with its length, and the buffer.
+pub with-depth-one : (line buffer : List ℕ) {r s : Written} {b c : List ℕ} → Writes (withDepth line buffer) r b → Writes (withDepth line buffer) s c → (r ≡ s) × (b ≡ c)
+with-depth-one line buffer h k = writes-one h k

@@ -34,6 +34,7 @@ use Rattle.model.specs.FloorText.{floorVerdict, floorFrom, readFloor}
 use Rattle.model.specs.FloorWritten.{textOf, textVerdict, writeFloor}
 use Rattle.model.specs.TableFile.{readVerdict, readOf, readTable, writeVerdict, fileOf, writeTable}
 use Rattle.model.specs.Renewal.{renewed, renewVerdict, renewFile}
+use Rattle.model.specs.KeepDepth.{withOldDepth, depthVerdict, withDepth}
 use Rattle.model.specs.Writing.{writeOf, Writes}
 use Rattle.model.proofs.Cases.{act-arrived, act-blind, act-learns, learn-over, learn-forward, learn-back, back-stays, back-lost, back-goes, decide-refused, decide-acts}
 use Rattle.model.proofs.Steps.{newHere, targetHere}
@@ -164,3 +165,8 @@ refused-write-table f q g table buffer h = refused-writing (writeVerdict f q g t
 pub refused-renew-file : (old buffer : List ℕ) {x : Refusal} {b : List ℕ} → Writes (renewFile old buffer) (Wr.Refused x) b → b ≡ buffer
 unfolding renewFile
 refused-renew-file old buffer h = refused-writing (renewVerdict old (length buffer)) (renewed old) buffer h
+
+-- `with_depth`: the buffer
+pub refused-with-depth : (line buffer : List ℕ) {x : Refusal} {b : List ℕ} → Writes (withDepth line buffer) (Wr.Refused x) b → b ≡ buffer
+unfolding withDepth
+refused-with-depth line buffer h = refused-writing (depthVerdict line (length buffer)) (withOldDepth line) buffer h

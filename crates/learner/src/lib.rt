@@ -16,6 +16,7 @@ pub use decision::decide;
 pub use floor::one_goal;
 pub use floor_text::read_floor;
 pub use floor_text::write_floor;
+pub use line::with_depth;
 pub use opening::fill_opening;
 pub use opening::open;
 pub use run::run;

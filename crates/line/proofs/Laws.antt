@@ -12,17 +12,18 @@ use native.Mathlib.Numerals.{add-one}
 use native.Mathlib.Omega.{arith}
 use borrow.Author.Tests.{le-leb, lt-leb, ne-eqb, eqb-true, eqb-false}
 use lib.Dec.{eqb, leb}
-use lib.ListN.{length, getD, set, take, drop, length-set, drop-of-length-le}
+use lib.ListN.{length, getD, set, take, drop, length-append, length-set, drop-of-length-le}
 use lib.Seq.{take-suc-set, length-take-le}
 use Rattle.answers.specs.declared.Settings.{Settings}
 use Rattle.model.specs.FloorText.{LF, isDigit}
-use Rattle.model.specs.Line.{numbersIn, settingsOf, readLine, afterLine}
+use Rattle.model.specs.Line.{numbersIn, settingsOf, readLineBy, defaultDepth, readLine, afterLine}
 use Rattle.model.proofs.Accepted.{never}
+use Rattle.model.proofs.Cut.{asksOf}
 use Rattle.model.proofs.Openings.{not-both}
 use Rattle.line.specs.declared.Reading.{Reading}
 use Rattle.line.specs.declared.Line.{Line}
 use Rattle.line.specs.declared.Line.the-variants.{Asked, Malformed}
-use Rattle.line.specs.Reading.{after, asksOf, numbersOf, whole, Goes, Pushed, Scanned, asked, textOf, Said}
+use Rattle.line.specs.Reading.{after, numbersOf, whole, Beyond, Goes, Pushed, Scanned, asked, textOf, Said}
 use Rattle.notation.proofs.Decimals.{tens}
 use Rattle.notation.specs.declared.digits.Run.{Run}
 use Rattle.notation.specs.Runs.{digitsIn, valueIn, runAt}
@@ -48,13 +49,13 @@ seven (a ∷ b ∷ c ∷ d ∷ e ∷ []) h = absurd (omega arith)
 seven (a ∷ b ∷ c ∷ d ∷ e ∷ f ∷ []) h = absurd (omega arith)
 seven (a ∷ b ∷ c ∷ d ∷ e ∷ f ∷ g ∷ h′ ∷ r) h = absurd (omega arith)
 
--- eight numbers ask for nothing
-eight : (ns : List ℕ) → length ns ≡ 7 → (v : ℕ) (ms : List ℕ) → settingsOf (ns ++ v ∷ ms) ≡ none
-eight ns h v ms = ap (λ l. settingsOf (l ++ v ∷ ms)) (seven ns h)
+-- no numbers, or an eighth
+none-beyond : {o : Option (List ℕ)} → o ≡ none → Beyond o
+none-beyond e ns f = let z : _≡_ {A = ℕ} 0 1 = cc in absurd (omega arith)
 
-eight-more : (ns : List ℕ) → length ns ≡ 7 → (v : ℕ) (o : Option (List ℕ)) → asksOf (after ns (elim o [ none ↦ none | some ms ↦ some (v ∷ ms) ])) ≡ none
-eight-more ns h v none = refl
-eight-more ns h v (some ms) = eight ns h v ms
+eighth-beyond : (ns : List ℕ) → length ns ≡ 7 → (v : ℕ) (o : Option (List ℕ)) → Beyond (after ns (elim o [ none ↦ none | some ms ↦ some (v ∷ ms) ]))
+eighth-beyond ns h v none = none-beyond refl
+eighth-beyond ns h v (some ms) = λ all e. let same : ns ++ v ∷ ms ≡ all = cc in omega (arith, ap length same, length-append ns (v ∷ ms))
 
 -- a byte: a digit, or what ends a number
 at-end : (d v : ℕ) (rest : List ℕ) → 1 ≤ d → numbersIn d v (10 ∷ rest) ≡ some (v ∷ [])
@@ -85,14 +86,14 @@ module _ (v b : ℕ) (rest : List ℕ) (t : isDigit b ≡ false) where
   no-number = by-byte (λ x. numbersIn 0 v (x ∷ rest) ≡ none) b refl refl (λ e f. at-other 0 v b rest (rw t) e f)
 
   -- and no eighth
-  no-eighth : (ns : List ℕ) → length ns ≡ 7 → (d : ℕ) → 1 ≤ d → asksOf (after ns (numbersIn d v (b ∷ rest))) ≡ none
+  no-eighth : (ns : List ℕ) → length ns ≡ 7 → (d : ℕ) → 1 ≤ d → Beyond (after ns (numbersIn d v (b ∷ rest)))
   no-eighth ns h d l =
       by-byte
-      (λ x. asksOf (after ns (numbersIn d v (x ∷ rest))) ≡ none)
+      (λ x. Beyond (after ns (numbersIn d v (x ∷ rest))))
       b
-      (ap (λ o. asksOf (after ns o)) (at-end d v rest l) ∙ eight ns h v [])
-      (ap (λ o. asksOf (after ns o)) (at-space d v rest l) ∙ eight-more ns h v (numbersIn 0 0 rest))
-      (λ e f. ap (λ o. asksOf (after ns o)) (at-other d v b rest (rw t) e f))
+      (rw (at-end d v rest l) (eighth-beyond ns h v (some [])))
+      (rw (at-space d v rest l) (eighth-beyond ns h v (numbersIn 0 0 rest)))
+      (λ e f. none-beyond (ap (after ns) (at-other d v b rest (rw t) e f)))
 
 module _ (d v b : ℕ) (rest : List ℕ) (t : isDigit b ≡ true) where
   at-digit : d ≤ 6 → numbersIn d v (b ∷ rest) ≡ numbersIn (suc d) (10 * v + (b - 48)) rest
@@ -179,11 +180,10 @@ after-run (b ∷ bs) = go (isDigit b) refl (after-run bs)
     go false t h = rw (no-digit 0 0 b bs t .0)
 
 -- nothing read yet, and nothing left to read
-none-yet : (r : Reading) (input : List ℕ) → r .count ≡ 0 → whole r input ≡ readLine input
-unfolding readLine
+none-yet : (r : Reading) (input : List ℕ) → r .count ≡ 0 → whole r input ≡ numbersIn 0 0 input
 none-yet r input c = rw c (same (numbersIn 0 0 input))
   where
-    same : (o : Option (List ℕ)) → asksOf (after [] o) ≡ elim o [ none ↦ none | some ns ↦ settingsOf ns ]
+    same : (o : Option (List ℕ)) → after [] o ≡ o
     same none = refl
     same (some ns) = refl
 
@@ -192,8 +192,11 @@ unfolding numbersIn
 none-left d v = refl
 
 -- a malformed line
-pub refused : (input : List ℕ) (n : Reading) → n .ok ≡ false → readLine input ≡ none → Scanned input n
-refused input n f e = record { good = λ o. absurd (never o f); bad = λ _. e }
+pub refused-beyond : (input : List ℕ) (n : Reading) → n .ok ≡ false → Beyond (numbersIn 0 0 input) → Scanned input n
+refused-beyond input n f e = record { good = λ o. absurd (never o f); bad = λ _. e }
+
+pub refused : (input : List ℕ) (n : Reading) → n .ok ≡ false → numbersIn 0 0 input ≡ none → Scanned input n
+refused input n f e = refused-beyond input n f (none-beyond e)
 
 -- one number more
 module _ {r n : Reading} {digits value end : ℕ} (G : Goes r) (P : Pushed r digits value end n) (t : n .ok ≡ true) where
@@ -213,11 +216,11 @@ module _ {r n : Reading} {digits value end : ℕ} (G : Goes r) (P : Pushed r dig
 full : {r : Reading} → Goes r → 7 ≤ r .count → length (numbersOf r) ≡ 7
 full {r} G h = length-take-le (r .count) (r .numbers) (omega (arith, G .room, G .few)) ∙ omega (arith, G .few)
 
--- the line so far, its bytes up to i: what it asks for with the bytes left, and what stands after it
+-- the line so far, its bytes up to i: its numbers with those of the bytes left, and what stands after it
 pub record Scanning (input : List ℕ) (r : Reading) (i : ℕ) : Type 0 where
   pub most : i ≤ length input
   pub goes : Goes r
-  pub same : whole r (drop i input) ≡ readLine input
+  pub same : whole r (drop i input) ≡ numbersIn 0 0 input
   pub rest : afterLine (drop i input) ≡ afterLine input
 
 pub scanning : (input : List ℕ) (r : Reading) → (r .ok ≡ true) × (r .count ≡ 0) × (length (r .numbers) ≡ 7) → Scanning input r 0
@@ -229,13 +232,13 @@ scanning input r e = record {
 }
 
 -- the LF is never there
-pub scanned-none : {input : List ℕ} {r : Reading} {i : ℕ} → Scanning input r i → length input ≤ i → readLine input ≡ none
-scanned-none {input} {r} {i} g h = sym (g .same) ∙ ap (whole r) (drop-of-length-le input h) ∙ ap (λ o. asksOf (after (numbersOf r) o)) (none-left 0 0)
+pub scanned-none : {input : List ℕ} {r : Reading} {i : ℕ} → Scanning input r i → length input ≤ i → numbersIn 0 0 input ≡ none
+scanned-none {input} {r} {i} g h = sym (g .same) ∙ ap (whole r) (drop-of-length-le input h) ∙ ap (after (numbersOf r)) (none-left 0 0)
 
 -- the next run of digits
 module _ {input : List ℕ} {r : Reading} {i : ℕ} (g : Scanning input r i) (run : Run) (e : run ≡ runAt longest input i) where
-  abbrev asks : Option (List ℕ) → Option Settings
-  asks o = asksOf (after (numbersOf r) o)
+  abbrev reads : Option (List ℕ) → Option (List ℕ)
+  reads o = after (numbersOf r) o
 
   digits : run .after - i ≡ digitsIn (drop i input)
   digits = omega (arith, ap (λ x. x .after) e)
@@ -243,21 +246,21 @@ module _ {input : List ℕ} {r : Reading} {i : ℕ} (g : Scanning input r i) (ru
   bytes : drop (run .after) input ≡ drop (digitsIn (drop i input)) (drop i input)
   bytes = ap (λ x. drop (x .after) input) e ∙ sym (run-rest longest input i)
 
-  stands : run .after - i ≤ 7 → asks (numbersIn (run .after - i) (run .value) (drop (run .after) input)) ≡ readLine input
+  stands : run .after - i ≤ 7 → reads (numbersIn (run .after - i) (run .value) (drop (run .after) input)) ≡ numbersIn 0 0 input
   stands l =
       let d : run .after - i ≡ 0 + digitsIn (drop i input) = omega (arith, digits) in
       let v : run .value ≡ valueIn longest 0 (drop i input) = ap (λ x. x .value) e in
-      rw (d, v, bytes) (ap asks (run-on 0 0 (drop i input) tens-none (omega (arith, digits)))) ∙ g .same
+      rw (d, v, bytes) (ap reads (run-on 0 0 (drop i input) tens-none (omega (arith, digits)))) ∙ g .same
 
-  long : 7 < run .after - i → readLine input ≡ none
-  long l = sym (g .same) ∙ ap asks (run-long 0 0 (drop i input) (omega arith) (omega (arith, digits)))
+  long : 7 < run .after - i → numbersIn 0 0 input ≡ none
+  long l = sym (g .same) ∙ ap reads (run-long 0 0 (drop i input) (omega arith) (omega (arith, digits)))
 
-  pub run-none : length input ≤ run .after → readLine input ≡ none
+  pub run-none : length input ≤ run .after → numbersIn 0 0 input ≡ none
   run-none h = off (decLe (run .after - i) 7)
     where
-      off : Dec (run .after - i ≤ 7) → readLine input ≡ none
+      off : Dec (run .after - i ≤ 7) → numbersIn 0 0 input ≡ none
       off (yes l) =
-          sym (stands l) ∙ ap (λ bs. asks (numbersIn (run .after - i) (run .value) bs)) (drop-of-length-le input h) ∙ ap asks (none-left (run .after - i) (run .value))
+          sym (stands l) ∙ ap (λ bs. reads (numbersIn (run .after - i) (run .value) bs)) (drop-of-length-le input h) ∙ ap reads (none-left (run .after - i) (run .value))
       off (no l) = long (omega arith)
 
   -- and the byte after it
@@ -265,25 +268,25 @@ module _ {input : List ℕ} {r : Reading} {i : ℕ} (g : Scanning input r i) (ru
     no-digit-here : isDigit (getD input (run .after) 0) ≡ false
     no-digit-here = rw e (run-after longest input i)
 
-    then-byte : run .after - i ≤ 7 → asks (numbersIn (run .after - i) (run .value) (getD input (run .after) 0 ∷ drop (run .after + 1) input)) ≡ readLine input
-    then-byte l = ap (λ bs. asks (numbersIn (run .after - i) (run .value) bs)) (sym (here input (run .after) h)) ∙ stands l
+    then-byte : run .after - i ≤ 7 → reads (numbersIn (run .after - i) (run .value) (getD input (run .after) 0 ∷ drop (run .after + 1) input)) ≡ numbersIn 0 0 input
+    then-byte l = ap (λ bs. reads (numbersIn (run .after - i) (run .value) bs)) (sym (here input (run .after) h)) ∙ stands l
 
     line-here : afterLine (getD input (run .after) 0 ∷ drop (run .after + 1) input) ≡ afterLine input
     line-here = ap afterLine (sym (here input (run .after) h) ∙ bytes) ∙ after-run (drop i input) ∙ g .rest
 
     module _ (n : Reading) (P : Pushed r (run .after - i) (run .value) (run .after + 1) n) where
-      pub pushed-bad : n .ok ≡ false → readLine input ≡ none
+      pub pushed-bad : n .ok ≡ false → Beyond (numbersIn 0 0 input)
       pushed-bad f = off (decLe (run .after - i) 7) (decLe 1 (run .after - i)) (P .bad f (g .goes .ok))
         where
-          off : Dec (run .after - i ≤ 7) → Dec (1 ≤ run .after - i) → (run .after - i ≡ 0) ⊎ ((7 < run .after - i) ⊎ (7 ≤ r .count)) → readLine input ≡ none
-          off (no l) m k = long (omega arith)
+          off : Dec (run .after - i ≤ 7) → Dec (1 ≤ run .after - i) → (run .after - i ≡ 0) ⊎ ((7 < run .after - i) ⊎ (7 ≤ r .count)) → Beyond (numbersIn 0 0 input)
+          off (no l) m k = none-beyond (long (omega arith))
           off (yes l) (yes m) (inl z) = absurd (omega arith)
           off (yes l) (yes m) (inr (inl z)) = absurd (omega arith)
-          off (yes l) (yes m) (inr (inr z)) = sym (then-byte l) ∙ no-eighth (run .value) _ (drop (run .after + 1) input) no-digit-here (numbersOf r) (full (g .goes) z) (run .after - i) m
+          off (yes l) (yes m) (inr (inr z)) = subst Beyond (then-byte l) (no-eighth (run .value) _ (drop (run .after + 1) input) no-digit-here (numbersOf r) (full (g .goes) z) (run .after - i) m)
           off (yes l) (no m) k =
               let z : run .after - i ≡ 0 = omega arith in
               let none-here = no-number (run .value) _ (drop (run .after + 1) input) no-digit-here in
-              sym (then-byte l) ∙ ap asks (ap (λ d. numbersIn d (run .value) (getD input (run .after) 0 ∷ drop (run .after + 1) input)) z ∙ none-here)
+              none-beyond (sym (then-byte l) ∙ ap reads (ap (λ d. numbersIn d (run .value) (getD input (run .after) 0 ∷ drop (run .after + 1) input)) z ∙ none-here))
 
       module _ (t : n .ok ≡ true) where
         pub pushed-end : getD input (run .after) 0 ≡ 10 → Scanned input n
@@ -296,32 +299,51 @@ module _ {input : List ℕ} {r : Reading} {i : ℕ} (g : Scanning input r i) (ru
               good = λ _. (
                 k .room,
                 k .few,
-                ap settingsOf (numbers-more (g .goes) P t) ∙ sym (ap asks (at-end (run .after - i) (run .value) (drop (run .after + 1) input) (p .0))) ∙ s,
+                sym s ∙ ap reads (at-end (run .after - i) (run .value) (drop (run .after + 1) input) (p .0)) ∙ ap some (sym (numbers-more (g .goes) P t)),
                 ap (λ k. drop k input) (p .5) ∙ sym (after-end (drop (run .after + 1) input)) ∙ l,
                 omega (arith, p .5),
               );
               bad = λ f. absurd (never t f);
             }
 
-        pub pushed-other : (getD input (run .after) 0 ≡ 10 → ⊥) → (getD input (run .after) 0 ≡ 32 → ⊥) → readLine input ≡ none
+        pub pushed-other : (getD input (run .after) 0 ≡ 10 → ⊥) → (getD input (run .after) 0 ≡ 32 → ⊥) → numbersIn 0 0 input ≡ none
         pushed-other b s =
-            sym (then-byte (P .good t .1)) ∙ ap asks (at-other (run .after - i) (run .value) (getD input (run .after) 0) (drop (run .after + 1) input) (rw no-digit-here) b s)
+            sym (then-byte (P .good t .1)) ∙ ap reads (at-other (run .after - i) (run .value) (getD input (run .after) 0) (drop (run .after + 1) input) (rw no-digit-here) b s)
 
         pub scanning-more : getD input (run .after) 0 ≡ 32 → Scanning input n (run .after + 1)
         scanning-more b =
             let p = P .good t in
-            let o : asks (numbersIn (run .after - i) (run .value) (32 ∷ drop (run .after + 1) input)) ≡ asksOf (after (numbersOf r ++ run .value ∷ []) (numbersIn 0 0 (drop (run .after + 1) input))) =
-            ap asks (at-space (run .after - i) (run .value) (drop (run .after + 1) input) (p .0)) ∙ ap asksOf (after-one (numbersOf r) (run .value) (numbersIn 0 0 (drop (run .after + 1) input))) in
+            let o : reads (numbersIn (run .after - i) (run .value) (32 ∷ drop (run .after + 1) input)) ≡ after (numbersOf r ++ run .value ∷ []) (numbersIn 0 0 (drop (run .after + 1) input)) =
+            ap reads (at-space (run .after - i) (run .value) (drop (run .after + 1) input) (p .0)) ∙ after-one (numbersOf r) (run .value) (numbersIn 0 0 (drop (run .after + 1) input)) in
             let s = rw b at (then-byte (p .1)) in
             let l = rw b at line-here in
             record {
               most = omega arith;
               goes = goes-on (g .goes) P t;
-              same = ap (λ ns. asksOf (after ns (numbersIn 0 0 (drop (run .after + 1) input)))) (numbers-more (g .goes) P t) ∙ sym o ∙ s;
+              same = ap (λ ns. after ns (numbersIn 0 0 (drop (run .after + 1) input))) (numbers-more (g .goes) P t) ∙ sym o ∙ s;
               rest = sym (after-byte 32 (drop (run .after + 1) input) (λ e. omega arith)) ∙ l;
             }
 
--- what a line's numbers say
+-- what a line's numbers say; more than seven ask for nothing
+pub beyond-asks-nothing : (input : List ℕ) → Beyond (numbersIn 0 0 input) → readLine input ≡ none
+unfolding readLineBy
+beyond-asks-nothing input b = by (numbersIn 0 0 input) b
+  where
+    by : (o : Option (List ℕ)) → Beyond o → asksOf defaultDepth o ≡ none
+    by none b = refl
+    by (some ns) b = many ns (b ns refl)
+      where
+        many : (ns : List ℕ) → 7 < length ns → settingsOf ns ≡ none
+        many (s ∷ g ∷ d ∷ p ∷ q ∷ t ∷ k ∷ x ∷ xs) h = refl
+        many [] h = refl
+        many (s ∷ []) h = refl
+        many (s ∷ g ∷ []) h = absurd (omega arith)
+        many (s ∷ g ∷ d ∷ []) h = absurd (omega arith)
+        many (s ∷ g ∷ d ∷ p ∷ []) h = refl
+        many (s ∷ g ∷ d ∷ p ∷ q ∷ []) h = absurd (omega arith)
+        many (s ∷ g ∷ d ∷ p ∷ q ∷ t ∷ []) h = absurd (omega arith)
+        many (s ∷ g ∷ d ∷ p ∷ q ∷ t ∷ k ∷ []) h = absurd (omega arith)
+
 pub none-some : (s : Settings) → none ≡ some s → ⊥
 none-some s e = subst holds e tt
   where

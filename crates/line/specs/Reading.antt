@@ -12,21 +12,21 @@ use Rattle.line.specs.declared.Reading.{Reading}
 use Rattle.line.specs.declared.Line.{Line}
 use Rattle.line.specs.declared.Line.the-variants.{Asked, Malformed}
 
--- a line's numbers with those before them, and the settings of numbers that may be none
+-- a line's numbers with those before them
 abbrev pub after : List ℕ → Option (List ℕ) → Option (List ℕ)
 after ns none = none
 after ns (some ms) = some (ns ++ ms)
 
-abbrev pub asksOf : Option (List ℕ) → Option Settings
-asksOf none = none
-asksOf (some ns) = settingsOf ns
-
--- the numbers read so far, and what the whole line asks for, with the bytes that are left
+-- the numbers read so far, and those of the whole line, with the bytes that are left
 abbrev pub numbersOf : Reading → List ℕ
 numbersOf r = take (r .count) (r .numbers)
 
-abbrev pub whole : Reading → List ℕ → Option Settings
-whole r rest = asksOf (after (numbersOf r) (numbersIn 0 0 rest))
+abbrev pub whole : Reading → List ℕ → Option (List ℕ)
+whole r rest = after (numbersOf r) (numbersIn 0 0 rest)
+
+-- no numbers, or more than seven
+abbrev pub Beyond : Option (List ℕ) → Type 0
+Beyond o = (ns : List ℕ) → o ≡ some ns → 7 < length ns
 
 -- while a line is read: it is good so far, of at most 7 numbers
 pub record Goes (r : Reading) : Type 0 where
@@ -39,11 +39,11 @@ pub record Pushed (r : Reading) (digits value end : ℕ) (n : Reading) : Type 0 
   pub good : n .ok ≡ true → (1 ≤ digits) × (digits ≤ 7) × (r .count < 7) × (n .numbers ≡ set (r .numbers) (r .count) value) × (n .count ≡ r .count + 1) × (n .end ≡ end)
   pub bad : n .ok ≡ false → r .ok ≡ true → (digits ≡ 0) ⊎ ((7 < digits) ⊎ (7 ≤ r .count))
 
--- the line's numbers, and where the text after it begins
+-- the line's numbers, seven at most, and where the text after it begins
 pub record Scanned (input : List ℕ) (r : Reading) : Type 0 where
-  pub good : r .ok ≡ true → (length (r .numbers) ≡ 7) × (r .count ≤ 7) × (settingsOf (numbersOf r) ≡ readLine input) × (drop (r .end) input ≡ afterLine input)
+  pub good : r .ok ≡ true → (length (r .numbers) ≡ 7) × (r .count ≤ 7) × (numbersIn 0 0 input ≡ some (numbersOf r)) × (drop (r .end) input ≡ afterLine input)
       × (r .end ≤ length input)
-  pub bad : r .ok ≡ false → readLine input ≡ none
+  pub bad : r .ok ≡ false → Beyond (numbersIn 0 0 input)
 
 -- the settings that a line says
 abbrev pub asked : Line → Option Settings

@@ -1,4 +1,6 @@
-// The line that the program `aisle` reads: its numbers, and the settings that they ask for. `print` has the lines that programs print.
+// The line that the program `aisle` reads: its numbers, and the settings that they ask for. `depth` writes the old depth into a stored line, `print` has the
+// lines that programs print.
+mod depth;
 pub mod print;
 
 ghost use mathlib.Core.Path.{_≡_};
@@ -6,6 +8,7 @@ ghost use Prim.Native.Nat.{_≤_};
 ghost use lib.ListN.{length};
 ghost use Rattle.line.specs.Reading.{Pushed, Scanned, Said, Reads};
 use answers::Settings;
+pub use depth::with_depth;
 use notation::digits;
 
 // What the line says: its settings and where the text after it begins; or that it is malformed.
@@ -108,13 +111,16 @@ fn asked(
     }
 }
 
+// The depth of a line that leaves it out.
+const DEFAULT_DEPTH: usize = 4;
+
 // The settings of a line's numbers; what the line leaves out has its default.
 fn settings(n: [usize; 7], count: usize, text: usize) -> Line
     requires { ⌜ count ≤ 7 ⌝ ∗ ⌜ length n ≡ 7 ⌝ }
     ensures { λ r. ⌜ Said n count text r ⌝ }
 {
     if count == 2 {
-        return asked(n[0], n[1], 1, 1, 1, 1000000, 10, text);
+        return asked(n[0], n[1], DEFAULT_DEPTH, 1, 1, 1000000, 10, text);
     }
     if count == 3 {
         return asked(n[0], n[1], n[2], 1, 1, 1000000, 10, text);

@@ -11,7 +11,7 @@ use native.Mathlib.Omega.{arith}
 use borrow.Author.Tests.{le-leb, lt-leb, leb-true, ne-eqb}
 use lib.Dec.{leb, eqb}
 use lib.ListN.{length, getD, take, drop, length-take, replicate}
-use lib.Seq.{take-nil, take-take, getD-take}
+use lib.Seq.{take-take, getD-take}
 use Rattle.answers.specs.declared.Place.the-variants as P
 use Rattle.answers.specs.declared.Settings.{Settings}
 use Rattle.answers.specs.declared.Verdict.{Verdict}
@@ -23,14 +23,15 @@ use Rattle.model.specs.Opening.{trialsHold, openJob}
 use Rattle.model.specs.Ride.{courseFrom}
 use Rattle.model.specs.FloorText.{LF, isDigit, typeAndHeight, andWidth, andMap, begins, sizeIn, sizeBytes, heightIn, afterHeight, widthIn, afterWidth, rowsIn, header, rowHolds, rows}
 use Rattle.model.specs.FloorText.{cellsOf, floorVerdict}
-use Rattle.model.specs.Line.{numbersIn, afterLine, settingsOf, readLine, jobIn, refusalLine, courseLines, judgeAisle, printed, aisle}
+use Rattle.model.specs.Line.{numbersIn, afterLine, settingsBy, readLineBy, defaultDepth, readLine, jobIn, refusalLine, courseLines, judgeAisle, printed, aisleBy, aisle}
 use Rattle.model.proofs.Moves.{both}
+use Rattle.model.proofs.Parts.{drop-cut}
 use Rattle.model.proofs.Accepted.{is-tells, le-tells, and-tells}
 
 -- ---- the line
 
 -- a number, then the others of its line
-abbrev joined : ℕ → Option (List ℕ) → Option (List ℕ)
+abbrev pub joined : ℕ → Option (List ℕ) → Option (List ℕ)
 joined v o = elim o [ none ↦ none | some ns ↦ some (v ∷ ns) ]
 
 -- the numbers of a line, where they are at most c
@@ -92,11 +93,11 @@ line-cut (b ∷ bs) (suc c) d v m (suc n) h k =
         })
     by false false false e f g on next = rw (e, f, g, numbersIn, afterLine) (record { says = refl; text = λ s. absurd (s refl) })
 
--- more than seven numbers ask for nothing
-abbrev asksOf : Option (List ℕ) → Option Settings
-asksOf o = elim o [ none ↦ none | some ns ↦ settingsOf ns ]
+-- what the numbers of a line ask for; more than seven, for nothing
+abbrev pub asksOf : (default : ℕ) → Option (List ℕ) → Option Settings
+asksOf default o = elim o [ none ↦ none | some ns ↦ settingsBy default ns ]
 
-asks-few : (o : Option (List ℕ)) → asksOf o ≡ asksOf (few 7 o)
+asks-few : (o : Option (List ℕ)) → asksOf defaultDepth o ≡ asksOf defaultDepth (few 7 o)
 asks-few none = refl
 asks-few (some []) = refl
 asks-few (some (a ∷ [])) = refl
@@ -113,23 +114,17 @@ module _ (input : List ℕ) (m n : ℕ) (h : m + 56 ≤ n) where
   cut : Alike 7 m (numbersIn 0 0 (take n input)) (numbersIn 0 0 input) (afterLine (take n input)) (afterLine input)
   cut = line-cut input 7 0 0 m n (omega arith) (omega arith)
 
-  line-says : readLine (take n input) ≡ readLine input
-  unfolding readLine
-  line-says = asks-few (numbersIn 0 0 (take n input)) ∙ ap asksOf (cut .says) ∙ sym (asks-few (numbersIn 0 0 input))
+  pub line-says : readLine (take n input) ≡ readLine input
+  unfolding readLineBy
+  line-says = asks-few (numbersIn 0 0 (take n input)) ∙ ap (asksOf defaultDepth) (cut .says) ∙ sym (asks-few (numbersIn 0 0 input))
 
   line-text : (s : Settings) → readLine input ≡ some s → take m (afterLine (take n input)) ≡ take m (afterLine input)
-  unfolding readLine
-  line-text s e = cut .text (λ z. let y : some s ≡ none = sym e ∙ asks-few (numbersIn 0 0 input) ∙ ap asksOf z in let x : _≡_ {A = ℕ} 0 1 = cc in omega arith)
+  unfolding readLineBy
+  line-text s e = cut .text (λ z. let y : some s ≡ none = sym e ∙ asks-few (numbersIn 0 0 input) ∙ ap (asksOf defaultDepth) z in let x : _≡_ {A = ℕ} 0 1 = cc in omega arith)
 
 -- ---- the floor text
 
 -- each part of the text reads a few bytes, and says the same where they are not cut off
-drop-cut : (k m : ℕ) (t : List ℕ) → drop k (take m t) ≡ take (m - k) (drop k t)
-drop-cut zero m t = let e : m - 0 ≡ m = omega arith in rw e
-drop-cut (suc k) zero t = let e : 0 - suc k ≡ 0 = omega arith in rw e
-drop-cut (suc k) (suc m) [] = sym (take-nil (suc m - suc k))
-drop-cut (suc k) (suc m) (x ∷ xs) = let e : suc m - suc k ≡ m - k = omega arith in rw e (drop-cut k m xs)
-
 begins-cut : (xs t : List ℕ) (m : ℕ) → length xs ≤ m → begins xs (take m t) ≡ begins xs t
 unfolding begins
 begins-cut [] t m h = refl
@@ -272,12 +267,12 @@ module _ (t : List ℕ) (m : ℕ) (h : 4196 ≤ m) where
 
 module _ (input : List ℕ) where
   pub malformed-is : readLine input ≡ none → aisle input ≡ refusalLine (record { number = 3; place = P.Nowhere })
-  unfolding aisle
-  malformed-is e = rw (e, aisle)
+  unfolding aisleBy
+  malformed-is e = rw (e, aisleBy)
 
   pub asked-is : (s : Settings) → readLine input ≡ some s → aisle input ≡ printed (judgeAisle s (afterLine input)) s (afterLine input)
-  unfolding aisle
-  asked-is s e = rw (e, aisle)
+  unfolding aisleBy
+  asked-is s e = rw (e, aisleBy)
 
 pub aisle-cut : (n : ℕ) (input : List ℕ) → 4252 ≤ n → aisle (take n input) ≡ aisle input
 aisle-cut n input h = by (readLine input) refl

@@ -54,3 +54,6 @@ pub mod FloorRoundTrip
 -- The program `aisle`: which of its input's bytes decide, and what its trial lines tell.
 pub mod Cut
 pub mod Printed
+-- Document 02 on the default depth: a line with its depth prints what it printed before; lists of lines, one for one.
+pub mod Converted
+pub mod CopiedLines

@@ -19,6 +19,7 @@ use Rattle.model.specs.Ride.{Course, courseFrom}
 use Rattle.model.specs.FloorText.{widthIn, heightIn, rowsIn, cellsOf, floorVerdict}
 use Rattle.model.specs.Line.{jobIn, readLine, afterLine, courseLines, refusalLine, judgeAisle, printed, aisle}
 use Rattle.model.proofs.Accepted.{then-done}
+use Rattle.model.proofs.Cut.{malformed-is, asked-is}
 use Rattle.model.proofs.Openings.{opened}
 use Rattle.model.proofs.Rides.{course-rides}
 use Rattle.model.proofs.Demand.{EachPromised, rides-are-promised}
@@ -60,15 +61,14 @@ course-promised s text e =
     (record { opened = opened (jobRead s text) (floorRead s text) (s .start) (tableRead s text) accepted; room = omega (arith, length-replicate {A = ℕ} (widthIn text * heightIn text) 0) }))
 
 pub aisle-prints : (input : List ℕ) → Prints input
-unfolding aisle
 aisle-prints input = by (readLine input) refl
   where
     by : (o : Option Settings) → readLine input ≡ o → Prints input
-    by none e = a-refusal (record { number = 3; place = P.Nowhere }) (rw (e, aisle))
+    by none e = a-refusal (record { number = 3; place = P.Nowhere }) (malformed-is input e)
     by (some s) e = next (judgeAisle s (afterLine input)) refl
       where
         told : aisle input ≡ printed (judgeAisle s (afterLine input)) s (afterLine input)
-        told = rw (e, aisle)
+        told = asked-is input s e
 
         next : (v : Verdict) → judgeAisle s (afterLine input) ≡ v → Prints input
         next (Vd.Refused r) f = a-refusal r (told ∙ ap (λ v. printed v s (afterLine input)) f)

@@ -16,7 +16,8 @@ use Rattle.model.specs.Renewal.{renewedTrailer, renewed, renewVerdict, r
 use Rattle.model.specs.Writing.{fileRoom}
 use Rattle.model.specs.FloorText.{begins, sizeIn, header, rowHolds, rows, cellsOf, floorVerdict, readFloor}
 use Rattle.model.specs.FloorWritten.{rowsOf, textOf, textVerdict, writeFloor}
-use Rattle.model.specs.Line.{numbersIn, afterLine, readLine, decimalIn, movesField, trialLine, trialLines, courseLines, refusalLine, judgeAisle, aisle}
+use Rattle.model.specs.Line.{numbersIn, afterLine, readLineBy, decimalIn, movesField, trialLine, trialLines, courseLines, refusalLine, judgeAisle, aisleBy}
+use Rattle.model.specs.KeepDepth.{numbersGiven, lineForm, withOldDepth, depthVerdict, withDepth, linesOf, copyLines, keepDepth}
 
 unfoldable pub compute : Unit {0}
 unfolding decLe ℕ-discrete
@@ -32,5 +33,6 @@ unfolding decLe ℕ-discrete
     holdsAs checkFirst secondHolds trailerHolds checkTrailer checkAhead findRecords firstNames placesNamed secondNames sameJob recordFault judgeRecords applied readVerdict readTable changed recordsOf trailerOf fileOf unlike fileRoom writeVerdict writeTable renewedTrailer renewed renewVerdict renewFile
     begins sizeIn header rowHolds rows cellsOf floorVerdict readFloor
     rowsOf textOf textVerdict writeFloor
-    numbersIn afterLine readLine decimalIn movesField trialLine trialLines courseLines refusalLine judgeAisle aisle
+    numbersIn afterLine readLineBy decimalIn movesField trialLine trialLines courseLines refusalLine judgeAisle aisleBy
+    numbersGiven lineForm withOldDepth depthVerdict withDepth linesOf copyLines keepDepth
 compute = tt

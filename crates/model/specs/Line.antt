@@ -42,23 +42,30 @@ abbrev pub asked : (start goal depth p q quota trials : ℕ) → Option Settings
 asked start goal depth p q quota trials =
     some (record { start = start; goal = goal; depth = depth; p = p; q = q; quota = quota; trials = trials })
 
--- The line may stop after goal, depth, q or quota; left out they are depth 1, weight 1/1, quota 1,000,000, trials 10.
+-- The line may stop after goal, depth, q or quota; left out they are a default depth, weight 1/1, quota 1,000,000, trials 10.
+abbrev pub settingsBy : (default : ℕ) → List ℕ → Option Settings
+settingsBy default [] = none
+settingsBy default (s ∷ []) = none
+settingsBy default (s ∷ g ∷ []) = asked s g default 1 1 largestQuota 10
+settingsBy default (s ∷ g ∷ d ∷ []) = asked s g d 1 1 largestQuota 10
+settingsBy default (s ∷ g ∷ d ∷ p ∷ []) = none
+settingsBy default (s ∷ g ∷ d ∷ p ∷ q ∷ []) = asked s g d p q largestQuota 10
+settingsBy default (s ∷ g ∷ d ∷ p ∷ q ∷ t ∷ []) = asked s g d p q t 10
+settingsBy default (s ∷ g ∷ d ∷ p ∷ q ∷ t ∷ k ∷ []) = asked s g d p q t k
+settingsBy default (s ∷ g ∷ d ∷ p ∷ q ∷ t ∷ k ∷ x ∷ xs) = none
+
+unfoldable pub readLineBy : (default : ℕ) → List ℕ → Option Settings
+readLineBy default input = elim (numbersIn 0 0 input) [ none ↦ none | some ns ↦ settingsBy default ns ]
+
+-- "When `aisle`'s line leaves depth out it is to be 4."
 abbrev pub defaultDepth : ℕ
-defaultDepth = 1
+defaultDepth = 4
 
 abbrev pub settingsOf : List ℕ → Option Settings
-settingsOf [] = none
-settingsOf (s ∷ []) = none
-settingsOf (s ∷ g ∷ []) = asked s g defaultDepth 1 1 largestQuota 10
-settingsOf (s ∷ g ∷ d ∷ []) = asked s g d 1 1 largestQuota 10
-settingsOf (s ∷ g ∷ d ∷ p ∷ []) = none
-settingsOf (s ∷ g ∷ d ∷ p ∷ q ∷ []) = asked s g d p q largestQuota 10
-settingsOf (s ∷ g ∷ d ∷ p ∷ q ∷ t ∷ []) = asked s g d p q t 10
-settingsOf (s ∷ g ∷ d ∷ p ∷ q ∷ t ∷ k ∷ []) = asked s g d p q t k
-settingsOf (s ∷ g ∷ d ∷ p ∷ q ∷ t ∷ k ∷ x ∷ xs) = none
+settingsOf = settingsBy defaultDepth
 
-unfoldable pub readLine : List ℕ → Option Settings
-readLine input = elim (numbersIn 0 0 input) [ none ↦ none | some ns ↦ settingsOf ns ]
+abbrev pub readLine : List ℕ → Option Settings
+readLine = readLineBy defaultDepth
 
 -- the job that a line and a floor of that width and height make
 abbrev pub jobIn : Settings → (width height : ℕ) → Job
@@ -126,10 +133,14 @@ printed Vd.Done s text =
     let table = openingTable (floorOf j bytes) (s .q) (goals j) in
     courseLines j bytes (courseFrom j bytes (s .start) (s .trials) table (replicate (widthIn text * heightIn text) 0))
 
--- what `aisle` prints, whole
-unfoldable pub aisle : List ℕ → List ℕ
-aisle input =
-    elim (readLine input) [
+-- what `aisle` prints, whole, with a default depth
+unfoldable pub aisleBy : (default : ℕ) → List ℕ → List ℕ
+aisleBy default input =
+    elim (readLineBy default input) [
       | none ↦ refusalLine (record { number = 3; place = P.Nowhere })
       | some s ↦ printed (judgeAisle s (afterLine input)) s (afterLine input)
     ]
+
+-- and with the one that holds
+abbrev pub aisle : List ℕ → List ℕ
+aisle = aisleBy defaultDepth

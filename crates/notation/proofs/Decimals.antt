@@ -9,8 +9,8 @@ use native.Mathlib.Decide.{decLe}
 use native.Mathlib.Numerals.{add-one}
 use native.Mathlib.Omega.{arith}
 use lib.Dec.{leb}
-use lib.ListN.{length, getD, set, take, length-append}
-use lib.Seq.{sets, take-all, take-suc, length-take-le}
+use lib.ListN.{length, getD, set, take, drop, length-append}
+use lib.Seq.{sets, sets-eq, take-all, take-at, take-suc, length-take-le}
 use Rattle.model.specs.Line.{decimalIn, decimal, field}
 use Rattle.model.proofs.Digits.{one-digit, last-digit}
 use Rattle.notation.specs.Printing.{Printed}
@@ -91,6 +91,12 @@ printed-then {out} {mid} {out′} {at} {end} {end′} xs ys P Q = record {
 
 pub printed-none : (out : List ℕ) (at : ℕ) → Printed out at [] out at
 printed-none out at = record { written = refl; next = sym (add-zero at) }
+
+-- what stands in front then
+pub printed-front : {out out′ : List ℕ} {at end : ℕ} (xs : List ℕ) → Printed out at xs out′ end → at + length xs ≤ length out → take end out′ ≡ take at out ++ xs
+printed-front {out} {out′} {at} {end} xs P h =
+    let n : length (take at out ++ xs) ≡ at + length xs = length-append (take at out) xs ∙ ap (λ (k : ℕ). k + length xs) (length-take-le at out (omega arith)) in
+    rw (P .next) (ap (take (at + length xs)) (P .written ∙ sets-eq xs out at h) ∙ take-at (take at out ++ xs) (drop (at + length xs) out) (at + length xs) n)
 
 pub field-few : (n : ℕ) → length (field n) ≤ 21
 field-few n = omega (arith, digits-few n)

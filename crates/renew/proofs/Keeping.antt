@@ -1,55 +1,16 @@
--- The last part of a stream in a list: bytes moved to its front, one after another; what is held, where the oldest go and where more is put behind; room made for more.
+-- The last part of a stream in a list: what is held, where the oldest go and where more is put behind; room made for more.
 -- Assumes nothing.
-use mathlib.Core.Path.{_≡_, refl, sym, ap, ap₂, _∙_}
+use mathlib.Core.Path.{_≡_, refl, sym, ap, _∙_}
 use mathlib.Core.List.{List, [], _++_}
 use mathlib.Core.Logic.{inl, inr, ⊎-elim}
-use Prim.Native.Nat.{ℕ, _+_, _-_, _≤_, _<_}
+use Prim.Native.Nat.{ℕ, _+_, _-_, _≤_}
 use native.Mathlib.Omega.{arith}
-use lib.ListN.{length, getD, take, drop, set, length-append, length-drop, length-set}
-use lib.Seq.{sets-eq, length-sets, length-take-le, length-front, take-add, take-at, drop-at, drop-drop, drop-append-le, getD-append-add, getD-drop}
+use lib.ListN.{length, take, drop, length-append, length-drop}
+use lib.Seq.{length-sets, length-take-le, length-front, take-add, take-at, drop-at, drop-drop, drop-append-le}
 use Rattle.model.specs.Renewal.{longest}
-use Rattle.model.proofs.Copying.{copied-more}
 use Rattle.notation.specs.Printing.{Printed}
+use Rattle.notation.proofs.Decimals.{printed-front}
 use Rattle.renew.specs.Kept.{Kept}
-
--- bytes of a list, moved from a place on to its front
-pub record Moving (list₀ : List ℕ) (from n : ℕ) (list : List ℕ) (i : ℕ) : Type 0 where
-  -- i of them, and no more than are asked for
-  pub most : i ≤ n
-  -- the list is as long as it was
-  pub same : length list ≡ length list₀
-  -- they stand in front, and all else is as it was
-  pub so-far : list ≡ take i (drop from list₀) ++ drop i list₀
-
-module _ (list₀ : List ℕ) (from n : ℕ) where
-  pub moving : Moving list₀ from n list₀ 0
-  moving = record { most = omega arith; same = refl; so-far = refl }
-
-  module _ (list : List ℕ) (i : ℕ) (g : Moving list₀ from n list i) where
-    abbrev src : List ℕ
-    src = drop from list₀
-
-    pub moving-all : n ≤ i → list ≡ take n (drop from list₀) ++ drop n list₀
-    moving-all h =
-        let z : i ≡ n = omega (arith, g .most) in
-        g .so-far ∙ ap (λ (k : ℕ). take k src ++ drop k list₀) z
-
-    module _ (room : from + n ≤ length list₀) (h : i < n) where
-      moved : length (take i src) ≡ i
-      moved = length-take-le i src (omega (arith, length-drop from list₀))
-
-      -- what is read is not stored over yet
-      read : getD list (from + i) 0 ≡ getD list₀ (from + i) 0
-      read =
-          let p : from + i ≡ length (take i src) + from = omega (arith, moved) in
-          let q : i + from ≡ from + i = omega arith in
-          ap₂ (λ l k. getD l k 0) (g .so-far) p ∙ getD-append-add (take i src) (drop i list₀) from 0 ∙ getD-drop i list₀ from 0 ∙ ap (λ k. getD list₀ k 0) q
-
-      stored : set list i (getD list (from + i) 0) ≡ take (i + 1) src ++ drop (i + 1) list₀
-      stored = ap (set list i) read ∙ copied-more list₀ from list₀ list i n room (g .most) (omega arith) (g .so-far) h
-
-      pub moving-more : Moving list₀ from n (set list i (getD list (from + i) 0)) (i + 1)
-      moving-more = record { most = omega arith; same = length-set list i (getD list (from + i) 0) ∙ g .same; so-far = stored }
 
 -- the oldest of what a list holds go: as many as the longest file has stay, moved to its front
 module _ (kept : List ℕ) (held : ℕ) (list : List ℕ) (e : list ≡ take longest (drop (held - longest) kept) ++ drop longest kept) (h : longest ≤ held) (w : held ≤ length kept) where
@@ -82,16 +43,16 @@ kept-none kept = record { within = omega arith; some = omega arith; last = refl;
 kept-more : {held end : ℕ} {all kept more list : List ℕ} → Kept all kept held → Printed kept held more list end → held + length more ≤ length kept → Kept (all ++ more) list end
 kept-more {held} {end} {all} {kept} {more} {list} g p h =
     let m : ℕ = length more in
-    let n : length (take held kept ++ more) ≡ held + m = length-append (take held kept) more ∙ ap (λ (k : ℕ). k + m) (length-take-le held kept (g .within)) in
     let l : length (all ++ more) ≡ length all + m = length-append all more in
     let z : length all - held ≡ length (all ++ more) - (held + m) = omega (arith, g .some) in
-    rw (p .next) (record {
+    let e = p .next in
+    record {
       within = omega (arith, ap length (p .written), length-sets kept held more);
       some = omega (arith, g .some);
-      last = ap (take (held + m)) (p .written ∙ sets-eq more kept held h) ∙ take-at (take held kept ++ more) (drop (held + m) kept) (held + m) n
-          ∙ ap (λ (r : List ℕ). r ++ more) (g .last) ∙ sym (drop-append-le (length all - held) all more (omega arith)) ∙ ap (λ (k : ℕ). drop k (all ++ more)) z;
+      last = printed-front more p h ∙ ap (λ (r : List ℕ). r ++ more) (g .last) ∙ sym (drop-append-le (length all - held) all more (omega arith))
+          ∙ ap (λ (k : ℕ). drop k (all ++ more)) z ∙ ap (λ (k : ℕ). drop (length (all ++ more) - k) (all ++ more)) (sym e);
       enough = ⊎-elim (λ a. inl (omega arith)) (λ a. inr (omega arith)) (g .enough);
-    })
+    }
 
 -- room for more behind what stays in a list
 pub record Roomy (kept₀ : List ℕ) (held : ℕ) (more kept : List ℕ) (stay : ℕ) : Type 0 where

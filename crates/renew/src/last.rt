@@ -2,25 +2,13 @@
 ghost use mathlib.Core.Path.{_≡_};
 ghost use mathlib.Core.List.{List, _++_};
 ghost use Prim.Native.Nat.{ℕ, _+_, _≤_};
-ghost use lib.ListN.{length, take, drop};
+ghost use lib.ListN.{length};
 ghost use Rattle.model.specs.Renewal.{longest};
 ghost use Rattle.renew.specs.Kept.{Kept};
 use notation::print;
 
 // The longest that a file can be from its first record on: 24 bytes, and 6 for each of 65,535 records.
 const LONGEST: usize = 393234;
-
-// Moves n bytes, from a place on, to the front.
-fn to_front(list: &mut [u8], from: usize, n: usize)
-    requires { ⌜ from + n ≤ length (now list) ⌝ }
-    ensures { λ _. ⌜ now (list .exit) ≡ take n (drop from (now (list .entry))) ++ drop n (now (list .entry)) ⌝ }
-{
-    let mut i = 0;
-    while i < n {
-        list[i] = list[from + i];
-        i += 1;
-    }
-}
 
 // Takes in more of a stream; how many of the list's places hold its last bytes, which are all of it or as many as the longest file has.
 pub fn keep(kept: &mut [u8], held: usize, more: &[u8]) -> usize
@@ -30,7 +18,7 @@ pub fn keep(kept: &mut [u8], held: usize, more: &[u8]) -> usize
 {
     let mut stay = held;
     if kept.len() - held < more.len() {
-        to_front(kept, held - LONGEST, LONGEST);
+        stream::to_front(kept, held - LONGEST, LONGEST);
         stay = LONGEST;
     }
     print::bytes(kept, stay, more)

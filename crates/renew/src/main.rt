@@ -10,12 +10,8 @@ ghost use Rattle.model.specs.Renewal.{longest};
 ghost use Rattle.io.specs.Counts.{Counts};
 ghost use Rattle.renew.specs.Kept.{Taken};
 ghost use Rattle.renew.specs.Answers.{Answered};
-use learner::Refusal;
 use learner::Written;
-use libc::STDERR_FILENO;
 use libc::STDIN_FILENO;
-use libc::STDOUT_FILENO;
-use line::print;
 
 // What came of standard input: how many of its last bytes are held, and whether it was read to its end.
 struct Input {
@@ -56,23 +52,12 @@ fn answer(last: &[u8], out: &mut [u8]) -> Written
     learner::renew_file(last, out)
 }
 
-// A line on standard error.
-fn say(words: &[u8]) {
-    io::write_all(STDERR_FILENO, words);
-}
-
-fn refuse(r: Refusal) {
-    let mut line = rooms::line();
-    let end = print::refusal_line(&mut line, 0, r);
-    say(&line[..end]);
-}
-
 // The first n bytes, on standard output.
 fn write(out: &[u8], n: usize)
     requires { ⌜ n ≤ length (now out) ⌝ }
 {
-    if !io::write_all(STDOUT_FILENO, &out[..n]) {
-        say(b"renew: standard output could not be written\n");
+    if !stream::write(out, n) {
+        stream::say(b"renew: standard output could not be written\n");
     }
 }
 
@@ -80,7 +65,7 @@ fn write(out: &[u8], n: usize)
 fn tell(last: &[u8], out: &mut [u8]) {
     match answer(last, out) {
         Written::Length(n) => write(out, n),
-        Written::Refused(r) => refuse(r),
+        Written::Refused(r) => stream::refuse(r),
     }
 }
 
@@ -90,7 +75,7 @@ fn main() {
     let mut out = rooms::file();
     let input = take_in(&mut kept, &mut part);
     if !input.ended {
-        say(b"renew: standard input could not be read\n");
+        stream::say(b"renew: standard input could not be read\n");
         return;
     }
     let held = input.held;

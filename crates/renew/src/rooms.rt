@@ -15,10 +15,3 @@ pub fn file() -> [u8; 393234]
 {
     [0; 393234]
 }
-
-// The line of a refusal.
-pub fn line() -> [u8; 64]
-    ensures { λ r. ⌜ 64 ≡ length r ⌝ }
-{
-    [0; 64]
-}

@@ -14,6 +14,7 @@ pub mod PinsRenewal
 pub mod PinsText
 pub mod PinsFloorWritten
 pub mod PinsLine
+pub mod PinsDepth
 pub mod PinsSays
 -- What they share:
 pub mod Hall

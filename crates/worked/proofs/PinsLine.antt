@@ -25,21 +25,21 @@ prints line text = aisle (bytes line ++ bytes text)
 pub record PinsLine : Type 0 where
   -- `start goal depth p q quota trials`, LF at the end
   pub whole : says "6 5 4 3 2 1 7\n" ≡ asked 6 5 4 3 2 1 7
-  -- The line may stop after goal, depth, q or quota; left out they are depth 1, weight 1/1, quota 1,000,000, trials 10
-  pub to-goal : says "6 5\n" ≡ asked 6 5 1 1 1 1000000 10
-  pub to-depth : says "6 5 4\n" ≡ asked 6 5 4 1 1 1000000 10
+  -- The line may stop after goal, depth, q or quota; left out they are depth 4, weight 1/1, quota 1,000,000, trials 10
+  pub to-goal : says "6 5\n" ≡ asked 6 5 4 1 1 1000000 10
+  pub to-depth : says "6 5 2\n" ≡ asked 6 5 2 1 1 1000000 10
   pub to-q : says "6 5 4 3 2\n" ≡ asked 6 5 4 3 2 1000000 10
   pub to-quota : says "6 5 4 3 2 1\n" ≡ asked 6 5 4 3 2 1 10
   pub other-counts : map says ("\n" ∷ "6\n" ∷ "6 5 4 3\n" ∷ "6 5 4 3 2 1 7 8\n" ∷ "6 5 4 3 2 1 7 8 9\n" ∷ []) ≡ replicate 5 none
   -- Single spaces, 1 to 7 digits each, zeros in front change nothing
-  pub digits : says "1234567 9876543\n" ≡ asked 1234567 9876543 1 1 1 1000000 10
+  pub digits : says "1234567 9876543\n" ≡ asked 1234567 9876543 4 1 1 1000000 10
   pub zeros : says "0000006 05 004\n" ≡ asked 6 5 4 1 1 1000000 10
   pub eight-digits : map says ("00000006 0\n" ∷ "6 12345678\n" ∷ []) ≡ replicate 2 none
   pub spaces : map says (" 6 0\n" ∷ "6  0\n" ∷ "6 0 \n" ∷ "6\t0\n" ∷ []) ≡ replicate 4 none
   pub letters : map says ("6 x\n" ∷ "6 0/\n" ∷ "6 0:\n" ∷ "-6 0\n" ∷ "6 0\r\n" ∷ "6 0\t\n" ∷ []) ≡ replicate 6 none
   pub no-end : map says ("" ∷ "6 0" ∷ []) ≡ replicate 2 none
   -- what stands after the line is no part of it
-  pub after : says "6 5\nx\n" ≡ asked 6 5 1 1 1 1000000 10
+  pub after : says "6 5\nx\n" ≡ asked 6 5 4 1 1 1000000 10
   -- the line malformed: 3, before the floor text
   pub malformed : prints "6 0 1 1\n" "x" ≡ bytes "refused 3\n"
   -- `aisle` judges its line with its settings, then the floor text, then the rest
@@ -54,7 +54,8 @@ pub record PinsLine : Type 0 where
   pub greatest : prints "0 0\n" "type octile\nheight 64\nwidth 64\nmap\n" ≡ bytes "refused 12 5\n"
   -- a trial line is its moves (`-` if none), decisions, learned, kept cost, travel
   pub at-goal : onHall "0 0\n" ≡ bytes "- 0 0 0 0\nsettled 1\n"
-  pub defaults : onHall "6 0\n" ≡ bytes "220066 6 40 60 60\n220066 6 26 60 60\n220066 6 12 60 60\n220066 6 6 60 60\n220066 6 0 60 60\nsettled 5\n"
+  pub defaults : onHall "6 0\n" ≡ bytes "220066 2 40 60 60\n220066 2 0 60 60\nsettled 2\n"
+  pub one-ahead : onHall "6 0 1\n" ≡ bytes "220066 6 40 60 60\n220066 6 26 60 60\n220066 6 12 60 60\n220066 6 6 60 60\n220066 6 0 60 60\nsettled 5\n"
   -- a path longer than width and height together
   pub long-path : prints "0 12 1 1 1 1000000 1\n" "type octile\nheight 4\nwidth 4\nmap\n.@..\n....\n@@@.\n....\n" ≡ bytes "42202444666 11 80 110 110\nunsettled 1\n"
   -- a floor wider than high
@@ -97,6 +98,7 @@ pinsLine = record {
   greatest = refl;
   at-goal = refl;
   defaults = refl;
+  one-ahead = refl;
   long-path = refl;
   oblong = refl;
   scaled = refl;

@@ -96,7 +96,7 @@ pub record PinsSlow : Type 0 where
   -- the kept cost is of the legs at the job's own depth: with windows of eight rings the second leg would cost 10 less
   pub kept-depth : trial bay bayFloor 0 (openingOf bay bayFloor) (replicate 15 77) .answer ≡ Td.Made (record { decisions = 2; learned = 0; kept = 80; travel = 80 })
   -- `aisle` reads the letter
-  pub printed : aisle (bytes "2 0\ntype octile\nheight 1\nwidth 3\nmap\n.S.\n") ≡ bytes "66 2 20 40 40\n66 2 10 40 40\n66 2 0 40 40\nsettled 3\n"
+  pub printed : aisle (bytes "2 0 1\ntype octile\nheight 1\nwidth 3\nmap\n.S.\n") ≡ bytes "66 2 20 40 40\n66 2 10 40 40\n66 2 0 40 40\nsettled 3\n"
 
 pub pinsSlow : PinsSlow
 unfolding compute

@@ -4,7 +4,9 @@ use mathlib.Core.Path.{sym, ap, _∙_}
 use native.Mathlib.Omega.{arith}
 use borrow.Author.Tests.{not-true, not-false}
 use lib.ListN.{drop}
-use Rattle.line.proofs.Laws.{none-some}
+use Rattle.model.specs.Line.{readLineBy, defaultDepth}
+use Rattle.model.proofs.Cut.{asksOf}
+use Rattle.line.proofs.Laws.{none-some, beyond-asks-nothing}
 use borrow.Author.Needs.{needs}
 use Rattle.line.proofs.read_line.Statement.{statement}
 use Rattle.line.proofs.read_line.Tie as tie
@@ -12,7 +14,7 @@ use Rattle.line.proofs.read_line.Tie as tie
 returns : tie.Need-returns
 returns c =
     let k = c .before .before .scan in
-    record { settings = sym (k .ensures .bad (not-true (k .result .ok) (c .if1 .taken))); text = λ s e. absurd (none-some s e) }
+    record { settings = sym (beyond-asks-nothing _ (k .ensures .bad (not-true (k .result .ok) (c .if1 .taken)))); text = λ s e. absurd (none-some s e) }
 
 settings-requires : tie.Need-settings-requires
 settings-requires c κs =
@@ -21,13 +23,14 @@ settings-requires c κs =
     (g .1, g .0)
 
 returns-2 : tie.Need-returns-2
+unfolding readLineBy
 returns-2 c =
     let k = c .before .before .before .before .scan in
     let g = k .ensures .good (not-false (k .result .ok) (c .before .before .if1 .left)) in
     let e = c .settings .ensures in
     let input = c .before .before .before .before .before .before .args .input .now in
     record {
-      settings = e .settings ∙ g .2;
+      settings = e .settings ∙ sym (ap (asksOf defaultDepth) (g .2));
       text = λ s f.
           let t = e .text s f in
           (ap (λ n. drop n input) t ∙ g .3, omega (arith, t, g .4));

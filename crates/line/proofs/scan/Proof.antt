@@ -7,7 +7,7 @@ use borrow.Author.Needs.{needs}
 use borrow.Author.Tests.{not-true, not-false}
 use native.Mathlib.Omega.{arith}
 use lib.ListN.{length}
-use Rattle.line.proofs.Laws.{Scanning, scanning, scanning-more, refused, scanned-none, run-none, pushed-bad, pushed-end, pushed-other}
+use Rattle.line.proofs.Laws.{Scanning, scanning, scanning-more, refused, refused-beyond, scanned-none, run-none, pushed-bad, pushed-end, pushed-other}
 use Rattle.line.proofs.scan.Statement.{statement}
 use Rattle.line.proofs.scan.Tie as tie
 
@@ -31,7 +31,7 @@ returns-2 c =
     let push = c .before .before in
     let read = push .before .before in
     let bad = not-true (push .push .result .ok) (c .if2 .taken) in
-    refused _ _ bad (pushed-bad (read .before .before .loop .inv) _ (read .read .ensures) (omega arith) _ (push .push .ensures) bad)
+    refused-beyond _ _ bad (pushed-bad (read .before .before .loop .inv) _ (read .read .ensures) (omega arith) _ (push .push .ensures) bad)
 
 -- once a number was read that is good
 good : (e : tie.Else2 Inv-loop μ-loop) → e .before .before .push .result .ok ≡ true

@@ -1,11 +1,11 @@
--- `renew::last::to_front` meets its contract: the invariant: `Moving`, i bytes stand in front.
+-- `stream::to_front` meets its contract: the invariant: `Moving`, i bytes stand in front.
 -- Assumes nothing.
 use Prim.Native.Nat.{_-_}
-use Rattle.renew.proofs.Keeping.{Moving, moving, moving-more, moving-all}
+use Rattle.stream.proofs.Moving.{Moving, moving, moving-more, moving-all}
 use borrow.Author.Needs.{needs}
 use native.Mathlib.Omega.{arith}
-use Rattle.renew.proofs.last.to_front.Statement.{statement}
-use Rattle.renew.proofs.last.to_front.Tie as tie
+use Rattle.stream.proofs.to_front.Statement.{statement}
+use Rattle.stream.proofs.to_front.Tie as tie
 
 abbrev Inv-loop : tie.InvT-loop
 Inv-loop list₀ from n i₀ list i = Moving list₀ from n list i
