@@ -2,7 +2,6 @@
 -- The byte is the LF, a space or malformed; each has one law over `numbersIn`. Assumes nothing.
 use Prim.Native.Nat.{ℕ, zero, suc, _+_, _-_, _*_, _≤_, _<_}
 use mathlib.Core.Path.{_≡_, refl, sym, ap, _∙_, subst}
-use mathlib.Core.Logic.{_⊎_, inl, inr}
 use mathlib.Core.Bool.{Bool, true, false, _&&_}
 use mathlib.Core.Option.{Option, none, some}
 use mathlib.Core.List.{List, [], _∷_, _++_, append-assoc}
@@ -20,17 +19,18 @@ use Rattle.model.specs.Line.{numbersIn, settingsOf, readLineBy, defaultDepth, r
 use Rattle.model.proofs.Accepted.{never}
 use Rattle.model.proofs.Cut.{asksOf}
 use Rattle.model.proofs.Openings.{not-both}
+use Rattle.line.specs.declared.Word.{Word}
 use Rattle.line.specs.declared.Reading.{Reading}
 use Rattle.line.specs.declared.Line.{Line}
 use Rattle.line.specs.declared.Line.the-variants.{Asked, Malformed}
-use Rattle.line.specs.Reading.{after, numbersOf, whole, Beyond, Goes, Pushed, Scanned, asked, textOf, Said}
+use Rattle.line.specs.Reading.{joined, after, numbersOf, Beyond, Worded, Goes, Pushed, Scanned, asked, textOf, Said}
 use Rattle.notation.proofs.Decimals.{tens}
 use Rattle.notation.specs.declared.digits.Run.{Run}
 use Rattle.notation.specs.Runs.{digitsIn, valueIn, runAt}
 use Rattle.notation.proofs.Runs.{digit-bounds, here, one-digit, no-digit, with-small, run-after, run-rest}
 
 -- a number done, then the others
-after-one : (ns : List ℕ) (v : ℕ) (o : Option (List ℕ)) → after ns (elim o [ none ↦ none | some ms ↦ some (v ∷ ms) ]) ≡ after (ns ++ v ∷ []) o
+after-one : (ns : List ℕ) (v : ℕ) (o : Option (List ℕ)) → after ns (joined v o) ≡ after (ns ++ v ∷ []) o
 after-one ns v none = refl
 after-one ns v (some ms) = ap some (sym (append-assoc ns (v ∷ []) ms))
 
@@ -53,7 +53,7 @@ seven (a ∷ b ∷ c ∷ d ∷ e ∷ f ∷ g ∷ h′ ∷ r) h = absurd (omega a
 none-beyond : {o : Option (List ℕ)} → o ≡ none → Beyond o
 none-beyond e ns f = let z : _≡_ {A = ℕ} 0 1 = cc in absurd (omega arith)
 
-eighth-beyond : (ns : List ℕ) → length ns ≡ 7 → (v : ℕ) (o : Option (List ℕ)) → Beyond (after ns (elim o [ none ↦ none | some ms ↦ some (v ∷ ms) ]))
+eighth-beyond : (ns : List ℕ) → length ns ≡ 7 → (v : ℕ) (o : Option (List ℕ)) → Beyond (after ns (joined v o))
 eighth-beyond ns h v none = none-beyond refl
 eighth-beyond ns h v (some ms) = λ all e. let same : ns ++ v ∷ ms ≡ all = cc in omega (arith, ap length same, length-append ns (v ∷ ms))
 
@@ -62,7 +62,7 @@ at-end : (d v : ℕ) (rest : List ℕ) → 1 ≤ d → numbersIn d v (10 ∷ res
 unfolding numbersIn
 at-end d v rest h = rw (le-leb 1 d h)
 
-at-space : (d v : ℕ) (rest : List ℕ) → 1 ≤ d → numbersIn d v (32 ∷ rest) ≡ elim (numbersIn 0 0 rest) [ none ↦ none | some ns ↦ some (v ∷ ns) ]
+at-space : (d v : ℕ) (rest : List ℕ) → 1 ≤ d → numbersIn d v (32 ∷ rest) ≡ joined v (numbersIn 0 0 rest)
 unfolding numbersIn
 at-space d v rest h = rw (le-leb 1 d h, numbersIn)
 
@@ -84,16 +84,6 @@ module _ (v b : ℕ) (rest : List ℕ) (t : isDigit b ≡ false) where
   no-number : numbersIn 0 v (b ∷ rest) ≡ none
   unfolding numbersIn
   no-number = by-byte (λ x. numbersIn 0 v (x ∷ rest) ≡ none) b refl refl (λ e f. at-other 0 v b rest (rw t) e f)
-
-  -- and no eighth
-  no-eighth : (ns : List ℕ) → length ns ≡ 7 → (d : ℕ) → 1 ≤ d → Beyond (after ns (numbersIn d v (b ∷ rest)))
-  no-eighth ns h d l =
-      by-byte
-      (λ x. Beyond (after ns (numbersIn d v (x ∷ rest))))
-      b
-      (rw (at-end d v rest l) (eighth-beyond ns h v (some [])))
-      (rw (at-space d v rest l) (eighth-beyond ns h v (numbersIn 0 0 rest)))
-      (λ e f. none-beyond (ap (after ns) (at-other d v b rest (rw t) e f)))
 
 module _ (d v b : ℕ) (rest : List ℕ) (t : isDigit b ≡ true) where
   at-digit : d ≤ 6 → numbersIn d v (b ∷ rest) ≡ numbersIn (suc d) (10 * v + (b - 48)) rest
@@ -179,17 +169,102 @@ after-run (b ∷ bs) = go (isDigit b) refl (after-run bs)
     go true t h = rw (one-digit 0 0 b bs t .0) (h ∙ sym (after-byte b bs (λ e. omega (arith, digit-bounds b t))))
     go false t h = rw (no-digit 0 0 b bs t .0)
 
--- nothing read yet, and nothing left to read
-none-yet : (r : Reading) (input : List ℕ) → r .count ≡ 0 → whole r input ≡ numbersIn 0 0 input
-none-yet r input c = rw c (same (numbersIn 0 0 input))
-  where
-    same : (o : Option (List ℕ)) → after [] o ≡ o
-    same none = refl
-    same (some ns) = refl
+-- ---- a number and the byte after it
 
 none-left : (d v : ℕ) → numbersIn d v [] ≡ none
 unfolding numbersIn
 none-left d v = refl
+
+-- what is no word
+pub bad-word : (input : List ℕ) (from : ℕ) (w : Word) → w .good ≡ false → numbersIn 0 0 (drop from input) ≡ none → Worded input from w
+bad-word input from w f e = record { bad = λ _. e; on = λ t. absurd (never t f); last = λ t. absurd (never t f); more = λ t. absurd (never t f) }
+
+-- the run of digits at a place
+module _ (input : List ℕ) (from : ℕ) (run : Run) (e : run ≡ runAt longest input from) where
+  abbrev d : ℕ
+  d = run .after - from
+
+  digits : d ≡ digitsIn (drop from input)
+  digits = omega (arith, ap (λ x. x .after) e)
+
+  bytes : drop (run .after) input ≡ drop (digitsIn (drop from input)) (drop from input)
+  bytes = ap (λ x. drop (x .after) input) e ∙ sym (run-rest longest input from)
+
+  stands : d ≤ 7 → numbersIn d (run .value) (drop (run .after) input) ≡ numbersIn 0 0 (drop from input)
+  stands l =
+      let k : d ≡ 0 + digitsIn (drop from input) = omega (arith, digits) in
+      let v : run .value ≡ valueIn longest 0 (drop from input) = ap (λ x. x .value) e in
+      rw (k, v, bytes) (run-on 0 0 (drop from input) tens-none (omega (arith, digits)))
+
+  -- eight digits, and no byte after them
+  pub word-long : 7 < d → numbersIn 0 0 (drop from input) ≡ none
+  word-long l = run-long 0 0 (drop from input) (omega arith) (omega (arith, digits))
+
+  pub word-out : length input ≤ run .after → numbersIn 0 0 (drop from input) ≡ none
+  word-out h = off (decLe d 7)
+    where
+      off : Dec (d ≤ 7) → numbersIn 0 0 (drop from input) ≡ none
+      off (yes l) = sym (stands l) ∙ ap (numbersIn d (run .value)) (drop-of-length-le input h) ∙ none-left d (run .value)
+      off (no l) = word-long (omega arith)
+
+  -- and the byte after it
+  module _ (h : run .after < length input) where
+    abbrev b : ℕ
+    b = getD input (run .after) 0
+
+    abbrev left : List ℕ
+    left = drop (run .after + 1) input
+
+    no-digit-here : isDigit b ≡ false
+    no-digit-here = rw e (run-after longest input from)
+
+    then-byte : d ≤ 7 → numbersIn d (run .value) (b ∷ left) ≡ numbersIn 0 0 (drop from input)
+    then-byte l = ap (numbersIn d (run .value)) (sym (here input (run .after) h)) ∙ stands l
+
+    line-here : afterLine (b ∷ left) ≡ afterLine (drop from input)
+    line-here = ap afterLine (sym (here input (run .after) h) ∙ bytes) ∙ after-run (drop from input)
+
+    pub word-none : d ≡ 0 → numbersIn 0 0 (drop from input) ≡ none
+    word-none z = sym (then-byte (omega arith)) ∙ ap (λ (k : ℕ). numbersIn k (run .value) (b ∷ left)) z ∙ no-number (run .value) b left no-digit-here
+
+    module _ (some : (d ≡ 0) → ⊥) (l : d ≤ 7) where
+      pub word-other : (b ≡ 10 → ⊥) → (b ≡ 32 → ⊥) → numbersIn 0 0 (drop from input) ≡ none
+      word-other x y = sym (then-byte l) ∙ at-other d (run .value) b left (rw no-digit-here) x y
+
+      one : 1 ≤ d
+      one = by (decLe 1 d)
+        where
+          by : Dec (1 ≤ d) → 1 ≤ d
+          by (yes k) = k
+          by (no k) = absurd (some (omega arith))
+
+      on : (from < run .after + 1) × (run .after + 1 ≤ length input)
+      on = (omega (arith, one), omega arith)
+
+      -- the LF, or a space
+      pub word-last : b ≡ 10 → Worded input from (record { good = true; last = true; value = run .value; next = run .after + 1 })
+      word-last s = record {
+        bad = λ f. absurd (never refl f);
+        on = λ _. on;
+        last = λ _ _. (
+          sym (then-byte l) ∙ ap (λ (x : ℕ). numbersIn d (run .value) (x ∷ left)) s ∙ at-end d (run .value) left one,
+          sym line-here ∙ ap (λ (x : ℕ). afterLine (x ∷ left)) s ∙ after-end left,
+        );
+        more = λ _ f. absurd (never refl f);
+      }
+
+      pub word-more : b ≡ 32 → Worded input from (record { good = true; last = false; value = run .value; next = run .after + 1 })
+      word-more s = record {
+        bad = λ f. absurd (never refl f);
+        on = λ _. on;
+        last = λ _ f. absurd (never f refl);
+        more = λ _ _. (
+          sym (then-byte l) ∙ ap (λ (x : ℕ). numbersIn d (run .value) (x ∷ left)) s ∙ at-space d (run .value) left one,
+          sym line-here ∙ ap (λ (x : ℕ). afterLine (x ∷ left)) s ∙ after-byte 32 left (λ z. omega arith),
+        );
+      }
+
+-- ---- a line, number by number
 
 -- a malformed line
 pub refused-beyond : (input : List ℕ) (n : Reading) → n .ok ≡ false → Beyond (numbersIn 0 0 input) → Scanned input n
@@ -199,130 +274,88 @@ pub refused : (input : List ℕ) (n : Reading) → n .ok ≡ false → numbersIn
 refused input n f e = refused-beyond input n f (none-beyond e)
 
 -- one number more
-module _ {r n : Reading} {digits value end : ℕ} (G : Goes r) (P : Pushed r digits value end n) (t : n .ok ≡ true) where
+module _ {r n : Reading} {value end : ℕ} (G : Goes r) (P : Pushed r value end n) (t : n .ok ≡ true) where
   numbers-more : numbersOf n ≡ numbersOf r ++ value ∷ []
   numbers-more =
       let g = P .good t in
-      let room : r .count < length (r .numbers) = omega (arith, G .room, g .2) in
-      ap (λ l. take (n .count) l) (g .3) ∙ ap (λ k. take k (set (r .numbers) (r .count) value)) (g .4 ∙ add-one (r .count)) ∙ take-suc-set (r .numbers) (r .count) value room
+      let room : r .count < length (r .numbers) = omega (arith, G .room, g .0) in
+      ap (λ l. take (n .count) l) (g .1) ∙ ap (λ k. take k (set (r .numbers) (r .count) value)) (g .2 ∙ add-one (r .count)) ∙ take-suc-set (r .numbers) (r .count) value room
 
   goes-on : Goes n
   goes-on = let g = P .good t in record {
     ok = t;
-    room = ap length (g .3) ∙ length-set (r .numbers) (r .count) value ∙ G .room;
-    few = omega (arith, g .2, g .4);
+    room = ap length (g .1) ∙ length-set (r .numbers) (r .count) value ∙ G .room;
+    few = omega (arith, g .0, g .2);
   }
 
-full : {r : Reading} → Goes r → 7 ≤ r .count → length (numbersOf r) ≡ 7
+pub full : {r : Reading} → Goes r → 7 ≤ r .count → length (numbersOf r) ≡ 7
 full {r} G h = length-take-le (r .count) (r .numbers) (omega (arith, G .room, G .few)) ∙ omega (arith, G .few)
 
--- the line so far, its bytes up to i: its numbers with those of the bytes left, and what stands after it
-pub record Scanning (input : List ℕ) (r : Reading) (i : ℕ) : Type 0 where
+-- the line so far, its bytes up to i: its numbers are these and those of the bytes left, and what stands after it
+pub record Scanning (input ns : List ℕ) (i : ℕ) : Type 0 where
   pub most : i ≤ length input
-  pub goes : Goes r
-  pub same : whole r (drop i input) ≡ numbersIn 0 0 input
+  pub same : after ns (numbersIn 0 0 (drop i input)) ≡ numbersIn 0 0 input
   pub rest : afterLine (drop i input) ≡ afterLine input
 
-pub scanning : (input : List ℕ) (r : Reading) → (r .ok ≡ true) × (r .count ≡ 0) × (length (r .numbers) ≡ 7) → Scanning input r 0
-scanning input r e = record {
-  most = omega arith;
-  goes = record { ok = e .0; room = e .2; few = omega (arith, e .1) };
-  same = none-yet r input (e .1);
-  rest = refl;
-}
+pub scanning : (input : List ℕ) → Scanning input [] 0
+scanning input = record { most = omega arith; same = by (numbersIn 0 0 input); rest = refl }
+  where
+    by : (o : Option (List ℕ)) → after [] o ≡ o
+    by none = refl
+    by (some ns) = refl
+
+-- of a reading of nothing yet
+pub scanning-none : (input : List ℕ) (r : Reading) → r .count ≡ 0 → Scanning input (numbersOf r) 0
+scanning-none input r e = rw e (scanning input)
+
+pub goes : (r : Reading) → (r .ok ≡ true) × (r .count ≡ 0) × (length (r .numbers) ≡ 7) → Goes r
+goes r e = record { ok = e .0; room = e .2; few = omega (arith, e .1) }
 
 -- the LF is never there
-pub scanned-none : {input : List ℕ} {r : Reading} {i : ℕ} → Scanning input r i → length input ≤ i → numbersIn 0 0 input ≡ none
-scanned-none {input} {r} {i} g h = sym (g .same) ∙ ap (whole r) (drop-of-length-le input h) ∙ ap (after (numbersOf r)) (none-left 0 0)
+pub scanned-none : {input ns : List ℕ} {i : ℕ} → Scanning input ns i → length input ≤ i → numbersIn 0 0 input ≡ none
+scanned-none {input} {ns} {i} g h = sym (g .same) ∙ ap (λ l. after ns (numbersIn 0 0 l)) (drop-of-length-le input h) ∙ ap (after ns) (none-left 0 0)
 
--- the next run of digits
-module _ {input : List ℕ} {r : Reading} {i : ℕ} (g : Scanning input r i) (run : Run) (e : run ≡ runAt longest input i) where
-  abbrev reads : Option (List ℕ) → Option (List ℕ)
-  reads o = after (numbersOf r) o
+module _ {input ns : List ℕ} {i : ℕ} {w : Word} (g : Scanning input ns i) (W : Worded input i w) where
+  pub scanned-bad : w .good ≡ false → numbersIn 0 0 input ≡ none
+  scanned-bad f = sym (g .same) ∙ ap (after ns) (W .bad f)
 
-  digits : run .after - i ≡ digitsIn (drop i input)
-  digits = omega (arith, ap (λ x. x .after) e)
+  module _ (t : w .good ≡ true) where
+    pub scanned-last : w .last ≡ true → (numbersIn 0 0 input ≡ some (ns ++ w .value ∷ [])) × (drop (w .next) input ≡ afterLine input)
+    scanned-last l = let z = W .last t l in (sym (g .same) ∙ ap (after ns) (z .0), sym (z .1) ∙ g .rest)
 
-  bytes : drop (run .after) input ≡ drop (digitsIn (drop i input)) (drop i input)
-  bytes = ap (λ x. drop (x .after) input) e ∙ sym (run-rest longest input i)
+    pub scanning-more : w .last ≡ false → Scanning input (ns ++ w .value ∷ []) (w .next)
+    scanning-more l =
+        let z = W .more t l in
+        record {
+          most = W .on t .1;
+          same = sym (after-one ns (w .value) (numbersIn 0 0 (drop (w .next) input))) ∙ ap (after ns) (sym (z .0)) ∙ g .same;
+          rest = sym (z .1) ∙ g .rest;
+        }
 
-  stands : run .after - i ≤ 7 → reads (numbersIn (run .after - i) (run .value) (drop (run .after) input)) ≡ numbersIn 0 0 input
-  stands l =
-      let d : run .after - i ≡ 0 + digitsIn (drop i input) = omega (arith, digits) in
-      let v : run .value ≡ valueIn longest 0 (drop i input) = ap (λ x. x .value) e in
-      rw (d, v, bytes) (ap reads (run-on 0 0 (drop i input) tens-none (omega (arith, digits)))) ∙ g .same
+    -- there is no eighth number
+    pub scanned-eighth : length ns ≡ 7 → Beyond (numbersIn 0 0 input)
+    scanned-eighth h = by (w .last) refl
+      where
+        by : (b : Bool) → w .last ≡ b → Beyond (numbersIn 0 0 input)
+        by true l = subst Beyond (sym (scanned-last l .0)) (eighth-beyond ns h (w .value) (some []))
+        by false l = subst Beyond (ap (after ns) (sym (W .more t l .0)) ∙ g .same) (eighth-beyond ns h (w .value) (numbersIn 0 0 (drop (w .next) input)))
 
-  long : 7 < run .after - i → numbersIn 0 0 input ≡ none
-  long l = sym (g .same) ∙ ap reads (run-long 0 0 (drop i input) (omega arith) (omega (arith, digits)))
+-- a line that goes on, with one number more
+pub scanning-pushed : {input : List ℕ} {r n : Reading} {i : ℕ} {w : Word} → Scanning input (numbersOf r) i → Worded input i w → w .good ≡ true → w .last ≡ false
+    → Goes r → Pushed r (w .value) (w .next) n → n .ok ≡ true → Scanning input (numbersOf n) (w .next) × Goes n
+scanning-pushed {input} {w = w} g W t l G P o = (subst (λ (ns : List ℕ). Scanning input ns (w .next)) (sym (numbers-more G P o)) (scanning-more g W t l), goes-on G P o)
 
-  pub run-none : length input ≤ run .after → numbersIn 0 0 input ≡ none
-  run-none h = off (decLe (run .after - i) 7)
-    where
-      off : Dec (run .after - i ≤ 7) → numbersIn 0 0 input ≡ none
-      off (yes l) =
-          sym (stands l) ∙ ap (λ bs. reads (numbersIn (run .after - i) (run .value) bs)) (drop-of-length-le input h) ∙ ap reads (none-left (run .after - i) (run .value))
-      off (no l) = long (omega arith)
-
-  -- and the byte after it
-  module _ (h : run .after < length input) where
-    no-digit-here : isDigit (getD input (run .after) 0) ≡ false
-    no-digit-here = rw e (run-after longest input i)
-
-    then-byte : run .after - i ≤ 7 → reads (numbersIn (run .after - i) (run .value) (getD input (run .after) 0 ∷ drop (run .after + 1) input)) ≡ numbersIn 0 0 input
-    then-byte l = ap (λ bs. reads (numbersIn (run .after - i) (run .value) bs)) (sym (here input (run .after) h)) ∙ stands l
-
-    line-here : afterLine (getD input (run .after) 0 ∷ drop (run .after + 1) input) ≡ afterLine input
-    line-here = ap afterLine (sym (here input (run .after) h) ∙ bytes) ∙ after-run (drop i input) ∙ g .rest
-
-    module _ (n : Reading) (P : Pushed r (run .after - i) (run .value) (run .after + 1) n) where
-      pub pushed-bad : n .ok ≡ false → Beyond (numbersIn 0 0 input)
-      pushed-bad f = off (decLe (run .after - i) 7) (decLe 1 (run .after - i)) (P .bad f (g .goes .ok))
-        where
-          off : Dec (run .after - i ≤ 7) → Dec (1 ≤ run .after - i) → (run .after - i ≡ 0) ⊎ ((7 < run .after - i) ⊎ (7 ≤ r .count)) → Beyond (numbersIn 0 0 input)
-          off (no l) m k = none-beyond (long (omega arith))
-          off (yes l) (yes m) (inl z) = absurd (omega arith)
-          off (yes l) (yes m) (inr (inl z)) = absurd (omega arith)
-          off (yes l) (yes m) (inr (inr z)) = subst Beyond (then-byte l) (no-eighth (run .value) _ (drop (run .after + 1) input) no-digit-here (numbersOf r) (full (g .goes) z) (run .after - i) m)
-          off (yes l) (no m) k =
-              let z : run .after - i ≡ 0 = omega arith in
-              let none-here = no-number (run .value) _ (drop (run .after + 1) input) no-digit-here in
-              none-beyond (sym (then-byte l) ∙ ap reads (ap (λ d. numbersIn d (run .value) (getD input (run .after) 0 ∷ drop (run .after + 1) input)) z ∙ none-here))
-
-      module _ (t : n .ok ≡ true) where
-        pub pushed-end : getD input (run .after) 0 ≡ 10 → Scanned input n
-        pushed-end b =
-            let p = P .good t in
-            let k = goes-on (g .goes) P t in
-            let s = rw b at (then-byte (p .1)) in
-            let l = rw b at line-here in
-            record {
-              good = λ _. (
-                k .room,
-                k .few,
-                sym s ∙ ap reads (at-end (run .after - i) (run .value) (drop (run .after + 1) input) (p .0)) ∙ ap some (sym (numbers-more (g .goes) P t)),
-                ap (λ k. drop k input) (p .5) ∙ sym (after-end (drop (run .after + 1) input)) ∙ l,
-                omega (arith, p .5),
-              );
-              bad = λ f. absurd (never t f);
-            }
-
-        pub pushed-other : (getD input (run .after) 0 ≡ 10 → ⊥) → (getD input (run .after) 0 ≡ 32 → ⊥) → numbersIn 0 0 input ≡ none
-        pushed-other b s =
-            sym (then-byte (P .good t .1)) ∙ ap reads (at-other (run .after - i) (run .value) (getD input (run .after) 0) (drop (run .after + 1) input) (rw no-digit-here) b s)
-
-        pub scanning-more : getD input (run .after) 0 ≡ 32 → Scanning input n (run .after + 1)
-        scanning-more b =
-            let p = P .good t in
-            let o : reads (numbersIn (run .after - i) (run .value) (32 ∷ drop (run .after + 1) input)) ≡ after (numbersOf r ++ run .value ∷ []) (numbersIn 0 0 (drop (run .after + 1) input)) =
-            ap reads (at-space (run .after - i) (run .value) (drop (run .after + 1) input) (p .0)) ∙ after-one (numbersOf r) (run .value) (numbersIn 0 0 (drop (run .after + 1) input)) in
-            let s = rw b at (then-byte (p .1)) in
-            let l = rw b at line-here in
-            record {
-              most = omega arith;
-              goes = goes-on (g .goes) P t;
-              same = ap (λ ns. after ns (numbersIn 0 0 (drop (run .after + 1) input))) (numbers-more (g .goes) P t) ∙ sym o ∙ s;
-              rest = sym (after-byte 32 (drop (run .after + 1) input) (λ e. omega arith)) ∙ l;
-            }
+-- a line that is read to its LF
+pub scanned : {input : List ℕ} {r n : Reading} {i : ℕ} {w : Word} → Scanning input (numbersOf r) i → Worded input i w → w .good ≡ true → w .last ≡ true
+    → Goes r → Pushed r (w .value) (w .next) n → n .ok ≡ true → Scanned input n
+scanned {input} {n = n} {w = w} g W t l G P o =
+    let z = scanned-last g W t l in
+    let k = goes-on G P o in
+    let e = P .good o .3 in
+    record {
+      good = λ _. (k .room, k .few, z .0 ∙ ap some (sym (numbers-more G P o)), ap (λ (m : ℕ). drop m input) e ∙ z .1, omega (arith, W .on t .1));
+      bad = λ f. absurd (never o f);
+    }
 
 -- what a line's numbers say; more than seven ask for nothing
 pub beyond-asks-nothing : (input : List ℕ) → Beyond (numbersIn 0 0 input) → readLine input ≡ none

@@ -1,35 +1,60 @@
 // A stored line with its depth: the old one is written into a line that leaves it out, and any other line is copied.
 ghost use mathlib.Core.Path.{_≡_};
-ghost use Prim.Native.Nat.{_≤_};
+ghost use mathlib.Core.List.{List};
+ghost use Prim.Native.Nat.{ℕ, _≤_};
 ghost use lib.Dec.{leb};
 ghost use lib.ListN.{length};
-ghost use Rattle.model.specs.KeepDepth.{numbersGiven, withOldDepth, withDepth};
+ghost use Rattle.model.specs.Basics.{choose};
+ghost use Rattle.model.specs.Line.{settingsOf};
+ghost use Rattle.model.specs.KeepDepth.{isAsked, numbersGiven, withOldDepth, withDepth};
 ghost use Rattle.model.specs.Writing.{Writes};
 ghost use Rattle.notation.specs.Printing.{Printed};
-use super::Line;
-use super::scan;
-use super::settings;
+use super::word_at;
 use answers::Place;
 use answers::Refusal;
 use answers::Written;
 use notation::print;
 
+// So many numbers, where a line of the form may have them; else 0.
+fn formed(count: usize) -> usize
+    ensures { λ r. ⌜ ((ns : List ℕ) → length ns ≡ count → r ≡ choose (isAsked (settingsOf ns)) count 0) ⌝ }
+{
+    if count == 1 {
+        return 0;
+    }
+    if count == 4 {
+        return 0;
+    }
+    if 7 < count {
+        return 0;
+    }
+    count
+}
+
 // How many numbers a line has that is of `aisle`'s form, its LF being its last byte; 0 where it is malformed.
 fn numbers_given(line: &[u8]) -> usize
     ensures { λ r. ⌜ r ≡ numbersGiven (now (line .entry)) ⌝ }
 {
-    let r = scan(line);
-    if !r.ok {
-        return 0;
+    let mut count = 0;
+    let mut i = 0;
+    while i < line.len() {
+        let w = word_at(line, i);
+        if !w.good {
+            return 0;
+        }
+        count += 1;
+        if w.last {
+            if w.next < line.len() {
+                return 0;
+            }
+            return formed(count);
+        }
+        if 7 < count {
+            return 0;
+        }
+        i = w.next;
     }
-    if r.end < line.len() {
-        return 0;
-    }
-    let n = r.numbers;
-    match settings(n, r.count, r.end) {
-        Line::Malformed => 0,
-        Line::Asked { settings, text } => r.count,
-    }
+    0
 }
 
 // Whether there is room for the line with its depth, two bytes more where it leaves it out.

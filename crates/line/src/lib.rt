@@ -4,9 +4,10 @@ mod depth;
 pub mod print;
 
 ghost use mathlib.Core.Path.{_≡_};
+ghost use mathlib.Core.Bool.{true, false};
 ghost use Prim.Native.Nat.{_≤_};
 ghost use lib.ListN.{length};
-ghost use Rattle.line.specs.Reading.{Pushed, Scanned, Said, Reads};
+ghost use Rattle.line.specs.Reading.{Worded, Pushed, Scanned, Said, Reads};
 use answers::Settings;
 pub use depth::with_depth;
 use notation::digits;
@@ -15,6 +16,60 @@ use notation::digits;
 pub enum Line {
     Asked { settings: Settings, text: usize },
     Malformed,
+}
+
+// A number of a line with the byte after it: whether both are of the form, whether that byte is the LF, and where the line goes on.
+struct Word {
+    pub good: bool,
+    pub last: bool,
+    pub value: usize,
+    pub next: usize,
+}
+
+fn no_word() -> Word
+    ensures { λ w. ⌜ w .good ≡ false ⌝ }
+{
+    Word {
+        good: false,
+        last: false,
+        value: 0,
+        next: 0,
+    }
+}
+
+fn a_word(last: bool, value: usize, next: usize) -> Word
+    ensures { λ w. ⌜ w ≡ record { good = true; last = last; value = value; next = next } ⌝ }
+{
+    Word {
+        good: true,
+        last: last,
+        value: value,
+        next: next,
+    }
+}
+
+// The number at a place, of 1 to 7 digits, and the space or LF after it.
+fn word_at(input: &[u8], from: usize) -> Word
+    ensures { λ w. ⌜ Worded (now (input .entry)) from w ⌝ }
+{
+    let run = digits::read(input, from, 9999999);
+    let end = run.after;
+    if input.len() <= end {
+        return no_word();
+    }
+    if end - from == 0 {
+        return no_word();
+    }
+    if 7 < end - from {
+        return no_word();
+    }
+    if input[end] == 10 {
+        return a_word(true, run.value, end + 1);
+    }
+    if input[end] == 32 {
+        return a_word(false, run.value, end + 1);
+    }
+    no_word()
 }
 
 // A line being read: the numbers so far, and the place after the byte that ended the last. `ok` is false where it is malformed.
@@ -37,17 +92,11 @@ fn blank(ok: bool) -> Reading
     }
 }
 
-// One number more, of 1 to 7 digits. The line goes on at the place `end`.
-fn push(r: Reading, digits: usize, value: usize, end: usize) -> Reading
-    ensures { λ n. ⌜ Pushed r digits value end n ⌝ }
+// One number more, where there are fewer than seven. The line goes on at the place `end`.
+fn push(r: Reading, value: usize, end: usize) -> Reading
+    ensures { λ n. ⌜ Pushed r value end n ⌝ }
 {
     let at = r.count;
-    if digits == 0 {
-        return blank(false);
-    }
-    if 7 < digits {
-        return blank(false);
-    }
     if 7 <= at {
         return blank(false);
     }
@@ -65,22 +114,18 @@ fn scan(input: &[u8]) -> Reading
     let mut r = blank(true);
     let mut i = 0;
     while i < input.len() {
-        let run = digits::read(input, i, 9999999);
-        let end = run.after;
-        if input.len() <= end {
+        let w = word_at(input, i);
+        if !w.good {
             return blank(false);
         }
-        r = push(r, end - i, run.value, end + 1);
+        r = push(r, w.value, w.next);
         if !r.ok {
             return r;
         }
-        if input[end] == 10 {
+        if w.last {
             return r;
         }
-        if input[end] != 32 {
-            return blank(false);
-        }
-        i = end + 1;
+        i = w.next;
     }
     blank(false)
 }

@@ -247,9 +247,13 @@ module _ (line : List ℕ) where
           let z : (isAsked (settingsOf ns) && eqb (length (afterLine line)) 0) ≡ false = ap (λ b. isAsked (settingsOf ns) && b) (ne-eqb (length (afterLine line)) 0 (λ e. omega arith)) ∙ and-false (isAsked (settingsOf ns)) in
           rw (f, numbersGiven, z)
 
-  pub given-all : (ns : List ℕ) (s : Settings) → numbersIn 0 0 line ≡ some ns → settingsOf ns ≡ some s → afterLine line ≡ [] → numbersGiven line ≡ length ns
+  pub given-all : (ns : List ℕ) → numbersIn 0 0 line ≡ some ns → afterLine line ≡ [] → numbersGiven line ≡ choose (isAsked (settingsOf ns)) (length ns) 0
   unfolding numbersGiven
-  given-all ns s e f g = rw (e, numbersGiven, f, g)
+  given-all ns e g = (λ i. givenOf (e i) (g i)) ∙ by (isAsked (settingsOf ns))
+    where
+      by : (b : Bool) → choose (b && true) (length ns) 0 ≡ choose b (length ns) 0
+      by true = refl
+      by false = refl
 
 malformed : (line : List ℕ) → readLine line ≡ none → lineForm line ≡ refuseAt 3 P.Nowhere
 malformed line e = form-judges line .refused (λ h. omega (arith, given-none line e))

@@ -1,8 +1,7 @@
 -- `keep_depth::copy_all` meets its contract. The loop's invariant: `Reading`, what is held of all that was read, and the lists are as long as they were. Assumes nothing.
-use mathlib.Core.Path.{_≡_, refl, sym}
+use mathlib.Core.Path.{_≡_, refl}
 use native.Mathlib.Omega.{arith}
 use lib.ListN.{length}
-use lib.Seq.{length-take-le}
 use Rattle.keep_depth.proofs.Parting.{Reading, reading, part-goes, ended-told, stopped-told}
 use borrow.Author.Needs.{needs}
 use Rattle.keep_depth.proofs.copy_all.Statement.{statement}

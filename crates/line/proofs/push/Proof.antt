@@ -1,7 +1,6 @@
 -- `line::push` meets its contract: each way out is one field of `Pushed`.
 -- Assumes nothing.
 use mathlib.Core.Path.{refl}
-use mathlib.Core.Logic.{inl, inr}
 use native.Mathlib.Omega.{arith}
 use borrow.Author.Needs.{needs}
 use Rattle.model.proofs.Accepted.{never}
@@ -13,12 +12,8 @@ push-spec =
     tie.close
     (tie.spec
     (λ c κs. search needs)
-    (λ c. record { good = λ t. absurd (never t (c .blank .ensures .0)); bad = λ f o. inl (omega arith) })
-    (λ c κs. search needs)
-    (λ c. record { good = λ t. absurd (never t (c .blank2 .ensures .0)); bad = λ f o. inr (inl (omega arith)) })
-    (λ c κs. search needs)
-    (λ c. record { good = λ t. absurd (never t (c .blank3 .ensures .0)); bad = λ f o. inr (inr (omega arith)) })
+    (λ c. record { good = λ t. absurd (never t (c .blank .ensures .0)); bad = λ f o. omega arith })
     (λ c. search needs)
     (λ c. search needs)
     (λ c. search needs)
-    (λ c. record { good = λ t. (omega arith, omega arith, omega arith, refl, refl, refl); bad = λ f o. absurd (never o f) }))
+    (λ c. record { good = λ t. (omega arith, refl, refl, refl); bad = λ f o. absurd (never o f) }))

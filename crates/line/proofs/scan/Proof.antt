@@ -1,64 +1,67 @@
--- `line::scan` meets its contract. The loop's invariant: `Scanning`, the line is good so far, and asks with the bytes left for what it asks for.
--- Each way out is one law of the run of digits at the place and the byte after it. Assumes nothing.
-use Prim.Native.Nat.{_-_, _≤_}
-use mathlib.Core.Path.{_≡_, ap}
+-- `line::scan` meets its contract. The loop's invariant: the numbers so far, with those of the bytes left, are the line's (`Scanning`), and they are seven at most.
+-- Assumes nothing.
+use Prim.Native.Nat.{_-_}
+use mathlib.Core.Path.{_≡_}
 use mathlib.Core.Bool.{true}
 use borrow.Author.Needs.{needs}
 use borrow.Author.Tests.{not-true, not-false}
 use native.Mathlib.Omega.{arith}
 use lib.ListN.{length}
-use Rattle.line.proofs.Laws.{Scanning, scanning, scanning-more, refused, refused-beyond, scanned-none, run-none, pushed-bad, pushed-end, pushed-other}
+use Rattle.line.specs.Reading.{numbersOf, Goes}
+use Rattle.line.proofs.Laws.{Scanning, scanning-none, scanning-pushed, scanned-none, scanned-bad, scanned-eighth, scanned, refused, refused-beyond, goes, full}
 use Rattle.line.proofs.scan.Statement.{statement}
 use Rattle.line.proofs.scan.Tie as tie
 
 abbrev Inv-loop : tie.InvT-loop
-Inv-loop input r₀ i₀ r i = Scanning input r i
+Inv-loop input r₀ i₀ r i = Scanning input (numbersOf r) i × Goes r
 
 abbrev μ-loop : tie.MeasureT-loop
 μ-loop input r₀ i₀ r i = length input - i
 
--- a run ends where it begins, or after
-past : (e : tie.After-read Inv-loop μ-loop) → e .before .before .loop .i ≤ e .read .result .after
-past e = omega (arith, ap (λ x. x .after) (e .read .ensures))
+-- the places: at the loop, once a word is read, and once its number stands after the others
+abbrev at-loop : tie.After-word-at Inv-loop μ-loop → tie.At-loop Inv-loop μ-loop
+at-loop c = c .before .before
+
+abbrev at-word : tie.After-push Inv-loop μ-loop → tie.After-word-at Inv-loop μ-loop
+at-word c = c .before .before .before
+
+good : (e : tie.Else1 Inv-loop μ-loop) → e .before .before .word-at .result .good ≡ true
+good e = not-false _ (e .if1 .left)
+
+kept : (e : tie.Else2 Inv-loop μ-loop) → e .before .before .push .result .ok ≡ true
+kept e = not-false _ (e .if2 .left)
 
 returns : tie.Need-returns Inv-loop μ-loop
 returns c =
-    let read = c .before .before in
-    refused _ _ (c .blank2 .ensures .0) (run-none (read .before .before .loop .inv) _ (read .read .ensures) (omega arith))
+    let w = c .before .before .before in
+    refused _ _ (c .blank2 .ensures .0) (scanned-bad (at-loop w .loop .inv .0) (w .word-at .ensures) (not-true _ (c .before .if1 .taken)))
 
 returns-2 : tie.Need-returns-2 Inv-loop μ-loop
 returns-2 c =
-    let push = c .before .before in
-    let read = push .before .before in
-    let bad = not-true (push .push .result .ok) (c .if2 .taken) in
-    refused-beyond _ _ bad (pushed-bad (read .before .before .loop .inv) _ (read .read .ensures) (omega arith) _ (push .push .ensures) bad)
-
--- once a number was read that is good
-good : (e : tie.Else2 Inv-loop μ-loop) → e .before .before .push .result .ok ≡ true
-good e = not-false (e .before .before .push .result .ok) (e .if2 .left)
+    let p = c .before .before in
+    let w = at-word p in
+    let i = at-loop w .loop .inv in
+    let bad = not-true _ (c .if2 .taken) in
+    refused-beyond _ _ bad (scanned-eighth (i .0) (w .word-at .ensures) (good (p .before)) (full (i .1) (p .push .ensures .bad bad (i .1 .ok))))
 
 returns-3 : tie.Need-returns-3 Inv-loop μ-loop
 returns-3 c =
-    let push = c .before .before .before .before in
-    let read = push .before .before in
-    pushed-end (read .before .before .loop .inv) _ (read .read .ensures) (omega arith) _ (push .push .ensures) (good (c .before .before)) (c .if3 .taken)
-
-returns-4 : tie.Need-returns-4 Inv-loop μ-loop
-returns-4 c =
-    let else3 = c .before .before .before in
-    let push = else3 .before .before .before .before in
-    let read = push .before .before in
-    let other = pushed-other (read .before .before .loop .inv) _ (read .read .ensures) (omega arith) _ (push .push .ensures) (good (else3 .before .before)) in
-    refused _ _ (c .blank3 .ensures .0) (other (else3 .if3 .left) (c .before .if4 .taken))
+    let e = c .before in
+    let p = e .before .before in
+    let w = at-word p in
+    let i = at-loop w .loop .inv in
+    scanned (i .0) (w .word-at .ensures) (good (p .before)) (c .if3 .taken) (i .1) (p .push .ensures) (kept e)
 
 loop-less : tie.Need-loop-less Inv-loop μ-loop
-loop-less c = let push = c .before .before .before .before .before .before in omega (arith, past (push .before .before))
+loop-less c = let p = c .before .before .before in omega (arith, at-word p .word-at .ensures .on (good (p .before)))
 
 loop-again : tie.Need-loop-again Inv-loop μ-loop
 loop-again c =
-    let push = c .before .before .before .before .before .before in
-    let read = push .before .before in
-    scanning-more (read .before .before .loop .inv) _ (read .read .ensures) (omega arith) _ (push .push .ensures) (good (c .before .before .before .before)) (c .if4 .left)
+    let e = c .before in
+    let p = e .before .before in
+    let w = at-word p in
+    let i = at-loop w .loop .inv in
+    scanning-pushed (i .0) (w .word-at .ensures) (good (p .before)) (c .if3 .left) (i .1) (p .push .ensures) (kept e)
 
 pub scan-spec : {M : Type 1} → statement M
 scan-spec =
@@ -67,21 +70,14 @@ scan-spec =
     Inv-loop
     μ-loop
     (λ c κs. search needs)
-    (λ c. scanning _ _ (c .blank .ensures))
+    (λ c. (scanning-none _ (c .blank .result) (c .blank .ensures .1), goes _ (c .blank .ensures)))
     (λ c κs. search needs)
     (λ c κs. search needs)
     returns
-    (λ c. omega (arith, past (c .before)))
-    (λ c. omega arith)
     (λ c κs. search needs)
     returns-2
-    (λ c. omega arith)
     returns-3
-    (λ c. omega arith)
-    (λ c κs. search needs)
-    returns-4
-    (λ c. omega arith)
     loop-less
     loop-again
     (λ c κs. search needs)
-    (λ c. refused _ _ (c .blank4 .ensures .0) (scanned-none (c .before .before .loop .inv) (omega arith))))
+    (λ c. refused _ _ (c .blank3 .ensures .0) (scanned-none (c .before .before .loop .inv .0) (omega arith))))

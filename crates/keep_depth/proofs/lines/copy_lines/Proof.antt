@@ -4,7 +4,6 @@ use Prim.Native.Nat.{_+_, _-_}
 use native.Mathlib.Omega.{arith}
 use lib.ListN.{length}
 use Rattle.keep_depth.proofs.Copying.{Going, going, going-ends, going-stops, going-more, room-more, rest-unended, none-left-unended}
-use borrow.Author.Needs.{needs}
 use Rattle.keep_depth.proofs.lines.copy_lines.Statement.{statement}
 use Rattle.keep_depth.proofs.lines.copy_lines.Tie as tie
 

@@ -3,7 +3,6 @@ use Prim.Native.Nat.{_-_}
 use native.Mathlib.Omega.{arith}
 use lib.ListN.{length}
 use Rattle.keep_depth.proofs.Copying.{Seeking, seeking, seeking-more, sought}
-use borrow.Author.Needs.{needs}
 use Rattle.keep_depth.proofs.lines.next_end.Statement.{statement}
 use Rattle.keep_depth.proofs.lines.next_end.Tie as tie
 
