@@ -1,96 +1,122 @@
--- The lines of a part: where the next one ends, that it is a line, and what is told of the part once it is copied, whatever follows. Assumes nothing.
+-- The lines of a part: the one from a place on, that it is a line, and what is told of the part once it is copied, whatever follows. Assumes nothing.
 use Prim.Native.Nat.{ℕ, suc, _+_, _-_, _*_, _≤_, _<_}
 use mathlib.Core.Path.{_≡_, refl, sym, ap, ap₂, subst, _∙_}
-use mathlib.Core.Bool.{true, false}
+use mathlib.Core.Bool.{Bool, true, false}
 use mathlib.Core.List.{List, [], _∷_, _++_, append-assoc, append-nil}
 use native.Mathlib.Decide.{decLe, ℕ-discrete}
 use native.Mathlib.Numerals.{add-one}
 use native.Mathlib.Omega.{arith}
-use lib.ListN.{length, getD, take, drop, take-append-drop, length-drop, length-append, drop-of-length-le}
-use lib.Seq.{take-suc, take-append-add, length-take-le, getD-take, getD-drop, drop-drop}
+use lib.ListN.{length, getD, take, drop, length-drop, length-append}
+use lib.Seq.{take-at, length-take-le, getD-drop, drop-drop}
 use Rattle.answers.specs.declared.Place.the-variants as P
-use Rattle.answers.specs.declared.Refusal.{Refusal}
-use Rattle.answers.specs.declared.Verdict.{Verdict}
-use Rattle.answers.specs.declared.Verdict.the-variants as Vd
-use Rattle.answers.specs.declared.Written.{Written}
-use Rattle.answers.specs.declared.Written.the-variants as Wr
 use Rattle.model.specs.Basics.{refuseAt}
 use Rattle.model.specs.FloorText.{LF}
-use Rattle.model.specs.KeepDepth.{numbersGiven, lineForm, withOldDepth, depthVerdict, withDepth, Unended, linesOf, Copied, ahead, copyLines}
-use Rattle.model.specs.Writing.{fileRoom, Writes, writeOf}
-use Rattle.model.proofs.Accepted.{never, not-refused, then-done, then-next}
-use Rattle.model.proofs.Converted.{Ended, converted-ended, form-judges, formed-ended}
+use Rattle.model.specs.Line.{afterLine}
+use Rattle.model.specs.KeepDepth.{numbersFirst, numbersGiven, withOldDepth, Unended, linesOf, Copied, ahead, copyLines}
+use Rattle.model.proofs.Accepted.{never}
+use Rattle.model.proofs.Converted.{Ended, ended, Parted, no-end, at-end, parted, after-line, line-first, given-first, first-unended, form-judges}
 use Rattle.model.proofs.Parts.{rest}
-use Rattle.model.proofs.Writings.{room-judges, writes-told}
 use Rattle.line.proofs.Depths.{two-long, others-long}
 use Rattle.model.proofs.CopiedLines.{stopped, line-goes, line-stops}
+use Rattle.notation.specs.Printing.{Printed}
+use Rattle.notation.proofs.Decimals.{printed-front}
+use Rattle.line.specs.declared.depth.First.{First}
+use Rattle.line.specs.Depths.{FirstLine}
 use Rattle.keep_depth.specs.declared.lines.Reach.{Reach}
-use Rattle.keep_depth.specs.Lines.{Fits, NextEnd, OneMore, Copies}
+use Rattle.keep_depth.specs.Lines.{Fits, HasEnd, Copies}
 
--- ---- the next LF
+-- ---- an LF
 
 -- none up to a place
 pub record Seeking (bytes : List ℕ) (from i : ℕ) : Type 0 where
   pub after : from ≤ i
-  pub within : i ≤ length bytes
   pub none-before : (k : ℕ) → from ≤ k → k < i → getD bytes k 0 ≡ LF → ⊥
 
-pub seeking : (bytes : List ℕ) (from : ℕ) → from ≤ length bytes → Seeking bytes from from
-seeking bytes from h = record { after = omega arith; within = h; none-before = λ k a b e. omega arith }
+pub seeking : (bytes : List ℕ) (from : ℕ) → Seeking bytes from from
+seeking bytes from = record { after = omega arith; none-before = λ k a b e. omega arith }
 
-pub seeking-more : {bytes : List ℕ} {from i : ℕ} → Seeking bytes from i → i < length bytes → (getD bytes i 0 ≡ LF → ⊥) → Seeking bytes from (i + 1)
-seeking-more {bytes} {from} {i} s h f = record { after = omega (arith, s .after); within = omega arith; none-before = λ k a b. by k a b (decLe i k) }
+pub seeking-more : {bytes : List ℕ} {from i : ℕ} → Seeking bytes from i → (getD bytes i 0 ≡ LF → ⊥) → Seeking bytes from (i + 1)
+seeking-more {bytes} {from} {i} s f = record { after = omega (arith, s .after); none-before = λ k a b. by k a b (decLe i k) }
   where
     by : (k : ℕ) → from ≤ k → k < i + 1 → Dec (i ≤ k) → getD bytes k 0 ≡ LF → ⊥
     by k a b (yes l) e = let z : k ≡ i = omega arith in f (ap (λ (n : ℕ). getD bytes n 0) (sym z) ∙ e)
     by k a b (no l) e = s .none-before k a (omega arith) e
 
-pub sought : {bytes : List ℕ} {from i : ℕ} → Seeking bytes from i → (i < length bytes → getD bytes i 0 ≡ LF) → NextEnd bytes from i
-sought s e = record { after = s .after; within = s .within; none-before = s .none-before; here = e }
+pub end-here : {bytes : List ℕ} {from i : ℕ} → Seeking bytes from i → i < length bytes → getD bytes i 0 ≡ LF → HasEnd bytes from true
+end-here {bytes} {from} {i} s h e = record {
+  here = λ _ u.
+      let n : from + (i - from) ≡ i = omega (arith, s .after) in
+      u (i - from) (omega (arith, s .after, length-drop from bytes)) (getD-drop from bytes (i - from) 0 ∙ ap (λ (k : ℕ). getD bytes k 0) n ∙ e);
+  none = λ f. absurd (never refl f);
+}
 
--- ---- the next line
-
-module _ {bytes : List ℕ} {at end : ℕ} (N : NextEnd bytes at end) where
-  -- all that is left, where there is no LF
-  pub rest-unended : length bytes ≤ end → Unended (drop at bytes)
-  rest-unended h k l e = N .none-before (at + k) (omega arith) (omega (arith, length-drop at bytes)) (sym (getD-drop at bytes k 0) ∙ e)
-
-  module _ (h : end < length bytes) where
-    abbrev pub lineHere : List ℕ
-    lineHere = take (end + 1 - at) (drop at bytes)
-
-    long : length (drop at bytes) ≡ length bytes - at
-    long = length-drop at bytes
-
-    pub line-ended : Ended lineHere
-    line-ended = record {
-      body = take (end - at) (drop at bytes);
-      is =
-          let n : end + 1 - at ≡ suc (end - at) = omega (arith, N .after) in
-          let p : at + (end - at) ≡ end = omega (arith, N .after) in
-          ap (λ (k : ℕ). take k (drop at bytes)) n
-          ∙ take-suc (drop at bytes) (end - at) 0 (omega (arith, N .after, long))
-          ∙ ap (λ (b : ℕ). take (end - at) (drop at bytes) ++ b ∷ []) (getD-drop at bytes (end - at) 0 ∙ ap (λ (k : ℕ). getD bytes k 0) p ∙ N .here h);
-      unended = λ k l e.
-          let m : length (take (end - at) (drop at bytes)) ≡ end - at = length-take-le (end - at) (drop at bytes) (omega (arith, N .within, long)) in
-          N .none-before (at + k) (omega arith) (omega (arith, N .after)) (sym (getD-take (end - at) (drop at bytes) k 0 (omega arith) ∙ getD-drop at bytes k 0) ∙ e);
-    }
-
-    -- and what stands behind it
-    pub line-then : (rest : List ℕ) → drop at bytes ++ rest ≡ lineHere ++ (drop (end + 1) bytes ++ rest)
-    line-then rest =
-        let n : at + (end + 1 - at) ≡ end + 1 = omega (arith, N .after) in
-        ap (λ (l : List ℕ). l ++ rest) (sym (take-append-drop (end + 1 - at) (drop at bytes)) ∙ ap (λ (l : List ℕ). lineHere ++ l) (drop-drop (end + 1 - at) at bytes ∙ ap (λ (k : ℕ). drop k bytes) n))
-        ∙ append-assoc lineHere (drop (end + 1) bytes) rest
-
-    pub line-bytes : length lineHere ≡ end + 1 - at
-    line-bytes = length-take-le (end + 1 - at) (drop at bytes) (omega (arith, N .after, long))
+pub no-end-here : {bytes : List ℕ} {from i : ℕ} → Seeking bytes from i → length bytes ≤ i → HasEnd bytes from false
+no-end-here {bytes} {from} s h = record {
+  here = λ t. absurd (never t refl);
+  none = λ _ k l e. s .none-before (from + k) (omega arith) (omega (arith, length-drop from bytes)) (sym (getD-drop from bytes k 0) ∙ e);
+}
 
 -- nothing is left
 pub none-left-unended : (bytes : List ℕ) (at : ℕ) → length bytes ≤ at → Unended (drop at bytes)
 none-left-unended bytes at h k l e = omega (arith, length-drop at bytes)
 
--- ---- one line more, behind what is written
+-- ---- the line from a place on
+
+module _ {bytes : List ℕ} {at : ℕ} {f : First} (F : FirstLine bytes at f) where
+  -- up to its LF, and what stands behind it
+  record Next (line rest : List ℕ) : Type 0 where
+    pub ended : Ended line
+    pub parts : drop at bytes ≡ line ++ rest
+    pub form : numbersGiven line ≡ numbersFirst (drop at bytes)
+
+  next : (body rest : List ℕ) → Unended body → drop at bytes ≡ body ++ LF ∷ rest → Next (body ++ LF ∷ []) rest
+  next body rest u e =
+      let l = ended body u in
+      let p : drop at bytes ≡ (body ++ LF ∷ []) ++ rest = e ∙ sym (append-assoc body (LF ∷ []) rest) in
+      record { ended = l; parts = p; form = given-first (body ++ LF ∷ []) l ∙ sym (line-first (body ++ LF ∷ []) l rest) ∙ ap numbersFirst (sym p) }
+
+  -- a malformed one: whatever follows, it is told by its number
+  pub stops-at : f .given ≡ 0 → (Unended (drop at bytes) → ⊥) → (line : ℕ) (more : List ℕ) → copyLines line (linesOf (drop at bytes ++ more)) ≡ stopped line
+  stops-at z some line more = by (parted (drop at bytes))
+    where
+      by : Parted (drop at bytes) → copyLines line (linesOf (drop at bytes ++ more)) ≡ stopped line
+      by (no-end u) = absurd (some u)
+      by (at-end body rest u e) =
+          let n = next body rest u e in
+          ap (λ (l : List ℕ). copyLines line (linesOf l)) (ap (λ (l : List ℕ). l ++ more) (n .parts) ∙ append-assoc (body ++ LF ∷ []) rest more)
+          ∙ line-stops line (body ++ LF ∷ []) (rest ++ more) (n .ended) (form-judges (body ++ LF ∷ []) .refused (λ h. omega (arith, n .form, F .count)))
+
+  -- one of the form
+  module _ (h : 1 ≤ f .given) where
+    abbrev pub lineHere : List ℕ
+    lineHere = take (f .end - at) (drop at bytes)
+
+    after-it : drop (f .end) bytes ≡ drop (f .end - at) (drop at bytes)
+    after-it = let z : at + (f .end - at) ≡ f .end = omega (arith, F .ended h .1) in sym (drop-drop (f .end - at) at bytes ∙ ap (λ (k : ℕ). drop k bytes) z)
+
+    line-here : Next lineHere (drop (f .end) bytes)
+    line-here = by (parted (drop at bytes))
+      where
+        by : Parted (drop at bytes) → Next lineHere (drop (f .end) bytes)
+        by (no-end u) = absurd (omega (arith, first-unended (drop at bytes) u, F .count))
+        by (at-end body rest u e) =
+            let n = next body rest u e in
+            let left : rest ≡ drop (f .end) bytes = sym (after-line body rest u) ∙ ap afterLine (sym e) ∙ sym (F .ended h .0) in
+            let long : length (body ++ LF ∷ []) ≡ f .end - at =
+            omega (arith, ap length (n .parts), length-append (body ++ LF ∷ []) rest, length-drop at bytes, ap length left, length-drop (f .end) bytes, F .ended h .1, F .ended h .2) in
+            let line : lineHere ≡ body ++ LF ∷ [] = ap (take (f .end - at)) (n .parts) ∙ take-at (body ++ LF ∷ []) rest (f .end - at) long in
+            rw line (subst (λ (r : List ℕ). Next (body ++ LF ∷ []) r) left n)
+
+    pub line-given : f .given ≡ numbersGiven lineHere
+    line-given = F .count ∙ sym (line-here .form)
+
+    pub line-bytes : length lineHere ≡ f .end - at
+    line-bytes = length-take-le (f .end - at) (drop at bytes) (omega (arith, length-drop at bytes, F .ended h .2))
+
+    pub goes-past : (line : ℕ) (more : List ℕ) → copyLines line (linesOf (drop at bytes ++ more)) ≡ ahead (withOldDepth lineHere) (copyLines (suc line) (linesOf (drop (f .end) bytes ++ more)))
+    goes-past line more =
+        ap (λ (l : List ℕ). copyLines line (linesOf l)) (ap (λ (l : List ℕ). l ++ more) (line-here .parts) ∙ append-assoc lineHere (drop (f .end) bytes) more)
+        ∙ line-goes line lineHere (drop (f .end) bytes ++ more) (line-here .ended) (form-judges lineHere .done (omega (arith, line-given)))
 
 depth-few : (line : List ℕ) → length (withOldDepth line) ≤ length line + 2
 depth-few line = by (ℕ-discrete (numbersGiven line) 2)
@@ -98,59 +124,6 @@ depth-few line = by (ℕ-discrete (numbersGiven line) 2)
     by : Dec (numbersGiven line ≡ 2) → length (withOldDepth line) ≤ length line + 2
     by (yes e) = omega (arith, two-long line e)
     by (no e) = omega (arith, others-long line e)
-
-depth-some : (line : List ℕ) → lineForm line ≡ Vd.Done → 1 ≤ length (withOldDepth line)
-depth-some line e = let l = converted-ended line (formed-ended line (form-judges line .gives e)) in omega (arith, ap length (l .is), length-append (l .body) (LF ∷ []))
-
-module _ (line : List ℕ) (at : ℕ) (out ys : List ℕ) (room : at + length line + 2 ≤ length out) where
-  -- the list from a place on, lent on, and the list when that is back
-  abbrev lent : List ℕ
-  lent = take (length out - at) (drop at out)
-
-  abbrev back : List ℕ
-  back = take at out ++ (ys ++ drop (length out - at) (drop at out))
-
-  lent-is : lent ≡ drop at out
-  lent-is = rest at out
-
-  back-is : back ≡ take at out ++ ys
-  back-is =
-      ap (λ (l : List ℕ). take at out ++ (ys ++ l)) (drop-of-length-le (drop at out) {i = length out - at} (omega (arith, length-drop at out)))
-      ∙ ap (λ (l : List ℕ). take at out ++ l) (append-nil ys)
-
-  front : length (take at out) ≡ at
-  front = length-take-le at out (omega arith)
-
-  pub line-copied : {r : Written} {n : ℕ} → r ≡ Wr.Length n → Writes (withDepth line lent) r ys → OneMore line at out back n
-  unfolding withDepth depthVerdict
-  line-copied {r} {n} e w =
-      let t = writes-told (depthVerdict line (length lent)) (withOldDepth line) lent (subst (λ x. Writes (withDepth line lent) x ys) e w) in
-      let f : lineForm line ≡ Vd.Done = then-done _ _ (t .0) .0 in
-      record {
-        malformed = λ z. absurd (omega (arith, depth-some line f, t .1));
-        copied = λ l. (
-          f,
-          omega (arith, depth-few line, t .1),
-          ap (take (at + n)) back-is ∙ ap (λ (k : ℕ). take (k + n) (take at out ++ ys)) (sym front) ∙ take-append-add (take at out) ys n ∙ ap (λ (l : List ℕ). take at out ++ l) (t .2),
-        );
-      }
-
-  pub line-refused : {r : Written} {x : Refusal} → r ≡ Wr.Refused x → Writes (withDepth line lent) r ys → OneMore line at out back 0
-  unfolding withDepth depthVerdict
-  line-refused {r} {x} q w = by (depthVerdict line (length lent)) refl (subst (λ y. Writes (withDepth line lent) y ys) q w)
-    where
-      by : (v : Verdict) → depthVerdict line (length lent) ≡ v → Writes (writeOf v (withOldDepth line) lent) (Wr.Refused x) ys → OneMore line at out back 0
-      by Vd.Done e u = absurd (omega (arith, ap (λ s. s .kind) (u .answer)))
-      by (Vd.Refused y) e u =
-          let long : length lent ≡ length out - at = ap length lent-is ∙ length-drop at out in
-          let fits : fileRoom (length (withOldDepth line)) (length lent) ≡ Vd.Done = room-judges (length (withOldDepth line)) (length lent) .done (omega (arith, depth-few line)) in
-          record {
-            malformed = λ z. (
-              form-judges line .refused (λ h. not-refused (then-next _ (form-judges line .done h) ∙ fits) e),
-              back-is ∙ ap (λ (l : List ℕ). take at out ++ l) (u .buffer ∙ lent-is) ∙ take-append-drop at out,
-            );
-            copied = λ l. absurd (omega arith);
-          }
 
 -- ---- a part, line by line
 
@@ -185,40 +158,34 @@ module _ {bytes : List ℕ} {first : ℕ} {out₀ : List ℕ} {c : Reach} {out :
     stopped = λ e. absurd (never e (g .good));
   }
 
-  -- there is room for the next line
-  pub room-more : {end : ℕ} (N : NextEnd bytes (c .done) end) (h : end < length bytes) → c .wrote + length (lineHere N h) + 2 ≤ length out
-  room-more N h = omega (arith, g .few, line-bytes N h, N .after, g .same, F .room)
+  -- no line from here on, or a malformed one
+  pub going-none : {f : First} {r : Bool} → FirstLine bytes (c .done) f → f .given ≡ 0 → HasEnd bytes (c .done) r → Copies bytes first (record { done = c .done; wrote = c .wrote; line = c .line; stops = r }) out
+  going-none L z H = record {
+    within = g .within;
+    room = omega (arith, g .few, g .within, g .same, F .room);
+    counted = g .counted;
+    goes = λ e. (H .none e, g .told);
+    stopped = λ e rest. g .told rest ∙ ap (ahead (take (c .wrote) out)) (stops-at L z (H .here e) (c .line) rest) ∙ ahead-stopped (take (c .wrote) out) (c .line);
+  }
 
-  module _ {end n : ℕ} {out′ : List ℕ} (N : NextEnd bytes (c .done) end) (h : end < length bytes) (M : OneMore (lineHere N h) (c .wrote) out out′ n) (s : length out′ ≡ length out) where
-    -- a malformed line
-    pub going-stops : n ≡ 0 → Copies bytes first (record { done = c .done; wrote = c .wrote; line = c .line; stops = true }) out′
-    going-stops z = record {
-      within = g .within;
-      room = omega (arith, g .few, g .within, g .same, F .room);
-      counted = g .counted;
-      goes = λ e. absurd (never refl e);
-      stopped = λ e rest.
-          g .told rest
-          ∙ ap (λ (l : List ℕ). ahead (take (c .wrote) out) (copyLines (c .line) (linesOf l))) (line-then N h rest)
-          ∙ ap (ahead (take (c .wrote) out)) (line-stops (c .line) (lineHere N h) (drop (end + 1) bytes ++ rest) (line-ended N h) (M .malformed z .0))
-          ∙ ahead-stopped (take (c .wrote) out) (c .line)
-          ∙ ap (λ (l : List ℕ). record { written = take (c .wrote) l; verdict = refuseAt 3 (P.Line (c .line)) }) (sym (M .malformed z .1));
-    }
+  module _ {f : First} (L : FirstLine bytes (c .done) f) (h : 1 ≤ f .given) where
+    -- there is room for the next line
+    pub room-more : c .wrote + length (withOldDepth (lineHere L h)) ≤ length out
+    room-more = omega (arith, depth-few (lineHere L h), line-bytes L h, L .ended h .1, L .ended h .2, g .few, g .same, F .room)
 
     -- one line more
-    pub going-more : 1 ≤ n → Going bytes first out₀ (record { done = end + 1; wrote = c .wrote + n; line = c .line + 1; stops = c .stops }) out′
-    going-more l =
-        let m = M .copied l in
-        record {
-          within = omega arith;
-          few = omega (arith, g .few, m .1, line-bytes N h, N .after);
-          counted = omega (arith, g .counted, N .after);
-          good = g .good;
-          same = s ∙ g .same;
-          told = λ rest.
-              g .told rest
-              ∙ ap (λ (l : List ℕ). ahead (take (c .wrote) out) (copyLines (c .line) (linesOf l))) (line-then N h rest)
-              ∙ ap (ahead (take (c .wrote) out)) (line-goes (c .line) (lineHere N h) (drop (end + 1) bytes ++ rest) (line-ended N h) (m .0))
-              ∙ ahead-ahead (take (c .wrote) out) (withOldDepth (lineHere N h)) (copyLines (suc (c .line)) (linesOf (drop (end + 1) bytes ++ rest)))
-              ∙ ap₂ (λ (w : List ℕ) (k : ℕ). ahead w (copyLines k (linesOf (drop (end + 1) bytes ++ rest)))) (sym (m .2)) (sym (add-one (c .line)));
-        }
+    pub going-more : {out′ : List ℕ} {n : ℕ} → Printed out (c .wrote) (withOldDepth (lineHere L h)) out′ n → length out′ ≡ length out
+        → Going bytes first out₀ (record { done = f .end; wrote = n; line = c .line + 1; stops = c .stops }) out′
+    going-more {out′} {n} P s = record {
+      within = L .ended h .2;
+      few = omega (arith, P .next, depth-few (lineHere L h), line-bytes L h, L .ended h .1, g .few);
+      counted = omega (arith, g .counted, L .ended h .1);
+      good = g .good;
+      same = s ∙ g .same;
+      told = λ rest.
+          let left = linesOf (drop (f .end) bytes ++ rest) in
+          g .told rest
+          ∙ ap (ahead (take (c .wrote) out)) (goes-past L h (c .line) rest)
+          ∙ ahead-ahead (take (c .wrote) out) (withOldDepth (lineHere L h)) (copyLines (suc (c .line)) left)
+          ∙ ap₂ (λ (w : List ℕ) (k : ℕ). ahead w (copyLines k left)) (sym (printed-front (withOldDepth (lineHere L h)) P room-more)) (sym (add-one (c .line)));
+    }

@@ -1,14 +1,12 @@
 -- What copying the lines of a part promises, whatever follows it.
 use Prim.Native.Nat.{ℕ, _+_, _*_, _≤_, _<_}
 use mathlib.Core.Path.{_≡_}
-use mathlib.Core.Bool.{true, false}
+use mathlib.Core.Bool.{Bool, true, false}
 use mathlib.Core.List.{List, _++_}
-use lib.ListN.{length, getD, take, drop}
+use lib.ListN.{length, take, drop}
 use Rattle.answers.specs.declared.Place.the-variants as P
-use Rattle.answers.specs.declared.Verdict.the-variants as Vd
 use Rattle.model.specs.Basics.{refuseAt}
-use Rattle.model.specs.FloorText.{LF}
-use Rattle.model.specs.KeepDepth.{lineForm, withOldDepth, Unended, linesOf, ahead, copyLines}
+use Rattle.model.specs.KeepDepth.{Unended, linesOf, ahead, copyLines}
 use Rattle.keep_depth.specs.declared.lines.Reach.{Reach}
 
 -- Room for all of a part's lines, and numbers for them and for their bytes: a line has one byte at least and gets two more at most.
@@ -16,17 +14,10 @@ pub record Fits (bytes : List ℕ) (first : ℕ) (out : List ℕ) : Type 0 where
   pub room : 3 * length bytes + 2 ≤ length out
   pub counted : first + 3 * length bytes < 18446744073709551616
 
--- the first LF from a place on, or the end
-pub record NextEnd (bytes : List ℕ) (from end : ℕ) : Type 0 where
-  pub after : from ≤ end
-  pub within : end ≤ length bytes
-  pub none-before : (k : ℕ) → from ≤ k → k < end → getD bytes k 0 ≡ LF → ⊥
-  pub here : end < length bytes → getD bytes end 0 ≡ LF
-
--- one line more: it is malformed, or stands with its depth behind what was written before
-pub record OneMore (line : List ℕ) (at : ℕ) (out out′ : List ℕ) (n : ℕ) : Type 0 where
-  pub malformed : n ≡ 0 → (lineForm line ≡ refuseAt 3 P.Nowhere) × (out′ ≡ out)
-  pub copied : 1 ≤ n → (lineForm line ≡ Vd.Done) × (n ≤ length line + 2) × (take (at + n) out′ ≡ take at out ++ withOldDepth line)
+-- whether an LF stands from a place on
+pub record HasEnd (bytes : List ℕ) (from : ℕ) (r : Bool) : Type 0 where
+  pub here : r ≡ true → Unended (drop from bytes) → ⊥
+  pub none : r ≡ false → Unended (drop from bytes)
 
 -- how far a part is copied, its first line having that number
 pub record Copies (bytes : List ℕ) (first : ℕ) (c : Reach) (out : List ℕ) : Type 0 where

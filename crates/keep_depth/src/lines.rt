@@ -1,8 +1,8 @@
 // The lines of a part of a list, each with its depth, one after another.
-ghost use Prim.Native.Nat.{_+_, _≤_};
+ghost use Prim.Native.Nat.{_≤_};
 ghost use lib.ListN.{length};
-ghost use Rattle.keep_depth.specs.Lines.{Fits, NextEnd, OneMore, Copies};
-use learner::Written;
+ghost use Rattle.keep_depth.specs.Lines.{Fits, HasEnd, Copies};
+use line::depth;
 
 // How far a part is copied: how many of its bytes are done with, how many are written for them, the number of the next line, and whether that one is malformed.
 pub struct Reach {
@@ -12,30 +12,19 @@ pub struct Reach {
     pub stops: bool,
 }
 
-// The place of the next LF; the length where there is none.
-fn next_end(bytes: &[u8], from: usize) -> usize
+// Whether an LF stands from a place on.
+fn has_end(bytes: &[u8], from: usize) -> bool
     requires { ⌜ from ≤ length (now bytes) ⌝ }
-    ensures { λ r. ⌜ NextEnd (now (bytes .entry)) from r ⌝ }
+    ensures { λ r. ⌜ HasEnd (now (bytes .entry)) from r ⌝ }
 {
     let mut i = from;
     while i < bytes.len() {
         if bytes[i] == 10 {
-            return i;
+            return true;
         }
         i += 1;
     }
-    i
-}
-
-// One line with its depth, from a place on; how many bytes that are, or 0 where it is malformed.
-fn copy_line(line: &[u8], out: &mut [u8], at: usize) -> usize
-    requires { ⌜ at + length (now line) + 2 ≤ length (now out) ⌝ }
-    ensures { λ r. ⌜ OneMore (now (line .entry)) at (now (out .entry)) (now (out .exit)) r ⌝ }
-{
-    match learner::with_depth(line, &mut out[at..]) {
-        Written::Refused(r) => 0,
-        Written::Length(n) => n,
-    }
+    false
 }
 
 // The whole lines of a part, from its first byte up to its last LF or a malformed line; the first has that number.
@@ -51,18 +40,14 @@ pub fn copy_lines(bytes: &[u8], first: usize, out: &mut [u8]) -> Reach
     };
     while c.done < bytes.len() {
         let at = c.done;
-        let end = next_end(bytes, at);
-        if bytes.len() <= end {
+        let f = depth::first_line(bytes, at);
+        if f.given == 0 {
+            c.stops = has_end(bytes, at);
             return c;
         }
-        let next = end + 1;
-        let n = copy_line(&bytes[at..next], out, c.wrote);
-        if n == 0 {
-            c.stops = true;
-            return c;
-        }
-        c.done = next;
-        c.wrote += n;
+        let end = f.end;
+        c.wrote = depth::put_line(&bytes[at..end], f.given, out, c.wrote);
+        c.done = end;
         c.line += 1;
     }
     c

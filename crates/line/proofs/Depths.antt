@@ -1,5 +1,5 @@
 -- A line with its depth, by how many numbers are given: two become three by two bytes more, and any other line stays. Assumes nothing.
-use Prim.Native.Nat.{ℕ, _+_, _-_, _≤_, _<_}
+use Prim.Native.Nat.{ℕ, zero, suc, _+_, _-_, _≤_, _<_}
 use mathlib.Core.Path.{_≡_, refl, sym, ap, _∙_}
 use mathlib.Core.List.{List, [], _∷_, _++_}
 use native.Mathlib.Nat.{zero-add}
@@ -8,23 +8,30 @@ use native.Mathlib.Omega.{arith}
 use mathlib.Core.Bool.{true, false}
 use mathlib.Core.Logic.{_⊎_, inl, inr, ⊎-elim}
 use borrow.Author.Tests.{le-leb, lt-leb, eq-eqb, ne-eqb}
-use lib.Dec.{leb}
-use lib.ListN.{length, take, drop, length-append, length-drop, drop-of-length-le}
+use mathlib.Core.Option.{Option, none, some}
+use lib.Dec.{eqb, leb}
+use lib.ListN.{length, take, drop, length-append, length-drop}
 use lib.Seq.{length-take-le, sets-eq}
 use Rattle.answers.specs.declared.Place.the-variants as P
 use Rattle.answers.specs.declared.Verdict.the-variants as Vd
 use Rattle.model.specs.Basics.{choose, refuseAt}
-use Rattle.model.specs.Line.{readLineBy, defaultDepth, settingsOf, decimalIn}
-use Rattle.model.specs.KeepDepth.{isAsked, numbersGiven, withOldDepth, depthVerdict}
+use Rattle.model.specs.Line.{numbersIn, afterLine, readLineBy, defaultDepth, settingsOf, decimalIn}
+use Rattle.model.specs.KeepDepth.{isAsked, numbersFirst, numbersGiven, withOldDepth, depthVerdict}
 use Rattle.model.proofs.Accepted.{then-refused, then-next, same-told, le-tells}
 use Rattle.model.proofs.Cut.{asksOf}
-use Rattle.model.proofs.Converted.{given-none, given-left, given-all, form-judges, formed-ended}
+use Rattle.model.proofs.Converted.{first-none, given-none, given-left, form-judges, formed-ended}
 use Rattle.model.proofs.Writings.{room-judges}
 use Rattle.notation.specs.Printing.{Printed}
 use Rattle.notation.proofs.Decimals.{printed-then}
 use Rattle.line.specs.declared.Word.{Word}
+use Rattle.line.specs.declared.depth.First.{First}
 use Rattle.line.specs.Reading.{Worded}
+use Rattle.line.specs.Depths.{FirstLine}
 use Rattle.line.proofs.Laws.{Scanning, scanning, scanned-none, scanned-bad, scanned-last, scanning-more, scanned-eighth, beyond-asks-nothing}
+
+positive : (n : ℕ) → (n ≡ 0 → ⊥) → 1 ≤ n
+positive zero h = absurd (h refl)
+positive (suc n) h = omega arith
 
 -- a line of the form has its LF at least
 pub line-long : (line : List ℕ) → 1 ≤ numbersGiven line → 1 ≤ length line
@@ -68,48 +75,70 @@ module _ (line : List ℕ) (given room : ℕ) (e : given ≡ numbersGiven line) 
   pub others-room : (given ≡ 2 → ⊥) → length line ≤ room → true ≡ leb (length (withOldDepth line)) room
   others-room t h = sym (le-leb (length (withOldDepth line)) room (omega (arith, others-long line (λ z. t (e ∙ z)))))
 
--- how many numbers are given, counted while they are read
-pub record Counting (line : List ℕ) (count i : ℕ) : Type 0 where
+-- the numbers of the line from a place on, counted while they are read
+pub record Counting (bytes : List ℕ) (from count i : ℕ) : Type 0 where
   pub numbers : List ℕ
-  pub scanning : Scanning line numbers i
+  pub scanning : Scanning bytes from numbers i
   pub many : length numbers ≡ count
   pub few : count ≤ 7
 
-pub counting : (line : List ℕ) → Counting line 0 0
-counting line = record { numbers = []; scanning = scanning line; many = refl; few = omega arith }
+pub counting : (bytes : List ℕ) (from : ℕ) → from ≤ length bytes → Counting bytes from 0 from
+counting bytes from h = record { numbers = []; scanning = scanning bytes from h; many = refl; few = omega arith }
 
--- nothing is left, and no LF was there
-pub given-unended : {line : List ℕ} {count i : ℕ} → Counting line count i → length line ≤ i → 0 ≡ numbersGiven line
-unfolding readLineBy
-given-unended {line} g h = sym (given-none line (ap (asksOf defaultDepth) (scanned-none (g .scanning) h)))
+-- a malformed line
+module _ (bytes : List ℕ) (from : ℕ) (f : First) (z : f .given ≡ 0) where
+  first-bad : numbersFirst (drop from bytes) ≡ 0 → FirstLine bytes from f
+  first-bad e = record { count = z ∙ sym e; ended = λ h. absurd (omega arith) }
 
-module _ {line : List ℕ} {count i : ℕ} {w : Word} (g : Counting line count i) (W : Worded line i w) where
+  none-first : numbersIn 0 0 (drop from bytes) ≡ none → FirstLine bytes from f
+  unfolding readLineBy
+  none-first e = first-bad (first-none (drop from bytes) (ap (asksOf defaultDepth) e))
+
+  pub first-unended : {count i : ℕ} → Counting bytes from count i → length bytes ≤ i → FirstLine bytes from f
+  first-unended g h = none-first (scanned-none (g .scanning) h)
+
+  module _ {count i : ℕ} {w : Word} (g : Counting bytes from count i) (W : Worded bytes i w) where
+    pub first-no-word : w .good ≡ false → FirstLine bytes from f
+    first-no-word b = none-first (scanned-bad (g .scanning) W b)
+
+    pub first-eighth : w .good ≡ true → 7 < count + 1 → FirstLine bytes from f
+    first-eighth t h = first-bad (first-none (drop from bytes) (beyond-asks-nothing (drop from bytes) (scanned-eighth (g .scanning) W t (g .many ∙ omega (arith, g .few)))))
+
+-- one number more, the last or one with others after it
+module _ {bytes : List ℕ} {from count i : ℕ} {w : Word} (g : Counting bytes from count i) (W : Worded bytes i w) (t : w .good ≡ true) where
   one-more : length (g .numbers ++ w .value ∷ []) ≡ count + 1
   one-more = length-append (g .numbers) (w .value ∷ []) ∙ ap (λ (k : ℕ). k + 1) (g .many)
 
-  pub given-bad : w .good ≡ false → 0 ≡ numbersGiven line
-  unfolding readLineBy
-  given-bad f = sym (given-none line (ap (asksOf defaultDepth) (scanned-bad (g .scanning) W f)))
+  pub first-last : w .last ≡ true → {r : ℕ} → ((ns : List ℕ) → length ns ≡ count + 1 → r ≡ choose (isAsked (settingsOf ns)) (count + 1) 0)
+      → FirstLine bytes from (record { given = r; end = w .next })
+  unfolding numbersFirst
+  first-last l f =
+      let z = scanned-last (g .scanning) W t l in
+      let all : List ℕ = g .numbers ++ w .value ∷ [] in
+      record {
+        count = f all one-more ∙ ap (λ (k : ℕ). choose (isAsked (settingsOf all)) k 0) (sym one-more)
+            ∙ sym (ap (λ (o : Option (List ℕ)). elim o [ none ↦ 0 | some ns ↦ choose (isAsked (settingsOf ns)) (length ns) 0 ]) (z .0));
+        ended = λ _. (z .1, omega (arith, g .scanning .past, W .on t .0), W .on t .1);
+      }
 
-  module _ (t : w .good ≡ true) where
-    -- an eighth number
-    pub given-eighth : 7 < count + 1 → 0 ≡ numbersGiven line
-    given-eighth h = sym (given-none line (beyond-asks-nothing line (scanned-eighth (g .scanning) W t (g .many ∙ omega (arith, g .few)))))
+  pub counting-more : w .last ≡ false → count + 1 ≤ 7 → Counting bytes from (count + 1) (w .next)
+  counting-more l h = record { numbers = g .numbers ++ w .value ∷ []; scanning = scanning-more (g .scanning) W t l; many = one-more; few = h }
 
-    -- the last one: bytes are left after it, or as many numbers are given as a line of the form may have
-    module _ (l : w .last ≡ true) where
-      pub given-after : w .next < length line → 0 ≡ numbersGiven line
-      given-after h = sym (given-left line (omega (arith, ap length (sym (scanned-last (g .scanning) W t l .1)), length-drop (w .next) line)))
+-- how many numbers a line by itself has
+module _ {line : List ℕ} {f : First} (F : FirstLine line 0 f) where
+  pub given-bad : f .given ≡ 0 → 0 ≡ numbersGiven line
+  given-bad z = sym (given-none line (sym (F .count) ∙ z))
 
-      pub given-formed : {r : ℕ} → length line ≤ w .next → ((ns : List ℕ) → length ns ≡ count + 1 → r ≡ choose (isAsked (settingsOf ns)) (count + 1) 0) → r ≡ numbersGiven line
-      given-formed h f =
-          let z = scanned-last (g .scanning) W t l in
-          f (g .numbers ++ w .value ∷ []) one-more
-          ∙ ap (λ (k : ℕ). choose (isAsked (settingsOf (g .numbers ++ w .value ∷ []))) k 0) (sym one-more)
-          ∙ sym (given-all line (g .numbers ++ w .value ∷ []) (z .0) (sym (z .1) ∙ drop-of-length-le line h))
+  module _ (some : f .given ≡ 0 → ⊥) where
+    left : length (afterLine line) ≡ length line - f .end
+    left = ap length (sym (F .ended (positive (f .given) some) .0)) ∙ length-drop (f .end) line
 
-    pub counting-more : w .last ≡ false → count + 1 ≤ 7 → Counting line (count + 1) (w .next)
-    counting-more l h = record { numbers = g .numbers ++ w .value ∷ []; scanning = scanning-more (g .scanning) W t l; many = one-more; few = h }
+    pub given-after : f .end < length line → 0 ≡ numbersGiven line
+    given-after h = sym (given-left line (omega (arith, left)))
+
+    pub given-whole : length line ≤ f .end → f .given ≡ numbersGiven line
+    unfolding numbersGiven
+    given-whole h = F .count ∙ (let z : eqb (length (afterLine line)) 0 ≡ true = eq-eqb (length (afterLine line)) 0 (omega (arith, left)) in rw (z, numbersGiven))
 
 -- a line of the form has 2, 3, 5, 6 or 7 numbers
 pub formed-none : (ns : List ℕ) (n : ℕ) → length ns ≡ n → (n ≡ 1) ⊎ ((n ≡ 4) ⊎ (7 < n)) → 0 ≡ choose (isAsked (settingsOf ns)) n 0
@@ -141,9 +170,9 @@ formed-all (s ∷ g ∷ d ∷ p ∷ q ∷ t ∷ m ∷ []) n e a b h = refl
 formed-all (s ∷ g ∷ d ∷ p ∷ q ∷ t ∷ m ∷ x ∷ xs) n e a b h = absurd (omega arith)
 
 -- two become three by what is printed after that
-pub two-printed : (line buffer mid after : List ℕ) (at end : ℕ) → numbersGiven line ≡ 2 → Printed buffer 0 (take (length line - 1) line) mid at → Printed mid at (32 ∷ 49 ∷ 10 ∷ []) after end
-    → Printed buffer 0 (withOldDepth line) after end
-two-printed line buffer mid after at end e p q = rw (two-become line e) (printed-then (take (length line - 1) line) (32 ∷ 49 ∷ 10 ∷ []) p q)
+pub two-printed : (line buffer mid after : List ℕ) (from at end : ℕ) → numbersGiven line ≡ 2 → Printed buffer from (take (length line - 1) line) mid at → Printed mid at (32 ∷ 49 ∷ 10 ∷ []) after end
+    → Printed buffer from (withOldDepth line) after end
+two-printed line buffer mid after from at end e p q = rw (two-become line e) (printed-then (take (length line - 1) line) (32 ∷ 49 ∷ 10 ∷ []) p q)
 
 -- bytes printed from the first place on, and what stands after them
 pub printed-first : (buffer bytes after : List ℕ) (end : ℕ) → length bytes ≤ length buffer → Printed buffer 0 bytes after end → (end ≡ length bytes) × (after ≡ bytes ++ drop (length bytes) buffer)

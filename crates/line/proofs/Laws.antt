@@ -291,62 +291,64 @@ module _ {r n : Reading} {value end : ℕ} (G : Goes r) (P : Pushed r value end 
 pub full : {r : Reading} → Goes r → 7 ≤ r .count → length (numbersOf r) ≡ 7
 full {r} G h = length-take-le (r .count) (r .numbers) (omega (arith, G .room, G .few)) ∙ omega (arith, G .few)
 
--- the line so far, its bytes up to i: its numbers are these and those of the bytes left, and what stands after it
-pub record Scanning (input ns : List ℕ) (i : ℕ) : Type 0 where
+-- the line from a place on, read up to i: its numbers are these and those of the bytes left, and what stands after it
+pub record Scanning (input : List ℕ) (from : ℕ) (ns : List ℕ) (i : ℕ) : Type 0 where
+  pub past : from ≤ i
   pub most : i ≤ length input
-  pub same : after ns (numbersIn 0 0 (drop i input)) ≡ numbersIn 0 0 input
-  pub rest : afterLine (drop i input) ≡ afterLine input
+  pub same : after ns (numbersIn 0 0 (drop i input)) ≡ numbersIn 0 0 (drop from input)
+  pub rest : afterLine (drop i input) ≡ afterLine (drop from input)
 
-pub scanning : (input : List ℕ) → Scanning input [] 0
-scanning input = record { most = omega arith; same = by (numbersIn 0 0 input); rest = refl }
+pub scanning : (input : List ℕ) (from : ℕ) → from ≤ length input → Scanning input from [] from
+scanning input from h = record { past = omega arith; most = h; same = by (numbersIn 0 0 (drop from input)); rest = refl }
   where
     by : (o : Option (List ℕ)) → after [] o ≡ o
     by none = refl
     by (some ns) = refl
 
 -- of a reading of nothing yet
-pub scanning-none : (input : List ℕ) (r : Reading) → r .count ≡ 0 → Scanning input (numbersOf r) 0
-scanning-none input r e = rw e (scanning input)
+pub scanning-none : (input : List ℕ) (r : Reading) → r .count ≡ 0 → Scanning input 0 (numbersOf r) 0
+scanning-none input r e = rw e (scanning input 0 (omega arith))
 
 pub goes : (r : Reading) → (r .ok ≡ true) × (r .count ≡ 0) × (length (r .numbers) ≡ 7) → Goes r
 goes r e = record { ok = e .0; room = e .2; few = omega (arith, e .1) }
 
 -- the LF is never there
-pub scanned-none : {input ns : List ℕ} {i : ℕ} → Scanning input ns i → length input ≤ i → numbersIn 0 0 input ≡ none
-scanned-none {input} {ns} {i} g h = sym (g .same) ∙ ap (λ l. after ns (numbersIn 0 0 l)) (drop-of-length-le input h) ∙ ap (after ns) (none-left 0 0)
+pub scanned-none : {input ns : List ℕ} {from i : ℕ} → Scanning input from ns i → length input ≤ i → numbersIn 0 0 (drop from input) ≡ none
+scanned-none {input} {ns} {from} {i} g h = sym (g .same) ∙ ap (λ l. after ns (numbersIn 0 0 l)) (drop-of-length-le input h) ∙ ap (after ns) (none-left 0 0)
 
-module _ {input ns : List ℕ} {i : ℕ} {w : Word} (g : Scanning input ns i) (W : Worded input i w) where
-  pub scanned-bad : w .good ≡ false → numbersIn 0 0 input ≡ none
+module _ {input ns : List ℕ} {from i : ℕ} {w : Word} (g : Scanning input from ns i) (W : Worded input i w) where
+  pub scanned-bad : w .good ≡ false → numbersIn 0 0 (drop from input) ≡ none
   scanned-bad f = sym (g .same) ∙ ap (after ns) (W .bad f)
 
   module _ (t : w .good ≡ true) where
-    pub scanned-last : w .last ≡ true → (numbersIn 0 0 input ≡ some (ns ++ w .value ∷ [])) × (drop (w .next) input ≡ afterLine input)
+    pub scanned-last : w .last ≡ true → (numbersIn 0 0 (drop from input) ≡ some (ns ++ w .value ∷ [])) × (drop (w .next) input ≡ afterLine (drop from input))
     scanned-last l = let z = W .last t l in (sym (g .same) ∙ ap (after ns) (z .0), sym (z .1) ∙ g .rest)
 
-    pub scanning-more : w .last ≡ false → Scanning input (ns ++ w .value ∷ []) (w .next)
+    pub scanning-more : w .last ≡ false → Scanning input from (ns ++ w .value ∷ []) (w .next)
     scanning-more l =
         let z = W .more t l in
         record {
+          past = omega (arith, g .past, W .on t .0);
           most = W .on t .1;
           same = sym (after-one ns (w .value) (numbersIn 0 0 (drop (w .next) input))) ∙ ap (after ns) (sym (z .0)) ∙ g .same;
           rest = sym (z .1) ∙ g .rest;
         }
 
     -- there is no eighth number
-    pub scanned-eighth : length ns ≡ 7 → Beyond (numbersIn 0 0 input)
+    pub scanned-eighth : length ns ≡ 7 → Beyond (numbersIn 0 0 (drop from input))
     scanned-eighth h = by (w .last) refl
       where
-        by : (b : Bool) → w .last ≡ b → Beyond (numbersIn 0 0 input)
+        by : (b : Bool) → w .last ≡ b → Beyond (numbersIn 0 0 (drop from input))
         by true l = subst Beyond (sym (scanned-last l .0)) (eighth-beyond ns h (w .value) (some []))
         by false l = subst Beyond (ap (after ns) (sym (W .more t l .0)) ∙ g .same) (eighth-beyond ns h (w .value) (numbersIn 0 0 (drop (w .next) input)))
 
 -- a line that goes on, with one number more
-pub scanning-pushed : {input : List ℕ} {r n : Reading} {i : ℕ} {w : Word} → Scanning input (numbersOf r) i → Worded input i w → w .good ≡ true → w .last ≡ false
-    → Goes r → Pushed r (w .value) (w .next) n → n .ok ≡ true → Scanning input (numbersOf n) (w .next) × Goes n
-scanning-pushed {input} {w = w} g W t l G P o = (subst (λ (ns : List ℕ). Scanning input ns (w .next)) (sym (numbers-more G P o)) (scanning-more g W t l), goes-on G P o)
+pub scanning-pushed : {input : List ℕ} {r n : Reading} {i : ℕ} {w : Word} → Scanning input 0 (numbersOf r) i → Worded input i w → w .good ≡ true → w .last ≡ false
+    → Goes r → Pushed r (w .value) (w .next) n → n .ok ≡ true → Scanning input 0 (numbersOf n) (w .next) × Goes n
+scanning-pushed {input} {w = w} g W t l G P o = (subst (λ (ns : List ℕ). Scanning input 0 ns (w .next)) (sym (numbers-more G P o)) (scanning-more g W t l), goes-on G P o)
 
 -- a line that is read to its LF
-pub scanned : {input : List ℕ} {r n : Reading} {i : ℕ} {w : Word} → Scanning input (numbersOf r) i → Worded input i w → w .good ≡ true → w .last ≡ true
+pub scanned : {input : List ℕ} {r n : Reading} {i : ℕ} {w : Word} → Scanning input 0 (numbersOf r) i → Worded input i w → w .good ≡ true → w .last ≡ true
     → Goes r → Pushed r (w .value) (w .next) n → n .ok ≡ true → Scanned input n
 scanned {input} {n = n} {w = w} g W t l G P o =
     let z = scanned-last g W t l in

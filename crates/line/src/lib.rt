@@ -1,6 +1,6 @@
 // The line that the program `aisle` reads: its numbers, and the settings that they ask for. `depth` writes the old depth into a stored line, `print` has the
 // lines that programs print.
-mod depth;
+pub mod depth;
 pub mod print;
 
 ghost use mathlib.Core.Path.{_≡_};

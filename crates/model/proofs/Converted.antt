@@ -2,7 +2,7 @@
 -- The numbers of a line do not hang on the text after it, and the old depth ahead of its LF is one number more; so the two ways ask for the same. Assumes nothing.
 use Prim.Native.Nat.{ℕ, zero, suc, _+_, _-_, _*_, _≤_}
 use mathlib.Core.Path.{_≡_, refl, sym, ap, _∙_}
-use mathlib.Core.Bool.{Bool, true, false, _&&_, and-false}
+use mathlib.Core.Bool.{Bool, true, false, _&&_}
 use mathlib.Core.Option.{Option, none, some}
 use mathlib.Core.List.{List, [], _∷_, _++_, append-assoc}
 use native.Mathlib.Omega.{arith}
@@ -16,7 +16,7 @@ use Rattle.answers.specs.declared.Verdict.the-variants as Vd
 use Rattle.model.specs.Basics.{choose, refuseAt}
 use Rattle.model.specs.FloorText.{LF, isDigit}
 use Rattle.model.specs.Line.{numbersIn, afterLine, settingsBy, settingsOf, readLineBy, defaultDepth, readLine, decimalIn, field, refusalLine, judgeAisle, printed, aisleBy, aisle}
-use Rattle.model.specs.KeepDepth.{oldDepth, isAsked, numbersGiven, lineForm, withOldDepth, Unended, longestLine}
+use Rattle.model.specs.KeepDepth.{oldDepth, isAsked, numbersFirst, numbersGiven, lineForm, withOldDepth, Unended, longestLine}
 use Rattle.model.proofs.Accepted.{Judges, unless-judges, le-tells}
 use Rattle.model.proofs.Cut.{joined, asksOf, line-says}
 
@@ -90,12 +90,12 @@ after-line (b ∷ bs) text u = rw (head-is b bs u, afterLine) (after-line bs tex
 -- ---- how many numbers are given
 
 -- those of a line that is read, or 0
-abbrev givenOf : Option (List ℕ) → (rest : List ℕ) → ℕ
-givenOf o rest = elim o [ none ↦ 0 | some ns ↦ choose (isAsked (settingsOf ns) && eqb (length rest) 0) (length ns) 0 ]
+abbrev givenOf : Option (List ℕ) → ℕ
+givenOf o = elim o [ none ↦ 0 | some ns ↦ choose (isAsked (settingsOf ns)) (length ns) 0 ]
 
 -- three or more are never two
-not-two : (ns rest : List ℕ) → 3 ≤ length ns → eqb (givenOf (some ns) rest) 2 ≡ false
-not-two ns rest h = by (isAsked (settingsOf ns) && eqb (length rest) 0)
+not-two : (ns : List ℕ) → 3 ≤ length ns → eqb (givenOf (some ns)) 2 ≡ false
+not-two ns h = by (isAsked (settingsOf ns))
   where
     by : (b : Bool) → eqb (choose b (length ns) 0) 2 ≡ false
     by true = ne-eqb (length ns) 2 (λ e. omega arith)
@@ -103,8 +103,12 @@ not-two ns rest h = by (isAsked (settingsOf ns) && eqb (length rest) 0)
 
 -- "Lines that give a depth are copied byte for byte."
 pub given-depth-is-copied : (line ns : List ℕ) → numbersIn 0 0 line ≡ some ns → 3 ≤ length ns → withOldDepth line ≡ line
-unfolding withOldDepth numbersGiven
-given-depth-is-copied line ns e h = rw (e, numbersGiven, not-two ns (afterLine line) h)
+unfolding withOldDepth numbersGiven numbersFirst
+given-depth-is-copied line ns e h = by (eqb (length (afterLine line)) 0) refl
+  where
+    by : (b : Bool) → eqb (length (afterLine line)) 0 ≡ b → withOldDepth line ≡ line
+    by true f = rw (e, f, withOldDepth, numbersGiven, numbersFirst, not-two ns h)
+    by false f = rw (f, withOldDepth, numbersGiven)
 
 -- the settings are the same by any default where a depth is given
 settings-given : (a b s g d : ℕ) (ns : List ℕ) → settingsBy a (s ∷ g ∷ d ∷ ns) ≡ settingsBy b (s ∷ g ∷ d ∷ ns)
@@ -137,6 +141,11 @@ module _ (line : List ℕ) (l : Ended line) (text : List ℕ) where
       ∙ ap (asksOf default) (numbers-of-line (l .body) text 0 0)
       ∙ ap (λ (x : List ℕ). asksOf default (numbersIn 0 0 x)) (sym (l .is))
 
+  -- so many numbers are given, whatever text stands after it
+  pub line-first : numbersFirst (line ++ text) ≡ numbersFirst line
+  unfolding numbersFirst
+  line-first = ap (λ (x : List ℕ). givenOf (numbersIn 0 0 x)) then-text ∙ ap givenOf (numbers-of-line (l .body) text 0 0) ∙ ap (λ (x : List ℕ). givenOf (numbersIn 0 0 x)) (sym (l .is))
+
   pub line-leaves : afterLine (line ++ text) ≡ text
   line-leaves = ap afterLine then-text ∙ after-line (l .body) text (l .unended)
 
@@ -158,16 +167,20 @@ module _ (line : List ℕ) (l : Ended line) where
   nothing-left : afterLine line ≡ []
   nothing-left = ap afterLine (l .is) ∙ after-line (l .body) [] (l .unended)
 
-  given-is : (o : Option (List ℕ)) → numbersIn 0 0 line ≡ o → numbersGiven line ≡ givenOf o []
+  pub given-first : numbersGiven line ≡ numbersFirst line
   unfolding numbersGiven
-  given-is o e = λ i. givenOf (e i) (nothing-left i)
+  given-first = rw (nothing-left, numbersGiven)
+
+  given-is : (o : Option (List ℕ)) → numbersIn 0 0 line ≡ o → numbersGiven line ≡ givenOf o
+  unfolding numbersFirst
+  given-is o e = given-first ∙ ap givenOf e
 
   -- the old depth where two numbers are given, and the line itself elsewhere
   becomes-three : (s g : ℕ) → numbersIn 0 0 line ≡ some (s ∷ g ∷ []) → withOldDepth line ≡ (l .body ++ field oldDepth) ++ LF ∷ []
   unfolding withOldDepth
   becomes-three s g e = rw (given-is (some (s ∷ g ∷ [])) e, withOldDepth, body-is) (sym (append-assoc (l .body) (field oldDepth) (LF ∷ [])))
 
-  becomes-itself : (o : Option (List ℕ)) → numbersIn 0 0 line ≡ o → eqb (givenOf o []) 2 ≡ false → withOldDepth line ≡ line
+  becomes-itself : (o : Option (List ℕ)) → numbersIn 0 0 line ≡ o → eqb (givenOf o) 2 ≡ false → withOldDepth line ≡ line
   unfolding withOldDepth
   becomes-itself o e f = rw (given-is o e, withOldDepth, f)
 
@@ -176,7 +189,7 @@ module _ (line : List ℕ) (l : Ended line) where
     pub new-line : Ended new
     pub asks : (default : ℕ) → asksOf default (numbersIn 0 0 new) ≡ asksOf oldDepth (numbersIn 0 0 line)
 
-  itself : (o : Option (List ℕ)) → numbersIn 0 0 line ≡ o → eqb (givenOf o []) 2 ≡ false → ((default : ℕ) → asksOf default o ≡ asksOf oldDepth o) → Becomes (withOldDepth line)
+  itself : (o : Option (List ℕ)) → numbersIn 0 0 line ≡ o → eqb (givenOf o) 2 ≡ false → ((default : ℕ) → asksOf default o ≡ asksOf oldDepth o) → Becomes (withOldDepth line)
   itself o e f a = rw (becomes-itself o e f) (record { new-line = l; asks = λ default. ap (asksOf default) e ∙ a default ∙ ap (asksOf oldDepth) (sym e) })
 
   becomes : Becomes (withOldDepth line)
@@ -194,7 +207,7 @@ module _ (line : List ℕ) (l : Ended line) where
             asks = λ default. ap (asksOf default) numbers ∙ ap (asksOf oldDepth) (sym e);
           })
       by (some (s ∷ g ∷ d ∷ ns)) e =
-          itself (some (s ∷ g ∷ d ∷ ns)) e (not-two (s ∷ g ∷ d ∷ ns) [] (omega arith)) (λ default. settings-given default oldDepth s g d ns)
+          itself (some (s ∷ g ∷ d ∷ ns)) e (not-two (s ∷ g ∷ d ∷ ns) (omega arith)) (λ default. settings-given default oldDepth s g d ns)
 
 -- two inputs that ask for the same, with the same text after their lines, print the same
 prints-the-same : (a b : ℕ) (i j : List ℕ) → readLineBy a i ≡ readLineBy b j → afterLine i ≡ afterLine j → aisleBy a i ≡ aisleBy b j
@@ -223,40 +236,34 @@ pub form-judges : (line : List ℕ) → Judges (lineForm line) 3 (1 ≤ numbersG
 unfolding lineForm
 form-judges line = unless-judges _ 3 (le-tells 1 (numbersGiven line))
 
--- none are given where the line asks for nothing, and where bytes are left after it; else as many as it has
+-- none are given where the line asks for nothing, or bytes are left after it
 module _ (line : List ℕ) where
-  pub given-none : readLine line ≡ none → numbersGiven line ≡ 0
-  unfolding readLineBy numbersGiven
-  given-none e = by (numbersIn 0 0 line) refl
+  pub first-none : readLine line ≡ none → numbersFirst line ≡ 0
+  unfolding readLineBy numbersFirst
+  first-none e = by (numbersIn 0 0 line) refl
     where
-      off : (o : Option Settings) (rest : List ℕ) (n : ℕ) → o ≡ none → choose (isAsked o && eqb (length rest) 0) n 0 ≡ 0
-      off none rest n f = refl
-      off (some s) rest n f = let z : _≡_ {A = ℕ} 0 1 = cc in absurd (omega arith)
+      off : (o : Option Settings) (n : ℕ) → o ≡ none → choose (isAsked o) n 0 ≡ 0
+      off none n f = refl
+      off (some s) n f = let z : _≡_ {A = ℕ} 0 1 = cc in absurd (omega arith)
 
-      by : (o : Option (List ℕ)) → numbersIn 0 0 line ≡ o → numbersGiven line ≡ 0
-      by none f = rw (f, numbersGiven)
-      by (some ns) f = rw (f, numbersGiven) (off (settingsOf ns) (afterLine line) (length ns) (sym (ap (asksOf defaultDepth) f) ∙ e))
+      by : (o : Option (List ℕ)) → numbersIn 0 0 line ≡ o → numbersFirst line ≡ 0
+      by none f = rw (f, numbersFirst)
+      by (some ns) f = rw (f, numbersFirst) (off (settingsOf ns) (length ns) (sym (ap (asksOf defaultDepth) f) ∙ e))
 
   pub given-left : 1 ≤ length (afterLine line) → numbersGiven line ≡ 0
   unfolding numbersGiven
-  given-left h = by (numbersIn 0 0 line) refl
-    where
-      by : (o : Option (List ℕ)) → numbersIn 0 0 line ≡ o → numbersGiven line ≡ 0
-      by none f = rw (f, numbersGiven)
-      by (some ns) f =
-          let z : (isAsked (settingsOf ns) && eqb (length (afterLine line)) 0) ≡ false = ap (λ b. isAsked (settingsOf ns) && b) (ne-eqb (length (afterLine line)) 0 (λ e. omega arith)) ∙ and-false (isAsked (settingsOf ns)) in
-          rw (f, numbersGiven, z)
+  given-left h = let z : eqb (length (afterLine line)) 0 ≡ false = ne-eqb (length (afterLine line)) 0 (λ e. omega arith) in rw (z, numbersGiven)
 
-  pub given-all : (ns : List ℕ) → numbersIn 0 0 line ≡ some ns → afterLine line ≡ [] → numbersGiven line ≡ choose (isAsked (settingsOf ns)) (length ns) 0
+  pub given-none : numbersFirst line ≡ 0 → numbersGiven line ≡ 0
   unfolding numbersGiven
-  given-all ns e g = (λ i. givenOf (e i) (g i)) ∙ by (isAsked (settingsOf ns))
+  given-none e = by (eqb (length (afterLine line)) 0) refl
     where
-      by : (b : Bool) → choose (b && true) (length ns) 0 ≡ choose b (length ns) 0
-      by true = refl
-      by false = refl
+      by : (b : Bool) → eqb (length (afterLine line)) 0 ≡ b → numbersGiven line ≡ 0
+      by true f = rw (f, numbersGiven) e
+      by false f = rw (f, numbersGiven)
 
 malformed : (line : List ℕ) → readLine line ≡ none → lineForm line ≡ refuseAt 3 P.Nowhere
-malformed line e = form-judges line .refused (λ h. omega (arith, given-none line e))
+malformed line e = form-judges line .refused (λ h. omega (arith, given-none line (first-none line e)))
 
 -- without an LF there are no numbers
 numbers-unended : (bs : List ℕ) (d v : ℕ) → Unended bs → numbersIn d v bs ≡ none
@@ -273,6 +280,9 @@ numbers-unended (b ∷ bs) d v u = by (isDigit b && leb d 6) (eqb b 32 && leb 1 
 reads-unended : (bs : List ℕ) → Unended bs → readLine bs ≡ none
 unfolding readLineBy
 reads-unended bs u = ap (asksOf defaultDepth) (numbers-unended bs 0 0 u)
+
+pub first-unended : (bs : List ℕ) → Unended bs → numbersFirst bs ≡ 0
+first-unended bs u = first-none bs (reads-unended bs u)
 
 pub unended-is-malformed : (line : List ℕ) → Unended line → lineForm line ≡ refuseAt 3 P.Nowhere
 unended-is-malformed line u = malformed line (reads-unended line u)
@@ -300,7 +310,7 @@ pub formed-ended : (line : List ℕ) → 1 ≤ numbersGiven line → Ended line
 formed-ended line h = by (parted line)
   where
     by : Parted line → Ended line
-    by (no-end u) = absurd (omega (arith, given-none line (reads-unended line u)))
+    by (no-end u) = absurd (omega (arith, given-none line (first-unended line u)))
     by (at-end body [] u f) = record { body = body; is = f; unended = u }
     by (at-end body (x ∷ xs) u f) = let left : afterLine line ≡ x ∷ xs = ap afterLine f ∙ after-line body (x ∷ xs) u in absurd (omega (arith, given-left line (omega (arith, ap length left))))
 

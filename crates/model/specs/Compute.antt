@@ -17,7 +17,7 @@ use Rattle.model.specs.Writing.{fileRoom}
 use Rattle.model.specs.FloorText.{begins, sizeIn, header, rowHolds, rows, cellsOf, floorVerdict, readFloor}
 use Rattle.model.specs.FloorWritten.{rowsOf, textOf, textVerdict, writeFloor}
 use Rattle.model.specs.Line.{numbersIn, afterLine, readLineBy, decimalIn, movesField, trialLine, trialLines, courseLines, refusalLine, judgeAisle, aisleBy}
-use Rattle.model.specs.KeepDepth.{numbersGiven, lineForm, withOldDepth, depthVerdict, withDepth, linesOf, copyLines, keepDepth}
+use Rattle.model.specs.KeepDepth.{numbersFirst, numbersGiven, lineForm, withOldDepth, depthVerdict, withDepth, linesOf, copyLines, keepDepth}
 
 unfoldable pub compute : Unit {0}
 unfolding decLe ℕ-discrete
@@ -34,5 +34,5 @@ unfolding decLe ℕ-discrete
     begins sizeIn header rowHolds rows cellsOf floorVerdict readFloor
     rowsOf textOf textVerdict writeFloor
     numbersIn afterLine readLineBy decimalIn movesField trialLine trialLines courseLines refusalLine judgeAisle aisleBy
-    numbersGiven lineForm withOldDepth depthVerdict withDepth linesOf copyLines keepDepth
+    numbersFirst numbersGiven lineForm withOldDepth depthVerdict withDepth linesOf copyLines keepDepth
 compute = tt

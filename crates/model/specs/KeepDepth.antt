@@ -1,7 +1,7 @@
 -- Stored lines with their depth: one line, and the program `keep_depth`, which "copies a list of lines and writes the old depth into those that leave it out".
 use Prim.Native.Nat.{ℕ, suc, _-_, _*_, _<_}
 use mathlib.Core.Path.{_≡_}
-use mathlib.Core.Bool.{Bool, true, false, _&&_}
+use mathlib.Core.Bool.{Bool, true, false}
 use mathlib.Core.Option.{Option, none, some}
 use mathlib.Core.List.{List, [], _∷_, _++_}
 use lib.Dec.{leb, eqb}
@@ -19,13 +19,17 @@ use Rattle.model.specs.Writing.{fileRoom, WriteOutcome, writeOf}
 abbrev pub oldDepth : ℕ
 oldDepth = 1
 
--- How many numbers a line has that is of `aisle`'s form, its LF being its last byte; 0 where it is malformed. No range is judged
+-- How many numbers the line at the front of an input has, by `aisle`'s own rule of form; 0 where it is malformed. No range is judged
 abbrev pub isAsked : Option Settings → Bool
 isAsked none = false
 isAsked (some s) = true
 
+unfoldable pub numbersFirst : List ℕ → ℕ
+numbersFirst input = elim (numbersIn 0 0 input) [ none ↦ 0 | some ns ↦ choose (isAsked (settingsOf ns)) (length ns) 0 ]
+
+-- and a line by itself, whose LF is its last byte
 unfoldable pub numbersGiven : List ℕ → ℕ
-numbersGiven line = elim (numbersIn 0 0 line) [ none ↦ 0 | some ns ↦ choose (isAsked (settingsOf ns) && eqb (length (afterLine line)) 0) (length ns) 0 ]
+numbersGiven line = choose (eqb (length (afterLine line)) 0) (numbersFirst line) 0
 
 -- "3 for a malformed line"
 unfoldable pub lineForm : List ℕ → Verdict

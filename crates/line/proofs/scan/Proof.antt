@@ -13,7 +13,7 @@ use Rattle.line.proofs.scan.Statement.{statement}
 use Rattle.line.proofs.scan.Tie as tie
 
 abbrev Inv-loop : tie.InvT-loop
-Inv-loop input r₀ i₀ r i = Scanning input (numbersOf r) i × Goes r
+Inv-loop input r₀ i₀ r i = Scanning input 0 (numbersOf r) i × Goes r
 
 abbrev μ-loop : tie.MeasureT-loop
 μ-loop input r₀ i₀ r i = length input - i

@@ -39,7 +39,7 @@ returns : tie.Need-returns
 returns c =
     let next = c .before .before in
     let b = next .before .before .before .before .before in
-    two-printed _ _ _ _ _ _ (two (at-two b)) (b .bytes .ensures) (next .bytes2 .ensures)
+    two-printed _ _ _ _ _ _ _ (two (at-two b)) (b .bytes .ensures) (next .bytes2 .ensures)
 
 bytes-requires-3 : tie.Need-bytes-requires-3
 bytes-requires-3 c κs =

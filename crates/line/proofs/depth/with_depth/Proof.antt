@@ -36,7 +36,7 @@ put-line-requires : tie.Need-put-line-requires
 put-line-requires c κs =
     let e = c .before in
     let f = formed (e .before .before) in
-    (e .before .before .before .numbers-given .ensures, omega (arith, f, e .before .before .before .numbers-given .ensures), fits e)
+    (e .before .before .before .numbers-given .ensures, omega (arith, f, e .before .before .before .numbers-given .ensures), omega (arith, fits e))
 
 returns-3 : tie.Need-returns-3
 unfolding withDepth

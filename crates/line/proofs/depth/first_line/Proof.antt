@@ -1,0 +1,72 @@
+-- `line::depth::first_line` meets its contract. The loop's invariant: `Counting`, so many numbers are read, seven at most. Assumes nothing.
+use Prim.Native.Nat.{_-_}
+use mathlib.Core.Path.{_≡_}
+use mathlib.Core.Bool.{true}
+use borrow.Author.Needs.{needs}
+use borrow.Author.Tests.{not-true, not-false}
+use native.Mathlib.Omega.{arith}
+use lib.ListN.{length}
+use Rattle.line.proofs.Depths.{Counting, counting, counting-more, first-unended, first-no-word, first-eighth, first-last}
+use Rattle.line.proofs.depth.first_line.Statement.{statement}
+use Rattle.line.proofs.depth.first_line.Tie as tie
+
+abbrev Inv-loop : tie.InvT-loop
+Inv-loop bytes from count₀ i₀ count i = Counting bytes from count i
+
+abbrev μ-loop : tie.MeasureT-loop
+μ-loop bytes from count₀ i₀ count i = length bytes - i
+
+-- the places: at the loop, and once a word is read that is good
+abbrev at-loop : tie.After-word-at Inv-loop μ-loop → tie.At-loop Inv-loop μ-loop
+at-loop c = c .before .before
+
+good : (e : tie.Else1 Inv-loop μ-loop) → e .before .before .word-at .result .good ≡ true
+good e = not-false _ (e .if1 .left)
+
+returns : tie.Need-returns Inv-loop μ-loop
+returns c =
+    let w = c .before .before .before in
+    first-no-word _ _ _ (c .no-line .ensures) (at-loop w .loop .inv) (w .word-at .ensures) (not-true _ (c .before .if1 .taken))
+
+returns-2 : tie.Need-returns-2 Inv-loop μ-loop
+returns-2 c =
+    let last = c .before in
+    let e = last .before in
+    let w = e .before .before in
+    first-last (at-loop w .loop .inv) (w .word-at .ensures) (good e) (last .if2 .taken) (c .formed .ensures)
+
+returns-3 : tie.Need-returns-3 Inv-loop μ-loop
+returns-3 c =
+    let e = c .before .before .before in
+    let w = e .before .before in
+    first-eighth _ _ _ (c .no-line2 .ensures) (at-loop w .loop .inv) (w .word-at .ensures) (good e) (omega arith)
+
+loop-less : tie.Need-loop-less Inv-loop μ-loop
+loop-less c = let e = c .before .before in omega (arith, e .before .before .word-at .ensures .on (good e))
+
+loop-again : tie.Need-loop-again Inv-loop μ-loop
+loop-again c =
+    let more = c .before in
+    let e = more .before in
+    let w = e .before .before in
+    counting-more (at-loop w .loop .inv) (w .word-at .ensures) (good e) (more .if2 .left) (omega arith)
+
+pub first-line-spec : {M : Type 1} → statement M
+first-line-spec =
+    tie.close
+    (tie.spec
+    Inv-loop
+    μ-loop
+    (λ c. counting _ _ (c .before .pre))
+    (λ c κs. search needs)
+    (λ c κs. search needs)
+    returns
+    (λ c. omega (arith, at-loop (c .before .before) .loop .inv .few))
+    (λ c κs. search needs)
+    returns-2
+    (λ c κs. search needs)
+    returns-3
+    loop-less
+    loop-again
+    (λ c κs. search needs)
+    (λ c. first-unended _ _ _ (c .no-line3 .ensures) (c .before .before .loop .inv) (omega arith)))
