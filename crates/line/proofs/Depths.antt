@@ -27,7 +27,7 @@ use Rattle.line.specs.declared.Word.{Word}
 use Rattle.line.specs.declared.depth.First.{First}
 use Rattle.line.specs.Reading.{Worded}
 use Rattle.line.specs.Depths.{FirstLine}
-use Rattle.line.proofs.Laws.{Scanning, scanning, scanned-none, scanned-bad, scanned-last, scanning-more, scanned-eighth, beyond-asks-nothing}
+use Rattle.line.proofs.Laws.{Scanning, scanning, scanned-none, scanned-bad, scanned-last, scanning-more}
 
 positive : (n : ℕ) → (n ≡ 0 → ⊥) → 1 ≤ n
 positive zero h = absurd (h refl)
@@ -80,7 +80,8 @@ pub record Counting (bytes : List ℕ) (from count i : ℕ) : Type 0 where
   pub numbers : List ℕ
   pub scanning : Scanning bytes from numbers i
   pub many : length numbers ≡ count
-  pub few : count ≤ 7
+  -- each has a byte at least
+  pub few : count ≤ i
 
 pub counting : (bytes : List ℕ) (from : ℕ) → from ≤ length bytes → Counting bytes from 0 from
 counting bytes from h = record { numbers = []; scanning = scanning bytes from h; many = refl; few = omega arith }
@@ -101,9 +102,6 @@ module _ (bytes : List ℕ) (from : ℕ) (f : First) (z : f .given ≡ 0) where
     pub first-no-word : w .good ≡ false → FirstLine bytes from f
     first-no-word b = none-first (scanned-bad (g .scanning) W b)
 
-    pub first-eighth : w .good ≡ true → 7 < count + 1 → FirstLine bytes from f
-    first-eighth t h = first-bad (first-none (drop from bytes) (beyond-asks-nothing (drop from bytes) (scanned-eighth (g .scanning) W t (g .many ∙ omega (arith, g .few)))))
-
 -- one number more, the last or one with others after it
 module _ {bytes : List ℕ} {from count i : ℕ} {w : Word} (g : Counting bytes from count i) (W : Worded bytes i w) (t : w .good ≡ true) where
   one-more : length (g .numbers ++ w .value ∷ []) ≡ count + 1
@@ -121,8 +119,8 @@ module _ {bytes : List ℕ} {from count i : ℕ} {w : Word} (g : Counting bytes 
         ended = λ _. (z .1, omega (arith, g .scanning .past, W .on t .0), W .on t .1);
       }
 
-  pub counting-more : w .last ≡ false → count + 1 ≤ 7 → Counting bytes from (count + 1) (w .next)
-  counting-more l h = record { numbers = g .numbers ++ w .value ∷ []; scanning = scanning-more (g .scanning) W t l; many = one-more; few = h }
+  pub counting-more : w .last ≡ false → Counting bytes from (count + 1) (w .next)
+  counting-more l = record { numbers = g .numbers ++ w .value ∷ []; scanning = scanning-more (g .scanning) W t l; many = one-more; few = omega (arith, g .few, W .on t .0) }
 
 -- how many numbers a line by itself has
 module _ {line : List ℕ} {f : First} (F : FirstLine line 0 f) where

@@ -64,9 +64,6 @@ pub fn first_line(bytes: &[u8], from: usize) -> First
                 end: w.next,
             };
         }
-        if 7 < count {
-            return no_line();
-        }
         i = w.next;
     }
     no_line()

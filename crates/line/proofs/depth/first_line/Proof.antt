@@ -1,4 +1,4 @@
--- `line::depth::first_line` meets its contract. The loop's invariant: `Counting`, so many numbers are read, seven at most. Assumes nothing.
+-- `line::depth::first_line` meets its contract. The loop's invariant: `Counting`, so many numbers are read. Assumes nothing.
 use Prim.Native.Nat.{_-_}
 use mathlib.Core.Path.{_≡_}
 use mathlib.Core.Bool.{true}
@@ -6,7 +6,7 @@ use borrow.Author.Needs.{needs}
 use borrow.Author.Tests.{not-true, not-false}
 use native.Mathlib.Omega.{arith}
 use lib.ListN.{length}
-use Rattle.line.proofs.Depths.{Counting, counting, counting-more, first-unended, first-no-word, first-eighth, first-last}
+use Rattle.line.proofs.Depths.{Counting, counting, counting-more, first-unended, first-no-word, first-last}
 use Rattle.line.proofs.depth.first_line.Statement.{statement}
 use Rattle.line.proofs.depth.first_line.Tie as tie
 
@@ -35,21 +35,14 @@ returns-2 c =
     let w = e .before .before in
     first-last (at-loop w .loop .inv) (w .word-at .ensures) (good e) (last .if2 .taken) (c .formed .ensures)
 
-returns-3 : tie.Need-returns-3 Inv-loop μ-loop
-returns-3 c =
-    let e = c .before .before .before in
-    let w = e .before .before in
-    first-eighth _ _ _ (c .no-line2 .ensures) (at-loop w .loop .inv) (w .word-at .ensures) (good e) (omega arith)
-
 loop-less : tie.Need-loop-less Inv-loop μ-loop
-loop-less c = let e = c .before .before in omega (arith, e .before .before .word-at .ensures .on (good e))
+loop-less c = let e = c .before in omega (arith, e .before .before .word-at .ensures .on (good e))
 
 loop-again : tie.Need-loop-again Inv-loop μ-loop
 loop-again c =
-    let more = c .before in
-    let e = more .before in
+    let e = c .before in
     let w = e .before .before in
-    counting-more (at-loop w .loop .inv) (w .word-at .ensures) (good e) (more .if2 .left) (omega arith)
+    counting-more (at-loop w .loop .inv) (w .word-at .ensures) (good e) (c .if2 .left)
 
 pub first-line-spec : {M : Type 1} → statement M
 first-line-spec =
@@ -61,12 +54,10 @@ first-line-spec =
     (λ c κs. search needs)
     (λ c κs. search needs)
     returns
-    (λ c. omega (arith, at-loop (c .before .before) .loop .inv .few))
+    (λ c. omega (arith, at-loop (c .before .before) .loop .inv .few, at-loop (c .before .before) .loop .inv .scanning .most))
     (λ c κs. search needs)
     returns-2
-    (λ c κs. search needs)
-    returns-3
     loop-less
     loop-again
     (λ c κs. search needs)
-    (λ c. first-unended _ _ _ (c .no-line3 .ensures) (c .before .before .loop .inv) (omega arith)))
+    (λ c. first-unended _ _ _ (c .no-line2 .ensures) (c .before .before .loop .inv) (omega arith)))
