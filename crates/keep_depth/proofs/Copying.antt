@@ -14,7 +14,7 @@ use Rattle.model.specs.FloorText.{LF}
 use Rattle.model.specs.Line.{afterLine}
 use Rattle.model.specs.KeepDepth.{numbersFirst, numbersGiven, withOldDepth, Unended, linesOf, Copied, ahead, copyLines}
 use Rattle.model.proofs.Accepted.{never}
-use Rattle.model.proofs.Converted.{Ended, ended, Parted, no-end, at-end, parted, after-line, line-first, given-first, first-unended, form-judges}
+use Rattle.model.proofs.LineForm.{Ended, ended, Parted, no-end, at-end, parted, after-line, line-first, given-first, first-unended, form-judges}
 use Rattle.model.proofs.Parts.{rest}
 use Rattle.line.proofs.Depths.{two-long, others-long}
 use Rattle.model.proofs.CopiedLines.{stopped, line-goes, line-stops}

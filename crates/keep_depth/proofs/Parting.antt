@@ -22,7 +22,7 @@ use Rattle.keep_depth.specs.declared.Step.{Step}
 use Rattle.keep_depth.specs.declared.End.{End}
 use Rattle.keep_depth.specs.declared.End.the-variants as E
 use Rattle.keep_depth.specs.Lines.{Fits, Copies}
-use Rattle.keep_depth.specs.Parts.{Room, Stepped, Taken, Told, Ended}
+use Rattle.keep_depth.specs.Parts.{keptRoom, mostParts, Room, Stepped, Taken, Told, Ended}
 use Rattle.keep_depth.proofs.Copying.{ahead-ahead, ahead-stopped}
 
 -- ---- a part behind what is held
@@ -48,7 +48,7 @@ module _ {kept : List ℕ} {held : ℕ} {part : List ℕ} {line : ℕ} {out kept
     pub done-within : c .done ≤ n
     done-within = omega (arith, C .within, bytes-long)
 
-    counted : c .line ≤ line + 65592
+    counted : c .line ≤ line + keptRoom
     counted = omega (arith, C .counted, done-within, W .next, R .piece, R .few)
 
     -- the next line is malformed, whatever follows
@@ -95,11 +95,11 @@ module _ {kept : List ℕ} {held : ℕ} {part : List ℕ} {line : ℕ} {out kept
 pub record Reading (kept : List ℕ) (held line turns : ℕ) : Type 0 where
   pub few : held < longestLine
   pub unended : Unended (take held kept)
-  pub counted : line ≤ 1 + 65592 * (140737488355328 - turns)
-  pub most : turns ≤ 140737488355328
+  pub counted : line ≤ 1 + keptRoom * (mostParts - turns)
+  pub most : turns ≤ mostParts
   pub taken : Taken kept held line
 
-pub reading : (kept : List ℕ) → Reading kept 0 1 140737488355328
+pub reading : (kept : List ℕ) → Reading kept 0 1 mostParts
 unfolding keepDepth
 reading kept = record { few = omega arith; unended = λ k h e. omega arith; counted = omega arith; most = omega arith; taken = ([], [], λ rest. refl) }
 

@@ -9,10 +9,10 @@ use Rattle.model.specs.Basics.{refuseAt}
 use Rattle.model.specs.KeepDepth.{Unended, linesOf, ahead, copyLines}
 use Rattle.keep_depth.specs.declared.lines.Reach.{Reach}
 
--- Room for all of a part's lines, and numbers for them and for their bytes: a line has one byte at least and gets two more at most.
+-- Room for all of a part's lines, and numbers for them: a line has one byte at least and gets two more at most.
 pub record Fits (bytes : List ℕ) (first : ℕ) (out : List ℕ) : Type 0 where
-  pub room : 3 * length bytes + 2 ≤ length out
-  pub counted : first + 3 * length bytes < 18446744073709551616
+  pub room : 3 * length bytes ≤ length out
+  pub counted : first + length bytes < 18446744073709551616
 
 -- whether an LF stands from a place on
 pub record HasEnd (bytes : List ℕ) (from : ℕ) (r : Bool) : Type 0 where

@@ -1,5 +1,5 @@
 -- What copying a list of lines promises, part by part: what is held of an unfinished line, and what is told of all that was read.
-use Prim.Native.Nat.{ℕ, _+_, _≤_, _<_}
+use Prim.Native.Nat.{ℕ, _+_, _*_, _≤_, _<_}
 use mathlib.Core.Path.{_≡_}
 use mathlib.Core.Bool.{true, false}
 use mathlib.Core.List.{List, _++_}
@@ -13,20 +13,34 @@ use Rattle.keep_depth.specs.declared.Step.{Step}
 use Rattle.keep_depth.specs.declared.End.{End}
 use Rattle.keep_depth.specs.declared.End.the-variants as E
 
+-- So many bytes are read at once. They stand behind what is held of a line, and what is written of all these may be three times as long.
+abbrev pub atOnce : ℕ
+atOnce = 65536
+
+abbrev pub keptRoom : ℕ
+keptRoom = longestLine + atOnce
+
+abbrev pub copiesRoom : ℕ
+copiesRoom = 3 * keptRoom
+
+-- more parts than any input has, and few enough that their lines can be counted
+abbrev pub mostParts : ℕ
+mostParts = 140737488355328
+
 -- the lists that the program works on, what is held in the first of them, and numbers enough for the lines of a part
 pub record Room (kept : List ℕ) (held : ℕ) (part : List ℕ) (line : ℕ) (out : List ℕ) : Type 0 where
-  pub list : length kept ≡ 65592
-  pub piece : length part ≤ 65536
-  pub copies : length out ≡ 196800
+  pub list : length kept ≡ keptRoom
+  pub piece : length part ≤ atOnce
+  pub copies : length out ≡ copiesRoom
   pub few : held < longestLine
-  pub counted : line + 196800 < 18446744073709551616
+  pub counted : line + keptRoom < 18446744073709551616
 
 -- what came of one part more, behind what was held
 pub record Stepped (kept : List ℕ) (held : ℕ) (part : List ℕ) (line : ℕ) (s : Step) (kept′ out′ : List ℕ) : Type 0 where
   -- what is held, what is written and how many lines are counted
   pub few : s .held < longestLine
   pub room : s .wrote ≤ length out′
-  pub counted : s .line ≤ line + 65592
+  pub counted : s .line ≤ line + keptRoom
   -- up to a line that has no LF yet, or up to a malformed one, as of a part's lines
   pub goes : s .stops ≡ false → Unended (take (s .held) kept′)
       × ((rest : List ℕ) → copyLines line (linesOf (take held kept ++ (part ++ rest))) ≡ ahead (take (s .wrote) out′) (copyLines (s .line) (linesOf (take (s .held) kept′ ++ rest))))

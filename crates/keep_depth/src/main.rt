@@ -8,7 +8,7 @@ ghost use mathlib.Core.Path.{_≡_};
 ghost use mathlib.Core.Bool.{true};
 ghost use Prim.Native.Nat.{_≤_};
 ghost use lib.ListN.{length};
-ghost use Rattle.keep_depth.specs.Parts.{Room, Stepped, Ended};
+ghost use Rattle.keep_depth.specs.Parts.{atOnce, keptRoom, copiesRoom, Room, Stepped, Ended};
 use learner::Place;
 use learner::Refusal;
 use libc::STDIN_FILENO;
@@ -95,7 +95,7 @@ fn at_end(held: usize, line: usize) -> End
 
 // Copies standard input to its end. A loop has to end and nothing says that an input does, so the turns are counted down from a number that no input uses up.
 fn copy_all(kept: &mut [u8], part: &mut [u8], out: &mut [u8]) -> End
-    requires { ⌜ (length (now kept) ≡ 65592) × (length (now part) ≡ 65536) × (length (now out) ≡ 196800) ⌝ }
+    requires { ⌜ (length (now kept) ≡ keptRoom) × (length (now part) ≡ atOnce) × (length (now out) ≡ copiesRoom) ⌝ }
     ensures { λ r. ⌜ Ended r ⌝ }
 {
     let mut held = 0;

@@ -10,8 +10,8 @@ pub fn kept() -> [u8; 65592]
 }
 
 // What is written of these: a line has one byte at least and gets two more at most.
-pub fn copies() -> [u8; 196800]
-    ensures { λ r. ⌜ 196800 ≡ length r ⌝ }
+pub fn copies() -> [u8; 196776]
+    ensures { λ r. ⌜ 196776 ≡ length r ⌝ }
 {
-    [0; 196800]
+    [0; 196776]
 }

@@ -8,7 +8,7 @@ use native.Mathlib.Omega.{arith}
 use mathlib.Core.Bool.{true, false}
 use mathlib.Core.Logic.{_⊎_, inl, inr, ⊎-elim}
 use borrow.Author.Tests.{le-leb, lt-leb, eq-eqb, ne-eqb}
-use mathlib.Core.Option.{Option, none, some}
+use mathlib.Core.Option.{none}
 use lib.Dec.{eqb, leb}
 use lib.ListN.{length, take, drop, length-append, length-drop}
 use lib.Seq.{length-take-le, sets-eq}
@@ -16,10 +16,10 @@ use Rattle.answers.specs.declared.Place.the-variants as P
 use Rattle.answers.specs.declared.Verdict.the-variants as Vd
 use Rattle.model.specs.Basics.{choose, refuseAt}
 use Rattle.model.specs.Line.{numbersIn, afterLine, readLineBy, defaultDepth, settingsOf, decimalIn}
-use Rattle.model.specs.KeepDepth.{isAsked, numbersFirst, numbersGiven, withOldDepth, depthVerdict}
+use Rattle.model.specs.KeepDepth.{isAsked, givenOf, numbersFirst, numbersGiven, withOldDepth, depthVerdict}
 use Rattle.model.proofs.Accepted.{then-refused, then-next, same-told, le-tells}
 use Rattle.model.proofs.Cut.{asksOf}
-use Rattle.model.proofs.Converted.{first-none, given-none, given-left, form-judges, formed-ended}
+use Rattle.model.proofs.LineForm.{first-none, given-none, given-left, form-judges, formed-ended}
 use Rattle.model.proofs.Writings.{room-judges}
 use Rattle.notation.specs.Printing.{Printed}
 use Rattle.notation.proofs.Decimals.{printed-then}
@@ -115,7 +115,7 @@ module _ {bytes : List ℕ} {from count i : ℕ} {w : Word} (g : Counting bytes 
       let all : List ℕ = g .numbers ++ w .value ∷ [] in
       record {
         count = f all one-more ∙ ap (λ (k : ℕ). choose (isAsked (settingsOf all)) k 0) (sym one-more)
-            ∙ sym (ap (λ (o : Option (List ℕ)). elim o [ none ↦ 0 | some ns ↦ choose (isAsked (settingsOf ns)) (length ns) 0 ]) (z .0));
+            ∙ sym (ap givenOf (z .0));
         ended = λ _. (z .1, omega (arith, g .scanning .past, W .on t .0), W .on t .1);
       }
 

@@ -14,7 +14,8 @@ use Rattle.model.specs.Basics.{refuseAt}
 use Rattle.model.specs.FloorText.{LF}
 use Rattle.model.specs.KeepDepth.{lineForm, withOldDepth, inFront, linesOf, Unended, Copied, ahead, copyLines, longestLine, keepDepth}
 use Rattle.model.proofs.Accepted.{not-refused}
-use Rattle.model.proofs.Converted.{unended-tail, unended-append, head-is, Ended, Parted, no-end, at-end, parted, converted-ended, form-judges, formed-ended, unended-is-malformed, long-is-malformed}
+use Rattle.model.proofs.LineForm.{unended-tail, unended-append, head-is, Ended, Parted, no-end, at-end, parted, form-judges, formed-ended, unended-is-malformed, long-is-malformed}
+use Rattle.model.proofs.Converted.{converted-ended}
 
 -- ---- the lines of a text
 

@@ -54,6 +54,7 @@ pub mod FloorRoundTrip
 -- The program `aisle`: which of its input's bytes decide, and what its trial lines tell.
 pub mod Cut
 pub mod Printed
--- Document 02 on the default depth: a line with its depth prints what it printed before; lists of lines, one for one.
+-- Document 02 on the default depth: the form of a line; a line with its depth prints what it printed before; lists of lines, one for one.
+pub mod LineForm
 pub mod Converted
 pub mod CopiedLines

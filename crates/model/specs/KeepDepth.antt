@@ -19,13 +19,18 @@ use Rattle.model.specs.Writing.{fileRoom, WriteOutcome, writeOf}
 abbrev pub oldDepth : ℕ
 oldDepth = 1
 
--- How many numbers the line at the front of an input has, by `aisle`'s own rule of form; 0 where it is malformed. No range is judged
+-- How many numbers a line has, by `aisle`'s own rule of form; 0 where it is malformed. No range is judged
 abbrev pub isAsked : Option Settings → Bool
 isAsked none = false
 isAsked (some s) = true
 
+abbrev pub givenOf : Option (List ℕ) → ℕ
+givenOf none = 0
+givenOf (some ns) = choose (isAsked (settingsOf ns)) (length ns) 0
+
+-- the line at the front of an input,
 unfoldable pub numbersFirst : List ℕ → ℕ
-numbersFirst input = elim (numbersIn 0 0 input) [ none ↦ 0 | some ns ↦ choose (isAsked (settingsOf ns)) (length ns) 0 ]
+numbersFirst input = givenOf (numbersIn 0 0 input)
 
 -- and a line by itself, whose LF is its last byte
 unfoldable pub numbersGiven : List ℕ → ℕ

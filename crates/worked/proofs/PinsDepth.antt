@@ -9,7 +9,7 @@ use Rattle.answers.specs.declared.Verdict.{Verdict}
 use Rattle.answers.specs.declared.Verdict.the-variants as Vd
 use Rattle.answers.specs.declared.Written.the-variants as Wr
 use Rattle.model.specs.Line.{aisleBy, aisle}
-use Rattle.model.specs.KeepDepth.{oldDepth, lineForm, withOldDepth, withDepth, linesOf, keepDepth}
+use Rattle.model.specs.KeepDepth.{oldDepth, lineForm, withOldDepth, withDepth, linesOf, longestLine, keepDepth}
 use Rattle.model.specs.Compute.{compute}
 use Rattle.worked.proofs.Hall.{hallText, no}
 use Rattle.worked.proofs.Text.{bytes, times}
@@ -27,6 +27,10 @@ stayed line = (Vd.Done, bytes line)
 
 abbrev Malformed : List String → Type 0
 Malformed lines = map (λ line. lineForm (bytes line)) lines ≡ map (λ line. no 3 P.Nowhere) lines
+
+-- seven numbers of seven digits
+abbrev sevens : String
+sevens = "1234567 0000000 7654321 9999999 1000000 0000001 9876543\n"
 
 -- written into so many places of 5, and refused, which leaves them
 abbrev Written : (line : String) → (room : ℕ) → (new : String) → Type 0
@@ -50,6 +54,8 @@ pub record PinsDepth : Type 0 where
   -- a line that gives a depth is copied byte for byte, whatever its settings
   pub given : map stays ("6 5 4\n" ∷ "6 5 4 3 2\n" ∷ "6 5 4 3 2 1\n" ∷ "6 5 4 3 2 1 7\n" ∷ []) ≡ map stayed ("6 5 4\n" ∷ "6 5 4 3 2\n" ∷ "6 5 4 3 2 1\n" ∷ "6 5 4 3 2 1 7\n" ∷ [])
   pub out-of-range : map stays ("6 5 0\n" ∷ "6 5 009\n" ∷ "6 5 1 3 2 9999999 0\n" ∷ []) ≡ map stayed ("6 5 0\n" ∷ "6 5 009\n" ∷ "6 5 1 3 2 9999999 0\n" ∷ [])
+  -- the longest line
+  pub longest : (stays sevens ≡ stayed sevens) × (length (bytes sevens) ≡ longestLine)
   -- 3: by `aisle`'s own rule of form
   pub counts : Malformed ("\n" ∷ "6\n" ∷ "6 5 4 3\n" ∷ "6 5 4 3 2 1 7 8\n" ∷ "6 5 4 3 2 1 7 8 9\n" ∷ [])
   pub eight-digits : Malformed ("00000006 0\n" ∷ "6 12345678\n" ∷ [])
@@ -93,6 +99,7 @@ pinsDepth = record {
   digits = (refl, refl);
   given = refl;
   out-of-range = refl;
+  longest = (refl, refl);
   counts = refl;
   eight-digits = refl;
   spaces = refl;

@@ -24,16 +24,16 @@ prints line text = aisle (bytes line ++ bytes text)
 
 pub record PinsLine : Type 0 where
   -- `start goal depth p q quota trials`, LF at the end
-  pub whole : says "6 5 4 3 2 1 7\n" ≡ asked 6 5 4 3 2 1 7
+  pub whole : says "6 5 8 3 2 1 7\n" ≡ asked 6 5 8 3 2 1 7
   -- The line may stop after goal, depth, q or quota; left out they are depth 4, weight 1/1, quota 1,000,000, trials 10
   pub to-goal : says "6 5\n" ≡ asked 6 5 4 1 1 1000000 10
   pub to-depth : says "6 5 2\n" ≡ asked 6 5 2 1 1 1000000 10
-  pub to-q : says "6 5 4 3 2\n" ≡ asked 6 5 4 3 2 1000000 10
-  pub to-quota : says "6 5 4 3 2 1\n" ≡ asked 6 5 4 3 2 1 10
+  pub to-q : says "6 5 8 3 2\n" ≡ asked 6 5 8 3 2 1000000 10
+  pub to-quota : says "6 5 8 3 2 1\n" ≡ asked 6 5 8 3 2 1 10
   pub other-counts : map says ("\n" ∷ "6\n" ∷ "6 5 4 3\n" ∷ "6 5 4 3 2 1 7 8\n" ∷ "6 5 4 3 2 1 7 8 9\n" ∷ []) ≡ replicate 5 none
   -- Single spaces, 1 to 7 digits each, zeros in front change nothing
   pub digits : says "1234567 9876543\n" ≡ asked 1234567 9876543 4 1 1 1000000 10
-  pub zeros : says "0000006 05 004\n" ≡ asked 6 5 4 1 1 1000000 10
+  pub zeros : says "0000006 05 003\n" ≡ asked 6 5 3 1 1 1000000 10
   pub eight-digits : map says ("00000006 0\n" ∷ "6 12345678\n" ∷ []) ≡ replicate 2 none
   pub spaces : map says (" 6 0\n" ∷ "6  0\n" ∷ "6 0 \n" ∷ "6\t0\n" ∷ []) ≡ replicate 4 none
   pub letters : map says ("6 x\n" ∷ "6 0/\n" ∷ "6 0:\n" ∷ "-6 0\n" ∷ "6 0\r\n" ∷ "6 0\t\n" ∷ []) ≡ replicate 6 none

@@ -2,7 +2,7 @@
 use native.Mathlib.Omega.{arith}
 use mathlib.Core.Path.{ap}
 use Prim.Native.Nat.{_≤_}
-use Rattle.line.proofs.Laws.{bad-word, word-long, word-out, word-none, word-other, word-last, word-more}
+use Rattle.line.proofs.Words.{bad-word, word-long, word-out, word-none, word-other, word-last, word-more}
 use borrow.Author.Needs.{needs}
 use Rattle.line.proofs.word_at.Statement.{statement}
 use Rattle.line.proofs.word_at.Tie as tie
