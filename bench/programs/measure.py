@@ -1,7 +1,7 @@
-"""Times the proved programs beside the second program, by turns on the same jobs: `run` through `calls`, and the whole of `aisle` and of `renew`."""
+"""Times the proved programs beside the second program, by turns on the same jobs: `run` through `calls`, and the whole of `aisle`, `renew` and `keep_depth`."""
 import statistics, subprocess, sys, time
 
-calls, aisle, renew, second = sys.argv[1:]
+calls, aisle, renew, keep_depth, second = sys.argv[1:]
 
 
 def told(command, given):
@@ -37,3 +37,8 @@ records = b''.join(cell.to_bytes(2, 'big') + (9000 + cell).to_bytes(4, 'big') fo
 trailer = bytes([64, 64, 15, 255, 16, 1, 16, 0]) + (16 + len(records)).to_bytes(4, 'big') + b'PDLT'
 _, r = compared([renew], [second, 'renew'], bytes(range(256)) * 390625 + records + trailer)
 print(f'renew, 100 MB: proved {r[0] * 1000:.0f} ms, plain {r[1] * 1000:.0f} ms, ratio {r[1] / r[0]:.2f}')
+
+# Lines of two to seven numbers, 100 MB of them, through a pipe.
+lines = b''.join(b' '.join(b'%d' % (7919 * (i + k) % 4096) for k in range((2, 2, 3, 5, 6, 7)[i % 6])) + b'\n' for i in range(6000))
+_, r = compared([keep_depth], [second, 'keep_depth'], lines * (100000000 // len(lines)))
+print(f'keep_depth, 100 MB: proved {r[0] * 1000:.0f} ms, plain {r[1] * 1000:.0f} ms, ratio {r[1] / r[0]:.2f}')

@@ -30,6 +30,7 @@ extern "C" {
         table: *const u32, table_len: usize, buffer: *mut u8, buffer_len: usize,
     ) -> usize;
     fn probe_renew(file: *const u8, file_len: usize, buffer: *mut u8, buffer_len: usize) -> usize;
+    fn probe_depth(line: *const u8, line_len: usize, buffer: *mut u8, buffer_len: usize) -> usize;
     fn probe_find(file: *const u8, file_len: usize) -> usize;
     fn probe_trailer(file: *const u8, file_len: usize) -> usize;
 
@@ -200,6 +201,15 @@ fn renew_file(map: &Map) -> usize {
     renewed(&first).max(renewed(&second))
 }
 
+// A line of two numbers, into which its depth is written, or of seven, which is copied; both as long as they can be.
+fn with_depth() -> usize {
+    let two = b"0001234 0000567\n";
+    let seven = b"0001234 0000567 0000004 0000001 0000002 1000000 0001000\n";
+    let mut buffer = [0; 64];
+    let mut made = |line: &[u8], length| need(|| assert!(unsafe { probe_depth(line.as_ptr(), line.len(), buffer.as_mut_ptr(), buffer.len()) } == length));
+    made(two, two.len() + 2).max(made(seven, seven.len()))
+}
+
 fn main() {
     let bare = map(|_, _| false);
     let snake = map(|x, y| y % 2 == 1 && x != if y % 4 == 1 { SIDE - 1 } else { 0 });
@@ -220,6 +230,7 @@ fn main() {
         ("write_table", write_table(&bare)),
         ("read_table", read_table(&bare)),
         ("renew_file", renew_file(&bare)),
+        ("with_depth", with_depth()),
         ("find_records", need(|| assert!(unsafe { probe_find(whole.as_ptr(), whole.len()) } == 6 * CELLS))),
         ("check_trailer", need(|| assert!(unsafe { probe_trailer(whole.as_ptr(), whole.len()) } == 0))),
         ("fill_opening", most(&fill)),

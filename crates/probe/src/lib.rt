@@ -217,6 +217,15 @@ pub extern "C" fn probe_renew(file: &[u8], buffer: &mut [u8]) -> usize {
     }
 }
 
+// The length of a line with its depth; 0 where it is refused.
+#[no_mangle]
+pub extern "C" fn probe_depth(line: &[u8], buffer: &mut [u8]) -> usize {
+    match line::with_depth(line, buffer) {
+        Written::Length(n) => n,
+        Written::Refused(_) => 0,
+    }
+}
+
 // How many bytes of a table file are records.
 #[no_mangle]
 pub extern "C" fn probe_find(file: &[u8]) -> usize {
