@@ -139,7 +139,7 @@ impl Draft {
             2 => {
                 let mut bytes = self.bytes();
                 let length = dice.pick(&[self.trailer_length(), 4, 12]);
-                bytes.drain(..bytes.len() - length);
+                bytes.drain(..bytes.len().saturating_sub(length));
                 bytes
             }
             // As many bytes as make a record, or as the trailers differ by.
