@@ -7,6 +7,7 @@ use second::make::jobs::Kit;
 use second::make::{self, Program, PROGRAMS};
 use second::output::Output;
 use second::promises;
+use second::third;
 use second::timing::time_aisle;
 use std::io::{Read, Write};
 use std::process::ExitCode;
@@ -19,6 +20,7 @@ const USAGE: &str = "usage:
   second make PROGRAM SEED            the generated input of a seed for one of these four
   second compare [--aisle PATH] [--calls PATH] [--renew PATH] [--keep_depth PATH] --from A --count N [--seconds S] [--need-all]
   second promises --from A --count N
+  second third --depth D [--opening] --from A --count N
   second time run KIND WIDTH HEIGHT SEED TRIALS DEPTH [P Q QUOTA] [--as-aisle | --as-calls]
   second time open KIND WIDTH HEIGHT SEED
   second time aisle FILE..
@@ -31,6 +33,7 @@ fn main() -> ExitCode {
         ["make", program, seed] => make_input(program, seed),
         ["compare", rest @ ..] => compare_by(rest),
         ["promises", rest @ ..] => check_promises(rest),
+        ["third", rest @ ..] => count_third(rest),
         ["time", "run", rest @ ..] => time_run(rest),
         ["time", "open", rest @ ..] => time_open(rest),
         ["time", "aisle", files @ ..] => time_files(files),
@@ -121,6 +124,13 @@ fn check_promises(words: &[&str]) -> Option<bool> {
     Some(true)
 }
 
+fn count_third(words: &[&str]) -> Option<bool> {
+    let depth = number_option(words, "--depth")?.filter(|depth| (1..=8).contains(depth))?;
+    let from = number_option(words, "--from")?.unwrap_or(0);
+    let count = number_option(words, "--count")?.unwrap_or(1_000);
+    print_bytes(third::count(depth, words.contains(&"--opening"), from, count).as_bytes())
+}
+
 /// A job to time, by the words KIND WIDTH HEIGHT SEED.
 fn bench(kind: &str, width: &str, height: &str, seed: &str) -> Option<Kit> {
     let kind = KINDS.iter().find(|(name, _)| *name == kind)?.1;
@@ -143,7 +153,7 @@ fn time_run(words: &[&str]) -> Option<bool> {
         return print_bytes(&bench.as_aisle());
     }
     if words.contains(&"--as-calls") {
-        return print_bytes(bench.as_calls().as_bytes());
+        return print_bytes(bench.as_calls(&bench.opening_table()).as_bytes());
     }
     println!("{}", bench.time_run());
     Some(true)

@@ -1,5 +1,5 @@
 //! The self-check of demand 3: its promises of figures, decisions, kept cost and travel, tried on random jobs of one goal
-//! and of several; and what is promised of distances, of goals that close, and of table files and their renewal.
+//! and of several; and what is promised of settling, of distances, of goals that close, and of table files and their renewal.
 
 use crate::checks::{Goals, Job};
 use crate::decision::{decide, Answer, State};
@@ -10,11 +10,12 @@ use crate::make::files::Draft;
 use crate::make::jobs::{self, Kit};
 use crate::opening::{self, distances, NO_WAY};
 use crate::refusal::Refusal;
+use crate::settling::{self, left_to_learn};
 use crate::table_file;
 use crate::trial::{Cart, Counts};
 
 /// A trial that takes longer than this in a self-check is passed over; it says nothing against the promise.
-const MOST_DECISIONS: u64 = 20_000;
+pub const MOST_DECISIONS: u64 = 20_000;
 
 /// Tries the seeds; answers how many jobs were accepted, or what went wrong first.
 pub fn check_seeds(from: u64, count: u64) -> Result<u64, String> {
@@ -32,7 +33,7 @@ pub fn check_seeds(from: u64, count: u64) -> Result<u64, String> {
     Ok(accepted)
 }
 
-fn holds(promise: bool, words: &str) -> Result<(), String> {
+pub fn holds(promise: bool, words: &str) -> Result<(), String> {
     if promise {
         Ok(())
     } else {
@@ -54,16 +55,15 @@ pub fn check_job(kit: &Kit) -> Result<(), String> {
             break;
         }
     }
-    check_closing(kit, &table)
+    check_closing(kit, &table)?;
+    settling::check(kit)
 }
 
 /// One trial; none when it was too long for a self-check.
 fn check_trial(kit: &Kit, job: &Job, table: &mut [u32], path: &mut [u16]) -> Result<Option<Counts>, String> {
-    let reaching: Vec<(usize, u32)> =
-        (0..kit.cells()).filter_map(|cell| Some((cell, kit.true_figure(cell)?))).collect();
-    let largest = reaching.iter().map(|&(_, figure)| u64::from(figure)).max().unwrap_or(0);
+    let largest = (0..kit.cells()).filter_map(|cell| kit.true_figure(cell)).max().map_or(0, u64::from);
     let k = u128::from(1 + largest / (10 * kit.p));
-    let r: u128 = reaching.iter().map(|&(cell, figure)| u128::from(figure - table[cell])).sum();
+    let r = left_to_learn(kit, table);
 
     // The trial once as a whole, and once decision by decision, which must be the same.
     let opened =

@@ -57,15 +57,15 @@ impl Kit {
         input
     }
 
-    /// The job as a run for `calls`.
-    pub fn as_calls(&self) -> String {
+    /// The job as a run for `calls`, from a table.
+    pub fn as_calls(&self, table: &[u32]) -> String {
         let Kit { width, height, start, goals, depth, p, q, quota, trials, .. } = self;
         let (goal, cells) = (goals[0], self.floor.len());
         let mut words =
             vec![format!("4 {width} {height} {start} 1 {goal} {depth} {p} {q} {quota} {trials} {cells}")];
         words.extend(self.floor.iter().map(u8::to_string));
         words.push(cells.to_string());
-        words.extend(self.opening_table().iter().map(u32::to_string));
+        words.extend(table.iter().map(u32::to_string));
         words.push(cells.to_string());
         words.extend(vec![String::from("0"); cells]);
         words.push(trials.to_string());

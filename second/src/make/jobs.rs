@@ -8,6 +8,7 @@ use crate::floor::{is_free_byte, Floor, SLOW};
 use crate::opening::{self, distances, NO_WAY};
 use crate::trial::Cart;
 
+#[derive(Clone)]
 pub struct Kit {
     pub width: usize,
     pub height: usize,
