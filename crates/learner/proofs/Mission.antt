@@ -53,7 +53,7 @@ pub record Accepted (j : Job) (bytes : List ℕ) (start : ℕ) (table path : Lis
 accepted-opens : {j : Job} {bytes : List ℕ} {start : ℕ} {table path : List ℕ} → Accepted j bytes start table path → openTrial j bytes start table path ≡ Vd.Done
 accepted-opens {j} {bytes} {start} {table} {path} a = accepted-trial j bytes start table path (record { opened = opened j bytes start table (a .opens); room = a .room })
 
-accepted-runs : {j : Job} {bytes : List ℕ} {start : ℕ} {table path : List ℕ} → Accepted j bytes start table path → (trials records : ℕ) → 1 ≤ trials → trials ≤ 1000 → trials ≤ records
+pub accepted-runs : {j : Job} {bytes : List ℕ} {start : ℕ} {table path : List ℕ} → Accepted j bytes start table path → (trials records : ℕ) → 1 ≤ trials → trials ≤ 1000 → trials ≤ records
     → openRun j bytes start table path trials records ≡ Vd.Done
 unfolding openTrial openRun
 accepted-runs {j} {bytes} {start} {table} {path} a trials records some few room =
@@ -165,7 +165,7 @@ course-keeps j bytes start (suc k) table path A = by (eqb (r .learned) 0) refl (
 pub run-keeps : (j : Job) (bytes : List ℕ) (start trials : ℕ) (table path : List ℕ) (lent : List Report) (n : ℕ) (settled : Bool) (t p : List ℕ) (reports : List Report)
     → IsRun (run j bytes start trials table path lent) (Rn.Made n settled) t p reports → RunKept j bytes start n table t lent reports
 run-keeps j bytes start trials table path lent n settled t p reports h =
-    let (accepted, count) = made-run-is-accepted j bytes start trials table path lent n settled (sym (ran-one (Rn.Made n settled) (run j bytes start trials table path lent .answer) (h .answer-is))) in
+    let (accepted, count, told) = made-run-is-accepted j bytes start trials table path lent n settled (sym (ran-one (Rn.Made n settled) (run j bytes start trials table path lent .answer) (h .answer-is))) in
     let c = courseFrom j bytes start trials table path in
     let rs = map (report j bytes) (c .rides) in
     let long : length rs ≡ n = length-map (c .rides) (report j bytes) ∙ count in

@@ -69,7 +69,7 @@ none-true : (b : Bool) (q v : ℕ) → pick b (q * pick b v 0) 0 ≡ q * pick b 
 none-true true q v = refl
 none-true false q v = omega arith
 
-R-is : (j : Job) (bytes table : List ℕ) → R j bytes table ≡ left (learningJob j bytes) table
+pub R-is : (j : Job) (bytes table : List ℕ) → R j bytes table ≡ left (learningJob j bytes) table
 unfolding R distOf
 R-is j bytes table = total-same (size (floorOf j bytes)) _ _ (λ x h. none-left (can j bytes x) (j .q) _ (getD table x 0))
 
@@ -120,14 +120,18 @@ run-is-made j bytes start trials table path reports e = ap (λ v. runOf v j byte
 pub made-run-is-accepted : (j : Job) (bytes : List ℕ) (start trials : ℕ) (table path : List ℕ) (reports : List Report) (n : ℕ) (b : Bool)
     → run j bytes start trials table path reports .answer ≡ Rn.Made n b
     → (openRun j bytes start table path trials (length reports) ≡ Vd.Done) × (length (courseFrom j bytes start trials table path .rides) ≡ n)
+    × (courseFrom j bytes start trials table path .settled ≡ b)
 unfolding runBy
 made-run-is-accepted j bytes start trials table path reports n b = by (openRun j bytes start table path trials (length reports))
   where
     c : Course
     c = courseFrom j bytes start trials table path
 
-    by : (v : Verdict) → runOf v j bytes c table path reports .answer ≡ Rn.Made n b → (v ≡ Vd.Done) × (length (c .rides) ≡ n)
-    by Vd.Done e = let f : length (c .rides) ≡ n = cc in (refl, f)
+    by : (v : Verdict) → runOf v j bytes c table path reports .answer ≡ Rn.Made n b → (v ≡ Vd.Done) × (length (c .rides) ≡ n) × (c .settled ≡ b)
+    by Vd.Done e =
+        let f : length (c .rides) ≡ n = cc in
+        let s : c .settled ≡ b = cc in
+        (refl, f, s)
     by (Vd.Refused q) e = let z : _≡_ {A = ℕ} 0 1 = cc in absurd (omega arith)
 
 -- each of its rides is an accepted trial

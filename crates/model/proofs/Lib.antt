@@ -24,6 +24,7 @@ pub mod Cases
 pub mod Steps
 pub mod Judged
 pub mod Rides
+pub mod Lent
 pub mod Tables
 -- A decision's moves drive the cart, and so do a trial's; the way kept is a walk.
 pub mod Driven
@@ -33,6 +34,8 @@ pub mod Chosen
 pub mod PlainFloors
 -- Demand 3 of the mission, sentence by sentence.
 pub mod Demand
+-- Document 02 on settling: how many training trips to plan.
+pub mod Settling
 -- Document 02 on corners: what a move needs free; learned tables stay sound.
 pub mod Corners
 -- Document 02 on several benches: where one closes, learned tables stay sound.

@@ -8,6 +8,7 @@ pub mod PinsRoutes
 pub mod PinsChecks
 pub mod PinsOpening
 pub mod PinsRide
+pub mod PinsSettling
 pub mod PinsTable
 pub mod PinsBenches
 pub mod PinsRenewal
@@ -16,6 +17,8 @@ pub mod PinsFloorWritten
 pub mod PinsLine
 pub mod PinsDepth
 pub mod PinsSays
+-- The paper's Theorem 7.8 fails at depth 2:
+pub mod ThirdTrial
 -- What they share:
 pub mod Hall
 pub mod Text
