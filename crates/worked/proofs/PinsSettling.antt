@@ -27,11 +27,10 @@ pub record PinsSettling : Type 0 where
   pub cheapest : distance (job 1 1 1 0) hall 6 ≡ 60
   -- with quota 0 the first trip learns all that there is, and the second is settled
   pub quota-0 : map (λ r. r .learned) (trips (job 1 1 1 0) hall 6 3 lent) ≡ 84 ∷ 0 ∷ 0 ∷ []
-  pub quota-0-learners : map (λ n. tripsThatLearn (job 1 1 1 0) hall 6 n lent) (0 ∷ 1 ∷ 2 ∷ 3 ∷ []) ≡ 0 ∷ 1 ∷ 1 ∷ 1 ∷ []
   -- with a quota that is never passed four trips learn, 84 together, and the fifth is settled
   pub no-quota : map (λ r. r .learned) (trips (job 1 1 1 1000) hall 6 6 lent) ≡ 40 ∷ 26 ∷ 12 ∷ 6 ∷ 0 ∷ 0 ∷ []
-  pub no-quota-learners : map (λ n. tripsThatLearn (job 1 1 1 1000) hall 6 n lent) (0 ∷ 1 ∷ 3 ∷ 4 ∷ 6 ∷ []) ≡ 0 ∷ 1 ∷ 3 ∷ 4 ∷ 4 ∷ []
-  pub no-quota-left : map (λ n. R (job 1 1 1 1000) hall (listsAfter (job 1 1 1 1000) hall 6 n lent .table)) (0 ∷ 1 ∷ 2 ∷ 4 ∷ []) ≡ 84 ∷ 44 ∷ 18 ∷ 0 ∷ []
+  pub no-quota-learners : map (λ n. tripsThatLearn (job 1 1 1 1000) hall 6 n lent) (0 ∷ 1 ∷ 3 ∷ 6 ∷ []) ≡ 0 ∷ 1 ∷ 3 ∷ 4 ∷ []
+  pub no-quota-left : map (λ r. R (job 1 1 1 1000) hall (r .table)) (trips (job 1 1 1 1000) hall 6 4 lent) ≡ 44 ∷ 18 ∷ 6 ∷ 0 ∷ []
   -- a row of which every figure is 1 too low: all R of its trips learn, and no fewer than R + 1 are enough
   pub all-of-R : R (rowJob 4 0 1 1000) (replicate 4 0) (0 ∷ 9 ∷ 19 ∷ 29 ∷ []) ≡ 3
   pub all-of-R-learn : map (λ r. r .learned) (trips (rowJob 4 0 1 1000) (replicate 4 0) 3 5 (record { table = 0 ∷ 9 ∷ 19 ∷ 29 ∷ []; path = fresh })) ≡ 1 ∷ 1 ∷ 1 ∷ 0 ∷ 0 ∷ []
@@ -66,7 +65,6 @@ pinsSettling = record {
   factor = refl;
   cheapest = refl;
   quota-0 = refl;
-  quota-0-learners = refl;
   no-quota = refl;
   no-quota-learners = refl;
   no-quota-left = refl;
