@@ -31,7 +31,7 @@ use Rattle.model.specs.Settling.{Lists, tripFrom, leaves, learns, listsA
 use Rattle.model.proofs.Openings.{Ready, ready, ready-run, accepted-trial}
 use Rattle.model.proofs.Soundness.{reaches-of}
 use Rattle.model.proofs.Meaning.{net, distance-means}
-use Rattle.model.proofs.Rides.{ride-riding, ride-arrives, course-none, course-settled, course-again}
+use Rattle.model.proofs.Rides.{ride-riding, ride-arrives, ready-after, course-none, course-settled, course-again}
 use Rattle.model.proofs.Lent.{ride-again, answers-again}
 use Rattle.model.proofs.Demand.{distance, R, R-is, trial-stays-accepted, trial-that-learns-nothing-travels-at-most, run-is-made}
 
@@ -51,6 +51,24 @@ module _ (j : Job) (bytes : List ℕ) (start : ℕ) (table path : List ℕ) (acc
         R-is j bytes (ride j bytes start table path .table),
         trial-learns L (ride-riding j bytes start table path A .made) (keeps-opened L start table (A .opened .sound) (A .opened .reach)),
       )
+
+  -- and the lists that it leaves are accepted from every other start that was: so trips from several starts take from one R
+  pub other-starts-stay-accepted : (other : ℕ) → openTrial j bytes other table path ≡ Vd.Done
+      → openTrial j bytes other (ride j bytes start table path .table) (ride j bytes start table path .path) ≡ Vd.Done
+  other-starts-stay-accepted other e =
+      let B = ready j bytes other table path e in
+      let after = ready-after j bytes start table path A in
+      accepted-trial j bytes other _ _ (record {
+        opened = record {
+          held = after .opened .held;
+          long = after .opened .long;
+          free-start = B .opened .free-start;
+          fits = after .opened .fits;
+          sound = after .opened .sound;
+          reach = B .opened .reach;
+        };
+        room = after .room;
+      })
 
   module _ (nothing : ride j bytes start table path .learned ≡ 0) where
     -- one that learns nothing leaves every figure as it was

@@ -37,6 +37,8 @@ pub record PinsSettling : Type 0 where
   -- the lists that a trial leaves, and what the next makes of them
   pub left : leaves (job 1 1 1 0) hall 6 lent ≡ record { table = learnt; path = 6 ∷ 7 ∷ 8 ∷ 5 ∷ 2 ∷ 1 ∷ replicate 3 77 }
   pub learned : learns (job 1 1 1 0) hall 6 lent ≡ 84
+  -- trips are counted from 0
+  pub from-0 : map (λ n. trip (job 1 1 1 0) hall 6 n lent .learned) (0 ∷ 1 ∷ []) ≡ 84 ∷ 0 ∷ []
   -- the settled trip, and two trips later again
   pub settled : map (λ n. trip (job 1 1 1 0) hall 6 n lent) (1 ∷ 3 ∷ [])
       ≡ replicate 2 (record {
@@ -72,6 +74,7 @@ pinsSettling = record {
   all-of-R-learn = refl;
   left = refl;
   learned = refl;
+  from-0 = refl;
   settled = refl;
   first-answers = refl;
   second-answers = refl;
