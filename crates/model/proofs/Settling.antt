@@ -27,7 +27,7 @@ use Rattle.answers.specs.declared.Ran.the-variants as Rn
 use Rattle.model.specs.Decision.{atGoal}
 use Rattle.model.specs.Opening.{openTrial, openRun}
 use Rattle.model.specs.Ride.{Ride, ride, kept, Course, courseFrom, run}
-use Rattle.model.specs.Settling.{Lists, tripFrom, leaves, learns, listsAfter, trip, trips, tripsThatLearn, answerAfter}
+use Rattle.model.specs.Settling.{Lists, tripFrom, leaves, learns, listsAfter, trip, trips, tripsThatLearn, answerAfter, Tour, tourOn, firstLearns, tourTripsThatLearn}
 use Rattle.model.proofs.Openings.{Ready, ready, ready-run, accepted-trial}
 use Rattle.model.proofs.Soundness.{reaches-of}
 use Rattle.model.proofs.Meaning.{net, distance-means}
@@ -191,6 +191,24 @@ module _ (j : Job) (bytes : List ℕ) (start : ℕ) where
         second-trial-learns-nothing (first .opened .held .lawful) none which (first .opened .sound) (first .opened .reach) (ride-riding j bytes start table path first .made)
         (subst T (sym (ride-arrives j bytes start table path first)) tt)
         (ride-riding j bytes start (listsAfter j bytes start 1 lent .table) (listsAfter j bytes start 1 lent .path) second .made)
+
+-- ---- trips from several starts
+
+module _ (j : Job) (bytes : List ℕ) where
+  abbrev AllAccepted : Tour → Type 0
+  AllAccepted x = (m : ℕ) → openTrial j bytes (x .starts m) (x .lists .table) (x .lists .path) ≡ Vd.Done
+
+  -- wherever they start, at most R of them learn
+  pub at-most-R-trips-learn-wherever-they-start : (table path : List ℕ) (starts : ℕ → ℕ) → ((m : ℕ) → openTrial j bytes (starts m) table path ≡ Vd.Done)
+      → (n : ℕ) → tourTripsThatLearn j bytes n (record { lists = record { table = table; path = path }; starts = starts }) ≤ R j bytes table
+  at-most-R-trips-learn-wherever-they-start table path starts accepted n =
+      omega (
+        arith,
+        learners-few (tourOn j bytes) (firstLearns j bytes) (λ x. R j bytes (x .lists .table)) AllAccepted
+            (λ x e m. other-starts-stay-accepted j bytes (x .starts 0) (x .lists .table) (x .lists .path) (e 0) (x .starts (suc m)) (e (suc m)))
+            (λ x e. R-falls-by-what-is-learned j bytes (x .starts 0) (x .lists .table) (x .lists .path) (e 0)) n
+            (record { lists = record { table = table; path = path }; starts = starts }) accepted,
+      )
 
 -- ---- a run
 

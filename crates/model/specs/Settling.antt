@@ -42,3 +42,19 @@ module _ (j : Job) (bytes : List ℕ) (start : ℕ) where
   -- what the decision answers that comes after n others of the trial from these lists
   abbrev pub answerAfter : ℕ → Lists → Answer
   answerAfter n x = let r = rideFrom j bytes n (begun start (x .table) (x .path)) in act j bytes (r .state) (r .table) (r .path) .answer
+
+-- Trips from several starts to the same goals, which share the lists: `starts n` is where the trip begins that comes after n others.
+pub record Tour : Type 0 where
+  pub lists : Lists
+  pub starts : ℕ → ℕ
+
+module _ (j : Job) (bytes : List ℕ) where
+  -- the tour after its first trip, what that one learns, and how many of the first n learn
+  abbrev pub tourOn : Tour → Tour
+  tourOn x = record { lists = leaves j bytes (x .starts 0) (x .lists); starts = λ n. x .starts (suc n) }
+
+  abbrev pub firstLearns : Tour → ℕ
+  firstLearns x = learns j bytes (x .starts 0) (x .lists)
+
+  abbrev pub tourTripsThatLearn : ℕ → Tour → ℕ
+  tourTripsThatLearn n x = learners tourOn firstLearns n x

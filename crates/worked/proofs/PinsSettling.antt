@@ -3,18 +3,21 @@ use Prim.Native.Nat.{ℕ, _+_, _-_}
 use mathlib.Core.Path.{_≡_, refl}
 use mathlib.Core.Bool.{true}
 use mathlib.Core.List.{[], _∷_, map}
-use lib.ListN.{replicate}
+use lib.ListN.{getD, replicate}
 use Rattle.learning.specs.Rounds.{afterRounds, learners}
 use Rattle.answers.specs.declared.Answer.the-variants as A
 use Rattle.answers.specs.declared.Ran.the-variants as Rn
 use Rattle.model.specs.Ride.{run}
-use Rattle.model.specs.Settling.{Lists, leaves, learns, listsAfter, trip, trips, tripsThatLearn, answerAfter}
+use Rattle.model.specs.Settling.{Lists, leaves, learns, listsAfter, trip, trips, tripsThatLearn, answerAfter, Tour, tourOn, firstLearns, tourTripsThatLearn}
 use Rattle.model.specs.Compute.{compute}
 use Rattle.model.proofs.Demand.{R, K, distance}
 use Rattle.worked.proofs.Hall.{hall, job, figures, fresh, learnt, blank, rowJob}
 
 abbrev lent : Lists
 lent = record { table = figures; path = fresh }
+
+abbrev byTurns : Tour
+byTurns = record { lists = lent; starts = λ n. getD (6 ∷ 8 ∷ 6 ∷ 8 ∷ 6 ∷ 8 ∷ 6 ∷ 8 ∷ []) n 0 }
 
 pub record PinsSettling : Type 0 where
   -- any rounds: three that learn, and then none
@@ -54,6 +57,9 @@ pub record PinsSettling : Type 0 where
   pub first-answers : map (λ n. answerAfter (job 1 1 1 0) hall 6 n lent) (0 ∷ 1 ∷ 2 ∷ 22 ∷ []) ≡ A.Stayed 14 ∷ A.Forward 7 0 1 ∷ A.BackedOut 6 14 1 ∷ A.Arrived ∷ []
   pub second-answers : map (λ n. answerAfter (job 1 1 1 0) hall 6 n (listsAfter (job 1 1 1 0) hall 6 1 lent)) (0 ∷ 1 ∷ 5 ∷ 6 ∷ [])
       ≡ A.Forward 7 0 1 ∷ A.Forward 8 0 1 ∷ A.Forward 0 0 1 ∷ A.Arrived ∷ []
+  -- from 6 and from 8 by turns they learn 40, 6, 26, 0, 12 and then nothing, 84 together
+  pub by-turns : map (λ n. tourTripsThatLearn (job 1 1 1 1000) hall n byTurns) (0 ∷ 1 ∷ 2 ∷ 8 ∷ []) ≡ 0 ∷ 1 ∷ 2 ∷ 4 ∷ []
+  pub by-turns-learned : firstLearns (job 1 1 1 1000) hall (tourOn (job 1 1 1 1000) hall byTurns) ≡ 6
   -- a run with more than R trials asked for answers settled
   pub more-than-R : run (job 1 1 1 1000) hall 6 85 figures fresh (replicate 85 blank) .answer ≡ Rn.Made 5 true
 
@@ -78,5 +84,7 @@ pinsSettling = record {
   settled = refl;
   first-answers = refl;
   second-answers = refl;
+  by-turns = refl;
+  by-turns-learned = refl;
   more-than-R = refl;
 }
