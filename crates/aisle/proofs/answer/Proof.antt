@@ -1,16 +1,8 @@
 -- `aisle::answer` meets its contract: the line is malformed, or asks for settings with the text after it.
--- Assumes nothing.
-use native.Mathlib.Omega.{arith}
+use Rattle.learning.proofs.Words.{arith, needs}
 use Rattle.aisle.proofs.Answers.{refused, line-none, line-some, line-text, line-rest, malformed, asked-told}
-use borrow.Author.Needs.{needs}
-use Rattle.aisle.proofs.answer.Statement.{statement}
-use Rattle.aisle.proofs.answer.Tie as tie
-
-sub-asked : tie.Need-sub-asked
-sub-asked c = omega (arith, line-text (c .before .before .before .read-line .ensures) (c .before .settings .given .1) .1)
-
-part-asked-start : tie.Need-part-asked-start
-part-asked-start c = omega (arith, line-text (c .before .before .before .read-line .ensures) (c .before .settings .given .1) .1)
+use Rattle.aisle.proofs.answer as f
+use f.Tie as tie
 
 -- from a place to one before it
 abbrev to-start : tie.After-read-line → tie.Start
@@ -30,19 +22,9 @@ returns-2 c =
     asked-told _ _ _ (line-some (after-read-line .read-line .ensures) (after-settings .settings .given .1))
     (line-rest (after-read-line .read-line .ensures) (after-settings .settings .given .1)) (c .before .before .asked .ensures)
 
-pub answer-spec : {M : Type 1} → statement M
+pub answer-spec : {M : Type 1} → f.Statement.statement M
 answer-spec =
-    tie.close
-    (tie.spec
-    (λ c κs. search needs)
-    (λ c. search needs)
-    (λ c κs. search needs)
-    (λ c. search needs)
-    sub-asked
-    part-asked-start
-    (λ c. search needs)
-    (λ c κs. search needs)
-    (λ c. search needs)
-    returns
-    (λ c. search needs)
-    returns-2)
+    tie.close (tie.spec (λ c κs. search needs) (λ c. search needs) (λ c κs. search needs) (λ c. search needs)
+    (λ c. omega (arith, line-text (c .before .before .before .read-line .ensures) (c .before .settings .given .1) .1))
+    (λ c. omega (arith, line-text (c .before .before .before .read-line .ensures) (c .before .settings .given .1) .1)) (λ c. search needs) (λ c κs. search needs) (λ c. search needs) returns
+    (λ c. search needs) returns-2)

@@ -1,15 +1,11 @@
 -- `aisle::on_floor` meets its contract: the job is the line's, and the table and the path list are as long as the floor.
--- Assumes nothing.
-use Prim.Native.Nat.{ℕ, _*_, _≤_}
-use mathlib.Core.Path.{sym, ap, _∙_, subst}
-use native.Mathlib.Omega.{arith}
+use Rattle.learning.proofs.Words.{ℕ, _*_, _≤_, sym, ap, _∙_, subst, arith, needs}
 use Rattle.answers.specs.declared.Job.{Job}
 use Rattle.model.proofs.Moves.{sized-cells}
 use Rattle.aisle.specs.Answers.{Readied}
 use Rattle.aisle.proofs.Answers.{long-part, part-told}
-use borrow.Author.Needs.{needs}
-use Rattle.aisle.proofs.on_floor.Statement.{statement}
-use Rattle.aisle.proofs.on_floor.Tie as tie
+use Rattle.aisle.proofs.on_floor as f
+use f.Tie as tie
 
 -- the start, from where the job is made; and the floor is no larger than the lists
 abbrev start : tie.After-job-in → tie.Start
@@ -32,16 +28,7 @@ returns c =
     let s = start j in
     part-told (s .args .s) (s .args .width) (s .args .height) (s .args .floor .now) (small j) (rw (j .job-in .ensures) at (o .opened .ensures))
 
-pub on-floor-spec : {M : Type 1} → statement M
+pub on-floor-spec : {M : Type 1} → f.Statement.statement M
 on-floor-spec =
-    tie.close
-    (tie.spec
-    (λ c. search needs)
-    (λ c κs. search needs)
-    (λ c. small c)
-    (λ c. sym (long-part _ (small (c .before))))
-    (λ c. small (c .before))
-    (λ c. sym (long-part _ (small (c .before .before))))
-    opened-requires
-    (λ c. search needs)
-    returns)
+    tie.close (tie.spec (λ c. search needs) (λ c κs. search needs) (λ c. small c) (λ c. sym (long-part _ (small (c .before)))) (λ c. small (c .before))
+    (λ c. sym (long-part _ (small (c .before .before)))) opened-requires (λ c. search needs) returns)

@@ -1,10 +1,8 @@
 -- `aisle::opened` meets its contract: what the opening says decides what is told.
--- Assumes nothing.
-use mathlib.Core.Path.{refl}
+use Rattle.learning.proofs.Words.{refl, needs}
 use Rattle.aisle.proofs.Answers.{refused, fill-refused, open-refused, open-done, open-told}
-use borrow.Author.Needs.{needs}
-use Rattle.aisle.proofs.opened.Statement.{statement}
-use Rattle.aisle.proofs.opened.Tie as tie
+use Rattle.aisle.proofs.opened as f
+use f.Tie as tie
 
 tell-all-requires : tie.Need-tell-all-requires
 tell-all-requires c κs =
@@ -52,26 +50,8 @@ returns-3 c =
     (after-open-trial .open-trial .ensures _ refl) (after-enum-told2 .enum-told2 .given .1)
     (c .before .before .before .before .before .before .tell-all .ensures)
 
-pub opened-spec : {M : Type 1} → statement M
+pub opened-spec : {M : Type 1} → f.Statement.statement M
 opened-spec =
-    tie.close
-    (tie.spec
-    (λ c κs. search needs)
-    (λ c. search needs)
-    (λ c κs. search needs)
-    (λ c. search needs)
-    (λ c κs. search needs)
-    (λ c. search needs)
-    (λ c κs. search needs)
-    (λ c. search needs)
-    tell-all-requires
-    (λ c. search needs)
-    (λ c. search needs)
-    returns
-    (λ c. search needs)
-    (λ c. search needs)
-    returns-2
-    (λ c. search needs)
-    (λ c. search needs)
-    (λ c. search needs)
-    returns-3)
+    tie.close (tie.spec (λ c κs. search needs) (λ c. search needs) (λ c κs. search needs) (λ c. search needs) (λ c κs. search needs) (λ c. search needs) (λ c κs. search needs)
+    (λ c. search needs) tell-all-requires (λ c. search needs) (λ c. search needs) returns (λ c. search needs) (λ c. search needs) returns-2 (λ c. search needs) (λ c. search needs)
+    (λ c. search needs) returns-3)

@@ -1,13 +1,8 @@
 -- `aisle::with_text` meets its contract: the floor text is refused, or it is a floor.
--- Assumes nothing.
-use Prim.Native.Nat.{ℕ}
-use mathlib.Core.Path.{sym}
-use native.Mathlib.Omega.{arith}
-use lib.ListN.{replicate, length-replicate}
+use Rattle.learning.proofs.Words.{ℕ, sym, arith, replicate, length-replicate, needs}
 use Rattle.aisle.proofs.Answers.{refused, read-refused, read-done, text-told, readied, floor-told}
-use borrow.Author.Needs.{needs}
-use Rattle.aisle.proofs.with_text.Statement.{statement}
-use Rattle.aisle.proofs.with_text.Tie as tie
+use Rattle.aisle.proofs.with_text as f
+use f.Tie as tie
 
 -- from a place to one before it
 abbrev to-start : tie.After-read-floor → tie.Start
@@ -62,20 +57,7 @@ returns-2 c =
     let r = read-done (s .args .text .now) (replicate 4096 0) _ _ (length-replicate {A = ℕ} 4096 0) (f .read-floor .ensures) _ _ (w .width .given .1) in
     floor-told (s .args .s) (s .args .text .now) (s .pre .0) _ _ _ r (c .before .before .on-floor .ensures)
 
-pub with-text-spec : {M : Type 1} → statement M
+pub with-text-spec : {M : Type 1} → f.Statement.statement M
 with-text-spec =
-    tie.close
-    (tie.spec
-    (λ c. search needs)
-    (λ c κs. search needs)
-    (λ c. search needs)
-    (λ c κs. search needs)
-    (λ c. search needs)
-    mul-n
-    array-share-prefix-floor
-    slice-aggregate-on-floor
-    on-floor-requires
-    (λ c. search needs)
-    returns
-    (λ c. search needs)
-    returns-2)
+    tie.close (tie.spec (λ c. search needs) (λ c κs. search needs) (λ c. search needs) (λ c κs. search needs) (λ c. search needs) mul-n array-share-prefix-floor slice-aggregate-on-floor
+    on-floor-requires (λ c. search needs) returns (λ c. search needs) returns-2)

@@ -1,19 +1,11 @@
 -- `checks::benches` meets its contract. The invariant: the goals passed are free.
--- Assumes nothing.
-use Prim.Native.Nat.{ℕ, _-_, _<_}
-use mathlib.Core.Path.{_≡_, sym, ap, _∙_}
-use mathlib.Core.Bool.{true}
-use native.Mathlib.Omega.{arith}
-use borrow.Author.Needs.{needs}
-use borrow.Author.Tests.{not-true, not-false}
-use borrow.Author.Count.{below-more}
-use lib.ListN.{getD}
+use Rattle.learning.proofs.Words.{ℕ, _-_, _<_, _≡_, sym, ap, _∙_, true, arith, needs, not-true, not-false, below-more, getD}
 use Rattle.model.specs.Floor.{free, goalsOf}
 use Rattle.model.proofs.Accepted.{never}
 use Rattle.model.proofs.Benches.{bench-judges}
 use Rattle.floor.specs.Moves.{flat}
-use Rattle.checks.proofs.benches.Statement.{statement}
-use Rattle.checks.proofs.benches.Tie as tie
+use Rattle.checks.proofs.benches as f
+use f.Tie as tie
 
 abbrev Inv-loop : tie.InvT-loop
 Inv-loop width height floor goals n i₀ i = (k : ℕ) → k < i → free (flat width height floor) (getD (goalsOf goals) k 0) ≡ true
@@ -24,9 +16,6 @@ abbrev μ-loop : tie.MeasureT-loop
 -- the loop, from the goal that is asked, and that it is a goal
 abbrev asked : tie.After-goal-at Inv-loop μ-loop → tie.At-loop Inv-loop μ-loop
 asked c = c .before .before
-
-goal-at-requires : tie.Need-goal-at-requires Inv-loop μ-loop
-goal-at-requires c κs = omega (arith, c .loop-test .taken, c .before .before .goals-in .ensures)
 
 -- whether it is free is what the test says
 tested : (c : tie.After-is-free Inv-loop μ-loop) → let l = asked (c .before) in let a = l .before .before .before .args in
@@ -52,19 +41,7 @@ loop-again c =
 returns-2 : tie.Need-returns-2 Inv-loop μ-loop
 returns-2 c = sym (bench-judges _ _ .done (λ k h. c .before .loop .inv k (omega (arith, h, c .loop-test .left, c .before .before .goals-in .ensures))))
 
-pub benches-spec : {M : Type 1} → statement M
+pub benches-spec : {M : Type 1} → f.Statement.statement M
 benches-spec =
-    tie.close
-    (tie.spec
-    Inv-loop
-    μ-loop
-    (λ c κs. search needs)
-    (λ c k h. absurd (omega arith))
-    goal-at-requires
-    (λ c κs. search needs)
-    (λ c κs. search needs)
-    returns
-    (λ c. omega arith)
-    (λ c. omega arith)
-    loop-again
-    returns-2)
+    tie.close (tie.spec Inv-loop μ-loop (λ c κs. search needs) (λ c k h. absurd (omega arith)) (λ c κs. omega (arith, c .loop-test .taken, c .before .before .goals-in .ensures))
+    (λ c κs. search needs) (λ c κs. search needs) returns (λ c. omega arith) (λ c. omega arith) loop-again returns-2)

@@ -1,16 +1,9 @@
 -- `checks::goals_hold` meets its contract. The invariant: the goals passed rise.
--- Assumes nothing.
-use Prim.Native.Nat.{ℕ, suc, _+_, _-_, _≤_, _<_}
-use mathlib.Core.Path.{_≡_, sym, ap, _∙_, subst}
-use mathlib.Core.List.{List}
-use native.Mathlib.Decide.{decLe}
-use native.Mathlib.Omega.{arith}
-use borrow.Author.Needs.{needs}
-use lib.ListN.{length, getD}
+use Rattle.learning.proofs.Words.{ℕ, suc, _+_, _-_, _≤_, _<_, _≡_, sym, ap, _∙_, subst, List, decLe, arith, needs, length, getD}
 use Rattle.model.specs.Floor.{goalsOf}
 use Rattle.model.proofs.Benches.{goals-many, goals-judges}
-use Rattle.checks.proofs.goals_hold.Statement.{statement}
-use Rattle.checks.proofs.goals_hold.Tie as tie
+use Rattle.checks.proofs.goals_hold as f
+use f.Tie as tie
 
 abbrev Inv-loop : tie.InvT-loop
 Inv-loop goals n i₀ i = (1 ≤ i) × ((k : ℕ) → suc k < i → getD (goalsOf goals) k 0 < getD (goalsOf goals) (suc k) 0)
@@ -18,27 +11,12 @@ Inv-loop goals n i₀ i = (1 ≤ i) × ((k : ℕ) → suc k < i → getD (goalsO
 abbrev μ-loop : tie.MeasureT-loop
 μ-loop goals n i₀ i = n - i
 
-returns : tie.Need-returns Inv-loop μ-loop
-returns c = c .refuse .ensures ∙ sym (goals-judges _ .refused (λ h. omega (arith, h .one, c .before .if1 .taken)))
-
-returns-2 : tie.Need-returns-2 Inv-loop μ-loop
-returns-2 c = c .refuse2 .ensures ∙ sym (goals-judges _ .refused (λ h. omega (arith, h .few, c .before .if2 .taken)))
-
-loop-holds : tie.Need-loop-holds Inv-loop μ-loop
-loop-holds c = (omega arith, λ k h. absurd (omega arith))
-
 -- the start, from the loop; and there are as many goals as are named
 abbrev start : tie.At-loop Inv-loop μ-loop → tie.Start Inv-loop μ-loop
 start c = c .before .before .before .before .before
 
 many : (c : tie.At-loop Inv-loop μ-loop) → length (goalsOf (start c .args .goals)) ≡ start c .args .goals .count
 many c = omega (arith, goals-many (start c .args .goals), c .before .if2 .left)
-
-goal-at-requires : tie.Need-goal-at-requires Inv-loop μ-loop
-goal-at-requires c κs = omega (arith, c .loop-test .taken, many (c .before))
-
-goal-at-requires-2 : tie.Need-goal-at-requires-2 Inv-loop μ-loop
-goal-at-requires-2 c κs = omega (arith, c .before .loop-test .taken, many (c .before .before))
 
 -- the goal at i and the one before it, from where both are looked up
 abbrev turn : tie.After-goal-at2 Inv-loop μ-loop → tie.At-loop Inv-loop μ-loop
@@ -85,23 +63,9 @@ returns-4 c =
       rise = λ k h. l .loop .inv .1 k (omega (arith, h, many l, c .loop-test .left));
     }))
 
-pub goals-hold-spec : {M : Type 1} → statement M
+pub goals-hold-spec : {M : Type 1} → f.Statement.statement M
 goals-hold-spec =
-    tie.close
-    (tie.spec
-    Inv-loop
-    μ-loop
-    (λ c κs. search needs)
-    returns
-    (λ c κs. search needs)
-    returns-2
-    loop-holds
-    goal-at-requires
-    (λ c. c .before .before .loop .inv .0)
-    goal-at-requires-2
-    (λ c κs. search needs)
-    returns-3
-    (λ c. omega arith)
-    (λ c. omega arith)
-    loop-again
-    returns-4)
+    tie.close (tie.spec Inv-loop μ-loop (λ c κs. search needs) (λ c. c .refuse .ensures ∙ sym (goals-judges _ .refused (λ h. omega (arith, h .one, c .before .if1 .taken))))
+    (λ c κs. search needs) (λ c. c .refuse2 .ensures ∙ sym (goals-judges _ .refused (λ h. omega (arith, h .few, c .before .if2 .taken)))) (λ c. (omega arith, λ k h. absurd (omega arith)))
+    (λ c κs. omega (arith, c .loop-test .taken, many (c .before))) (λ c. c .before .before .loop .inv .0) (λ c κs. omega (arith, c .before .loop-test .taken, many (c .before .before)))
+    (λ c κs. search needs) returns-3 (λ c. omega arith) (λ c. omega arith) loop-again returns-4)

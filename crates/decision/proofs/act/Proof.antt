@@ -1,11 +1,9 @@
 -- `decision::act` meets its contract: arrived, or what `go` promises with the marks renewed.
--- Assumes nothing.
-use mathlib.Core.Path.{sym, _∙_}
-use borrow.Author.Needs.{needs}
+use Rattle.learning.proofs.Words.{sym, _∙_, needs}
 use Rattle.lookahead.proofs.Fresh.{renewed}
 use Rattle.decision.proofs.Acting.{asked, act-here, acts-as, acts-arrived}
-use Rattle.decision.proofs.act.Statement.{statement}
-use Rattle.decision.proofs.act.Tie as tie
+use Rattle.decision.proofs.act as f
+use f.Tie as tie
 
 -- the call's start
 abbrev start-of : tie.After-is-goal → tie.Start
@@ -35,18 +33,7 @@ go-requires c κs =
       ),
     )
 
-pub act-spec : {M : Type 1} → statement M
+pub act-spec : {M : Type 1} → f.Statement.statement M
 act-spec =
-    tie.close
-    (tie.spec
-    (λ c κs. search needs)
-    returns
-    (λ c κs. search needs)
-    go-requires
-    (λ c. search needs)
-    (λ c. search needs)
-    (λ c. search needs)
-    (λ c. search needs)
-    (λ c. search needs)
-    (λ c. search needs)
-    (λ c. search needs))
+    tie.close (tie.spec (λ c κs. search needs) returns (λ c κs. search needs) go-requires (λ c. search needs) (λ c. search needs) (λ c. search needs) (λ c. search needs) (λ c. search needs)
+    (λ c. search needs) (λ c. search needs))

@@ -1,9 +1,8 @@
 -- `decision::decide_past` meets its contract: cleared scratch is lent, and what `act` and `lay` promise is the outcome.
--- Assumes nothing.
-use borrow.Author.Needs.{needs}
+use Rattle.learning.proofs.Words.{needs}
 use Rattle.decision.proofs.Acting.{used-zeros, decides-acts}
-use Rattle.decision.proofs.decide_past.Statement.{statement}
-use Rattle.decision.proofs.decide_past.Tie as tie
+use Rattle.decision.proofs.decide_past as f
+use f.Tie as tie
 
 -- the call's start
 abbrev start-of : tie.After-act → tie.Start
@@ -33,20 +32,7 @@ returns c =
     let at-lay = c .before .before .before .before in
     decides-acts _ _ _ _ _ _ _ (acted (at-lay .before) .act .ensures .0) (at-lay .lay .ensures) (c .count .ensures)
 
-pub decide-past-spec : {M : Type 1} → statement M
+pub decide-past-spec : {M : Type 1} → f.Statement.statement M
 decide-past-spec =
-    tie.close
-    (tie.spec
-    (λ c. search needs)
-    (λ c. search needs)
-    (λ c. search needs)
-    act-requires
-    (λ c. search needs)
-    (λ c. search needs)
-    lay-requires
-    (λ c κs. search needs)
-    (λ c. search needs)
-    (λ c. search needs)
-    (λ c. search needs)
-    (λ c. search needs)
-    returns)
+    tie.close (tie.spec (λ c. search needs) (λ c. search needs) (λ c. search needs) act-requires (λ c. search needs) (λ c. search needs) lay-requires (λ c κs. search needs)
+    (λ c. search needs) (λ c. search needs) (λ c. search needs) (λ c. search needs) returns)

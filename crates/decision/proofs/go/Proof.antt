@@ -1,10 +1,8 @@
 -- `decision::go` meets its contract: by the two cases of the lookahead, its window or an empty ring.
--- Assumes nothing.
-use mathlib.Core.Path.{_∙_}
-use borrow.Author.Needs.{needs}
+use Rattle.learning.proofs.Words.{_∙_, needs}
 use Rattle.decision.proofs.Acting.{looked-window, looked-empty, serves-refused, acts-as, acts-refused, act-full, act-empty}
-use Rattle.decision.proofs.go.Statement.{statement}
-use Rattle.decision.proofs.go.Tie as tie
+use Rattle.decision.proofs.go as f
+use f.Tie as tie
 
 -- the call's start
 abbrev start-of : tie.After-look → tie.Start
@@ -62,23 +60,7 @@ returns-2 c =
     let q = c .refuse .ensures in
     (acts-as (act-empty _ _ _ _ _ (start .pre .1 .0) (v .1)) (acts-refused _ _ q), serves-refused q (v .0) (start .pre .1 .1 .1))
 
-pub go-spec : {M : Type 1} → statement M
+pub go-spec : {M : Type 1} → f.Statement.statement M
 go-spec =
-    tie.close
-    (tie.spec
-    (λ c κs. search needs)
-    (λ c. search needs)
-    learn-requires
-    (λ c. search needs)
-    (λ c κs. search needs)
-    (λ c. search needs)
-    (λ c. search needs)
-    same-length-3
-    (λ c. search needs)
-    (λ c. search needs)
-    (λ c. search needs)
-    returns
-    (λ c. search needs)
-    (λ c. search needs)
-    (λ c. search needs)
-    returns-2)
+    tie.close (tie.spec (λ c κs. search needs) (λ c. search needs) learn-requires (λ c. search needs) (λ c κs. search needs) (λ c. search needs) (λ c. search needs) same-length-3
+    (λ c. search needs) (λ c. search needs) (λ c. search needs) returns (λ c. search needs) (λ c. search needs) (λ c. search needs) returns-2)

@@ -1,16 +1,13 @@
 -- `decision::judge` meets its contract: a check that is refused stops the next ones, and one that is done gives what the next ones ask for.
--- Assumes nothing.
-use mathlib.Core.Path.{_≡_, sym, _∙_}
-use borrow.Author.Needs.{needs}
-use lib.ListN.{length}
+use Rattle.learning.proofs.Words.{_≡_, sym, _∙_, needs, length}
 use Rattle.answers.specs.declared.Verdict.{Verdict}
 use Rattle.model.specs.Basics.{then}
 use Rattle.model.specs.Checks.{floorOf, goals, settings, places, goalsHold, figures}
 use Rattle.model.proofs.Accepted.{then-stops, then-goes, settings-judges}
 use Rattle.decision.specs.Inner.{listsFit}
 use Rattle.decision.proofs.Judging.{Fits, fits, judged-refused, judged-checked}
-use Rattle.decision.proofs.judge.Statement.{statement}
-use Rattle.decision.proofs.judge.Tie as tie
+use Rattle.decision.proofs.judge as f
+use f.Tie as tie
 
 -- from each check to the one before it
 abbrev start : tie.After-lists-fit → tie.Start
@@ -95,30 +92,8 @@ returns-6 c =
     let f = told .before .before in
     judged-checked _ _ _ _ _ _ _ _ _ (λ v. past-order f (then-goes _ (judged-figures f) (told .enum-told9 .given .1) v)) (h .state-holds .ensures)
 
-pub judge-spec : {M : Type 1} → statement M
+pub judge-spec : {M : Type 1} → f.Statement.statement M
 judge-spec =
-    tie.close
-    (tie.spec
-    (λ c κs. search needs)
-    (λ c. search needs)
-    (λ c. search needs)
-    returns
-    (λ c κs. search needs)
-    (λ c. search needs)
-    (λ c. search needs)
-    returns-2
-    (λ c κs. fitting (c .before .before) .sized)
-    (λ c. search needs)
-    (λ c. search needs)
-    returns-3
-    (λ c κs. search needs)
-    (λ c. search needs)
-    (λ c. search needs)
-    returns-4
-    (λ c κs. search needs)
-    (λ c. search needs)
-    (λ c. search needs)
-    returns-5
-    state-holds-requires
-    (λ c. search needs)
-    returns-6)
+    tie.close (tie.spec (λ c κs. search needs) (λ c. search needs) (λ c. search needs) returns (λ c κs. search needs) (λ c. search needs) (λ c. search needs) returns-2
+    (λ c κs. fitting (c .before .before) .sized) (λ c. search needs) (λ c. search needs) returns-3 (λ c κs. search needs) (λ c. search needs) (λ c. search needs) returns-4
+    (λ c κs. search needs) (λ c. search needs) (λ c. search needs) returns-5 state-holds-requires (λ c. search needs) returns-6)

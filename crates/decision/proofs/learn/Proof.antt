@@ -1,17 +1,11 @@
 -- `decision::learn` meets its contract: one law of the model for each way by the ceiling and the quota, with what the called function promises.
--- Assumes nothing.
-use Prim.Native.Nat.{_-_}
-use mathlib.Core.Path.{sym, ap, _∙_}
-use native.Mathlib.Nat.{lt-of-le-of-lt}
-use native.Mathlib.Omega.{arith}
-use borrow.Author.Needs.{needs}
-use lib.Dec.{lit<}
+use Rattle.learning.proofs.Words.{_-_, sym, ap, _∙_, lt-of-le-of-lt, arith, needs, lit<}
 use Rattle.lookahead.proofs.Fresh.{window-used}
 use Rattle.decision.proofs.Acting.{current-in, aimed-near, table-short, quota-low, weighed, used-at, shown-at, serves-refused, acts-as, acts-refused, learns-over, learns-forward, learns-back}
 use Rattle.decision.proofs.Laying.{shown-as}
 use Rattle.decision.proofs.Noting.{places-down}
-use Rattle.decision.proofs.learn.Statement.{statement}
-use Rattle.decision.proofs.learn.Tie as tie
+use Rattle.decision.proofs.learn as f
+use f.Tie as tie
 
 -- the call's start, from where the aim is known
 abbrev start-of : tie.After-aim → tie.Start
@@ -128,36 +122,8 @@ returns-3 c =
       record { used = left .0; places = places-down _ (left .1) (start .pre .1 .1 .1); shown = left .2 },
     )
 
-pub learn-spec : {M : Type 1} → statement M
+pub learn-spec : {M : Type 1} → f.Statement.statement M
 learn-spec =
-    tie.close
-    (tie.spec
-    aim-requires
-    mul-wide32
-    slice-read-wide32
-    (λ c κs. search needs)
-    (λ c κs. search needs)
-    (λ c κs. search needs)
-    (λ c. search needs)
-    (λ c. search needs)
-    (λ c. search needs)
-    (λ c. search needs)
-    returns
-    (λ c κs. search needs)
-    add-if2
-    mul-if2
-    forward-requires
-    (λ c. search needs)
-    (λ c. search needs)
-    (λ c. search needs)
-    (λ c. search needs)
-    (λ c. search needs)
-    (λ c. search needs)
-    returns-2
-    go-back-requires
-    (λ c. search needs)
-    (λ c. search needs)
-    (λ c. search needs)
-    (λ c. search needs)
-    (λ c. search needs)
-    returns-3)
+    tie.close (tie.spec aim-requires mul-wide32 slice-read-wide32 (λ c κs. search needs) (λ c κs. search needs) (λ c κs. search needs) (λ c. search needs) (λ c. search needs)
+    (λ c. search needs) (λ c. search needs) returns (λ c κs. search needs) add-if2 mul-if2 forward-requires (λ c. search needs) (λ c. search needs) (λ c. search needs) (λ c. search needs)
+    (λ c. search needs) (λ c. search needs) returns-2 go-back-requires (λ c. search needs) (λ c. search needs) (λ c. search needs) (λ c. search needs) (λ c. search needs) returns-3)

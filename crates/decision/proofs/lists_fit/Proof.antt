@@ -1,11 +1,9 @@
 -- `decision::lists_fit` meets its contract: a check that is refused stops the next ones, and one that is done passes on to them.
--- Assumes nothing.
-use mathlib.Core.Path.{sym, _∙_}
-use borrow.Author.Needs.{needs}
+use Rattle.learning.proofs.Words.{sym, _∙_, needs}
 use Rattle.model.proofs.Accepted.{then-stops, then-goes, sizes-judges}
 use Rattle.decision.specs.Inner.{listsFit}
-use Rattle.decision.proofs.lists_fit.Statement.{statement}
-use Rattle.decision.proofs.lists_fit.Tie as tie
+use Rattle.decision.proofs.lists_fit as f
+use f.Tie as tie
 
 returns : tie.Need-returns
 unfolding listsFit
@@ -33,17 +31,7 @@ returns-3 c =
     then-goes _ (at-sizes .sizes .ensures) a
     (then-goes _ (at-path-room .path-room .ensures _ (sym (sizes-judges _ _ .gives (sym (at-sizes .sizes .ensures) ∙ a) .1))) b (c .moves-room .ensures))
 
-pub lists-fit-spec : {M : Type 1} → statement M
+pub lists-fit-spec : {M : Type 1} → f.Statement.statement M
 lists-fit-spec =
-    tie.close
-    (tie.spec
-    (λ c κs. search needs)
-    (λ c. search needs)
-    (λ c. search needs)
-    returns
-    (λ c κs. search needs)
-    (λ c. search needs)
-    (λ c. search needs)
-    returns-2
-    (λ c κs. search needs)
+    tie.close (tie.spec (λ c κs. search needs) (λ c. search needs) (λ c. search needs) returns (λ c κs. search needs) (λ c. search needs) (λ c. search needs) returns-2 (λ c κs. search needs)
     returns-3)

@@ -1,11 +1,8 @@
 -- `floor::byte_ahead` meets its contract.
--- Assumes nothing.
-use borrow.Author.Needs.{needs}
-use borrow.Author.Tests.{ne-eqb}
-use lib.ListN.{getD}
+use Rattle.learning.proofs.Words.{needs, ne-eqb, getD}
 use Rattle.floor.proofs.Stepping.{ahead-by}
-use Rattle.floor.proofs.byte_ahead.Statement.{statement}
-use Rattle.floor.proofs.byte_ahead.Tie as tie
+use Rattle.floor.proofs.byte_ahead as f
+use f.Tie as tie
 
 returns-5 : tie.Need-returns-5
 returns-5 c =
@@ -18,5 +15,5 @@ returns-5 c =
       ne-eqb (a .m) 6 (c .before .if4 .left),
     ) at (ahead-by (a .at) (getD (a .floor .now) (a .to) 0) (a .m) (s .pre .1))
 
-pub byte-ahead-spec : {M : Type 1} → statement M
+pub byte-ahead-spec : {M : Type 1} → f.Statement.statement M
 byte-ahead-spec = tie.close (tie.spec (λ c. search needs) (λ c. search needs) (λ c. search needs) (λ c. search needs) (λ c. search needs) returns-5)

@@ -1,18 +1,13 @@
 -- `floor::east_byte` meets its contract.
--- Assumes nothing.
-use native.Mathlib.Omega.{arith}
-use borrow.Author.Needs.{needs}
+use Rattle.learning.proofs.Words.{arith, needs}
 use Rattle.floor.specs.Moves.{flat}
 use Rattle.floor.proofs.Stepping.{in-row, east-off, east-on, east-is-byte}
-use Rattle.floor.proofs.east_byte.Statement.{statement}
-use Rattle.floor.proofs.east_byte.Tie as tie
+use Rattle.floor.proofs.east_byte as f
+use f.Tie as tie
 
-pub east-byte-spec : {M : Type 1} → statement M
+pub east-byte-spec : {M : Type 1} → f.Statement.statement M
 east-byte-spec =
-    tie.close
-    (tie.spec
-    (λ c. omega (arith, in-row _ (c .pre .0) _ (c .pre .1 .0), c .pre .0 .narrow))
-    (λ c. let s = c .before in east-off (flat (s .args .width) (s .args .height) (s .args .floor .now)) (s .args .cell) (omega arith))
-    (λ c. search needs)
+    tie.close (tie.spec (λ c. omega (arith, in-row _ (c .pre .0) _ (c .pre .1 .0), c .pre .0 .narrow))
+    (λ c. let s = c .before in east-off (flat (s .args .width) (s .args .height) (s .args .floor .now)) (s .args .cell) (omega arith)) (λ c. search needs)
     (λ c. let s = c .before .before in omega (arith, east-on _ (s .pre .0) _ (s .pre .1 .0) (omega arith), s .pre .0 .cells))
     (λ c. let s = c .before .before in east-is-byte (flat (s .args .width) (s .args .height) (s .args .floor .now)) (s .args .cell) (omega arith)))

@@ -1,18 +1,13 @@
 -- `floor::north_byte` meets its contract.
--- Assumes nothing.
-use native.Mathlib.Omega.{arith}
-use borrow.Author.Needs.{needs}
+use Rattle.learning.proofs.Words.{arith, needs}
 use Rattle.floor.specs.Moves.{flat}
 use Rattle.floor.proofs.Stepping.{first-row, past-first, north-off, north-is-byte}
-use Rattle.floor.proofs.north_byte.Statement.{statement}
-use Rattle.floor.proofs.north_byte.Tie as tie
+use Rattle.floor.proofs.north_byte as f
+use f.Tie as tie
 
-pub north-byte-spec : {M : Type 1} → statement M
+pub north-byte-spec : {M : Type 1} → f.Statement.statement M
 north-byte-spec =
-    tie.close
-    (tie.spec
-    (λ c. let s = c .before in
-    north-off (flat (s .args .width) (s .args .height) (s .args .floor .now)) (s .args .cell) (first-row _ (s .pre .0) _ (s .pre .1) (omega arith)))
+    tie.close (tie.spec
+    (λ c. let s = c .before in north-off (flat (s .args .width) (s .args .height) (s .args .floor .now)) (s .args .cell) (first-row _ (s .pre .0) _ (s .pre .1) (omega arith)))
     (λ c. search needs)
-    (λ c. let s = c .before .before in
-    north-is-byte (flat (s .args .width) (s .args .height) (s .args .floor .now)) (s .args .cell) (past-first _ (s .pre .0) _ (s .pre .1) (omega arith))))
+    (λ c. let s = c .before .before in north-is-byte (flat (s .args .width) (s .args .height) (s .args .floor .now)) (s .args .cell) (past-first _ (s .pre .0) _ (s .pre .1) (omega arith))))

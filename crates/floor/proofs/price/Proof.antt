@@ -1,17 +1,11 @@
 -- `floor::price` meets its contract: the toll is even, so its half times 2 is the toll once more.
--- Assumes nothing.
-use Prim.Native.Nat.{ℕ, _+_, _*_, _/_, _≤_, _<_}
-use mathlib.Core.Path.{_≡_, refl, ap₂, _∙_}
-use mathlib.Core.Bool.{Bool, true, false, _||_}
-use native.Mathlib.Omega.{arith}
-use borrow.Author.Needs.{needs}
-use lib.Dec.{eqb, lit≤}
+use Rattle.learning.proofs.Words.{ℕ, _+_, _*_, _/_, _≤_, _<_, _≡_, refl, ap₂, _∙_, Bool, true, false, _||_, arith, needs, eqb, lit≤}
 use Rattle.model.specs.Basics.{choose}
 use Rattle.model.specs.Floor.{plainByte, slowByte, diagonal, doubled}
 use Rattle.model.proofs.Moves.{all8, toll}
 use Rattle.floor.proofs.Stepping.{toll-high}
-use Rattle.floor.proofs.price.Statement.{statement}
-use Rattle.floor.proofs.price.Tie as tie
+use Rattle.floor.proofs.price as f
+use f.Tie as tie
 
 abbrev once-more : Bool → ℕ → ℕ
 once-more s m = toll m / 2 * choose s slowByte plainByte
@@ -31,14 +25,10 @@ is-slow c = let a = c .before .before .args in eqb (a .here) slowByte || eqb (a 
 more : (c : tie.After-slower) → c .before .toll .result / 2 * c .slower .result ≡ once-more (is-slow c) (c .before .before .args .m)
 more c = ap₂ (λ t k. t / 2 * k) (c .before .toll .ensures) (c .slower .ensures)
 
-mul-result : tie.Need-mul-result
-mul-result c = record { fits = omega (arith, more c, few (is-slow c) _ (c .before .before .pre .0)) }
-
 add-result : tie.Need-add-result
 add-result c = record { fits = omega (arith, more c, few (is-slow c) _ (c .before .before .pre .0), c .before .toll .ensures, toll-high _ (c .before .before .pre .0)) }
 
-returns : tie.Need-returns
-returns c = ap₂ (λ t k. t + k) (c .before .toll .ensures) (more c) ∙ pays (is-slow c) _ (c .before .before .pre .0)
-
-pub price-spec : {M : Type 1} → statement M
-price-spec = tie.close (tie.spec (λ c κs. search needs) (λ c κs. search needs) mul-result add-result returns)
+pub price-spec : {M : Type 1} → f.Statement.statement M
+price-spec =
+    tie.close (tie.spec (λ c κs. search needs) (λ c κs. search needs) (λ c. record { fits = omega (arith, more c, few (is-slow c) _ (c .before .before .pre .0)) }) add-result
+    (λ c. ap₂ (λ t k. t + k) (c .before .toll .ensures) (more c) ∙ pays (is-slow c) _ (c .before .before .pre .0)))

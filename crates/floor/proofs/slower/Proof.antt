@@ -1,17 +1,10 @@
 -- `floor::slower` meets its contract: of two bytes that are 0 or 2 one is 2 just where their bits together are.
--- Assumes nothing.
-use Prim.Native.Nat.{ℕ, _<_}
-use mathlib.Core.Path.{_≡_, refl, sym, ap₂, subst, _∙_}
-use mathlib.Core.Bool.{Bool, true, false, true≢false, _||_}
-use native.Mathlib.Decide.{ℕ-discrete}
-use native.Mathlib.Omega.{arith}
-use borrow.Author.Tests.{ne-eqb}
-use lib.Dec.{eqb}
+use Rattle.learning.proofs.Words.{ℕ, _<_, _≡_, refl, sym, ap₂, subst, _∙_, Bool, true, false, true≢false, _||_, ℕ-discrete, arith, ne-eqb, eqb}
 use lib.Bits.{bitOr}
 use Rattle.model.specs.Basics.{choose}
 use Rattle.model.specs.Floor.{plainByte, slowByte, freeByte}
-use Rattle.floor.proofs.slower.Statement.{statement}
-use Rattle.floor.proofs.slower.Tie as tie
+use Rattle.floor.proofs.slower as f
+use f.Tie as tie
 
 -- what holds of the two bytes of free cells
 each-free : (P : ℕ → Type 0) → P plainByte → P slowByte → (b : ℕ) → freeByte b ≡ true → P b
@@ -36,8 +29,5 @@ low false = omega arith
 cast-result : tie.Need-cast-result
 cast-result c = record { fits = omega (arith, together (c .args .here) (c .pre .0) (c .args .there) (c .pre .1), low (eqb (c .args .here) slowByte || eqb (c .args .there) slowByte)) }
 
-returns : tie.Need-returns
-returns c = together (c .args .here) (c .pre .0) (c .args .there) (c .pre .1)
-
-pub slower-spec : {M : Type 1} → statement M
-slower-spec = tie.close (tie.spec cast-result returns)
+pub slower-spec : {M : Type 1} → f.Statement.statement M
+slower-spec = tie.close (tie.spec cast-result (λ c. together (c .args .here) (c .pre .0) (c .args .there) (c .pre .1)))

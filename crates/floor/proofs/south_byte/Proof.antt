@@ -1,21 +1,14 @@
 -- `floor::south_byte` meets its contract.
--- Assumes nothing.
-use native.Mathlib.Omega.{arith}
-use borrow.Author.Needs.{needs}
+use Rattle.learning.proofs.Words.{arith, needs}
 use Rattle.floor.specs.Moves.{flat}
 use Rattle.floor.proofs.Stepping.{last-row, before-last, south-off, south-is-byte}
 use Rattle.model.proofs.Moves.{sized-cells}
-use Rattle.floor.proofs.south_byte.Statement.{statement}
-use Rattle.floor.proofs.south_byte.Tie as tie
+use Rattle.floor.proofs.south_byte as f
+use f.Tie as tie
 
-pub south-byte-spec : {M : Type 1} → statement M
+pub south-byte-spec : {M : Type 1} → f.Statement.statement M
 south-byte-spec =
-    tie.close
-    (tie.spec
-    (λ c. omega (arith, sized-cells (c .pre .0), c .pre .0 .narrow))
-    (λ c. let s = c .before in
-    south-off (flat (s .args .width) (s .args .height) (s .args .floor .now)) (s .args .cell) (last-row _ (s .pre .0) _ (s .pre .1) (omega (arith, s .pre .0 .cells))))
-    (λ c. search needs)
-    (λ c. omega arith)
-    (λ c. let s = c .before .before in
-    south-is-byte (flat (s .args .width) (s .args .height) (s .args .floor .now)) (s .args .cell) (before-last _ (s .pre .0) _ (s .pre .1) (omega (arith, s .pre .0 .cells)))))
+    tie.close (tie.spec (λ c. omega (arith, sized-cells (c .pre .0), c .pre .0 .narrow))
+    (λ c. let s = c .before in south-off (flat (s .args .width) (s .args .height) (s .args .floor .now)) (s .args .cell) (last-row _ (s .pre .0) _ (s .pre .1) (omega (arith, s .pre .0 .cells))))
+    (λ c. search needs) (λ c. omega arith)
+    (λ c. let s = c .before .before in south-is-byte (flat (s .args .width) (s .args .height) (s .args .floor .now)) (s .args .cell) (before-last _ (s .pre .0) _ (s .pre .1) (omega (arith, s .pre .0 .cells)))))

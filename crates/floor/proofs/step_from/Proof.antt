@@ -1,15 +1,9 @@
 -- `floor::step_from` meets its contract: each test that fails makes a wall, and past them the cell is the model's, at the price of the move.
--- Assumes nothing.
-use mathlib.Core.Path.{_≡_, sym, ap, ap₂, _∙_}
-use Prim.Native.Nat.{_+_, _-_, _*_, _≤_}
-use native.Mathlib.Omega.{arith}
-use borrow.Author.Needs.{needs}
-use borrow.Author.Tests.{not-true, not-false}
-use lib.ListN.{getD}
+use Rattle.learning.proofs.Words.{_≡_, sym, ap, ap₂, _∙_, _+_, _-_, _*_, _≤_, arith, needs, not-true, not-false, getD}
 use Rattle.model.specs.Floor.{east, south}
 use Rattle.floor.proofs.Stepping.{Sided, here-free, inside, room, reached, byte-ahead, wall-row, wall-column, wall-ahead, step-to}
-use Rattle.floor.proofs.step_from.Statement.{statement}
-use Rattle.floor.proofs.step_from.Tie as tie
+use Rattle.floor.proofs.step_from as f
+use f.Tie as tie
 
 -- past the first two tests the straight cells that the move needs are free
 abbrev start : tie.Else2 → tie.Start
@@ -81,23 +75,8 @@ returns-4 c =
     step-to (s .pre .0) (s .pre .1 .0) _ (s .pre .1 .1) (sided off) _ (led (at-byte .before)) _ (there at-byte) (sym (at-else .before .free-byte .ensures) ∙ not-false _ (at-else .if3 .left)) _
     (c .price .ensures)
 
-pub step-from-spec : {M : Type 1} → statement M
+pub step-from-spec : {M : Type 1} → f.Statement.statement M
 step-from-spec =
-    tie.close
-    (tie.spec
-    (λ c κs. search needs)
-    returns
-    (λ c κs. search needs)
-    returns-2
-    (λ c κs. search needs)
-    (λ c. omega (arith, space (c .before) .1, rows c))
-    (λ c. omega (arith, space (c .before) .1, rows c))
-    (λ c κs. search needs)
-    (λ c. omega (arith, space (c .before .before) .1, rows (c .before), c .east .ensures))
-    (λ c. search needs)
-    (λ c. omega (arith, space (c .before .before) .0, rows (c .before), c .east .ensures))
-    byte-ahead-requires
-    (λ c κs. search needs)
-    returns-3
-    price-requires
-    returns-4)
+    tie.close (tie.spec (λ c κs. search needs) returns (λ c κs. search needs) returns-2 (λ c κs. search needs) (λ c. omega (arith, space (c .before) .1, rows c))
+    (λ c. omega (arith, space (c .before) .1, rows c)) (λ c κs. search needs) (λ c. omega (arith, space (c .before .before) .1, rows (c .before), c .east .ensures)) (λ c. search needs)
+    (λ c. omega (arith, space (c .before .before) .0, rows (c .before), c .east .ensures)) byte-ahead-requires (λ c κs. search needs) returns-3 price-requires returns-4)

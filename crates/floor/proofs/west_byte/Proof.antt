@@ -1,17 +1,12 @@
 -- `floor::west_byte` meets its contract.
--- Assumes nothing.
-use native.Mathlib.Omega.{arith}
-use borrow.Author.Needs.{needs}
+use Rattle.learning.proofs.Words.{arith, needs}
 use Rattle.floor.specs.Moves.{flat}
 use Rattle.floor.proofs.Stepping.{west-off, west-on, west-is-byte}
-use Rattle.floor.proofs.west_byte.Statement.{statement}
-use Rattle.floor.proofs.west_byte.Tie as tie
+use Rattle.floor.proofs.west_byte as f
+use f.Tie as tie
 
-pub west-byte-spec : {M : Type 1} → statement M
+pub west-byte-spec : {M : Type 1} → f.Statement.statement M
 west-byte-spec =
-    tie.close
-    (tie.spec
-    (λ c. let s = c .before in west-off (flat (s .args .width) (s .args .height) (s .args .floor .now)) (s .args .cell) (omega arith))
-    (λ c. let s = c .before in west-on _ (s .pre .0) _ (s .pre .1 .0) (omega arith))
-    (λ c. search needs)
+    tie.close (tie.spec (λ c. let s = c .before in west-off (flat (s .args .width) (s .args .height) (s .args .floor .now)) (s .args .cell) (omega arith))
+    (λ c. let s = c .before in west-on _ (s .pre .0) _ (s .pre .1 .0) (omega arith)) (λ c. search needs)
     (λ c. let s = c .before .before in west-is-byte (flat (s .args .width) (s .args .height) (s .args .floor .now)) (s .args .cell) (omega arith)))

@@ -1,20 +1,10 @@
 -- `floor_text::from` meets its contract: a part that runs to the end is all that is left.
--- Assumes nothing.
+use Rattle.learning.proofs.Words.{needs, arith}
 use Rattle.model.proofs.Parts.{rest, rest-end}
-use borrow.Author.Needs.{needs}
-use native.Mathlib.Omega.{arith}
-use Rattle.floor_text.proofs.from.Statement.{statement}
-use Rattle.floor_text.proofs.from.Tie as tie
+use Rattle.floor_text.proofs.from as f
+use f.Tie as tie
 
-pub from-spec : {M : Type 1} → statement M
+pub from-spec : {M : Type 1} → f.Statement.statement M
 from-spec =
-    tie.close
-    (tie.spec
-    (λ c. search needs)
-    (λ c. search needs)
-    (λ c. search needs)
-    (λ c. rest (c .before .before .args .at) (c .before .before .args .text .now))
-    (λ c. search needs)
-    (λ c. search needs)
-    (λ c. search needs)
-    (λ c. rest-end (c .before .before .args .at) (c .before .before .args .text .now) (omega arith)))
+    tie.close (tie.spec (λ c. search needs) (λ c. search needs) (λ c. search needs) (λ c. rest (c .before .before .args .at) (c .before .before .args .text .now)) (λ c. search needs)
+    (λ c. search needs) (λ c. search needs) (λ c. rest-end (c .before .before .args .at) (c .before .before .args .text .now) (omega arith)))

@@ -1,9 +1,7 @@
 -- `floor_text::is_letter` meets its contract: by its tests.
--- Assumes nothing.
-use borrow.Author.Tests.{eq-eqb, ne-eqb}
-use native.Mathlib.Omega.{arith}
-use Rattle.floor_text.proofs.is_letter.Statement.{statement}
-use Rattle.floor_text.proofs.is_letter.Tie as tie
+use Rattle.learning.proofs.Words.{eq-eqb, ne-eqb, arith}
+use Rattle.floor_text.proofs.is_letter as f
+use f.Tie as tie
 
 returns-3 : tie.Need-returns-3
 returns-3 c =
@@ -25,13 +23,6 @@ returns-6 c =
     let b = c .before .before .before .before .before .args .b in
     simp (ne-eqb b 46 (omega arith), ne-eqb b 71 (omega arith), ne-eqb b 83 (omega arith), ne-eqb b 64 (omega arith), ne-eqb b 79 (omega arith))
 
-pub is-letter-spec : {M : Type 1} → statement M
+pub is-letter-spec : {M : Type 1} → f.Statement.statement M
 is-letter-spec =
-    tie.close
-    (tie.spec
-    (λ c. simp (eq-eqb _ 46 (c .if1 .taken)))
-    (λ c. simp (ne-eqb _ 46 (c .before .if1 .left), eq-eqb _ 71 (c .if2 .taken)))
-    returns-3
-    returns-4
-    returns-5
-    returns-6)
+    tie.close (tie.spec (λ c. simp (eq-eqb _ 46 (c .if1 .taken))) (λ c. simp (ne-eqb _ 46 (c .before .if1 .left), eq-eqb _ 71 (c .if2 .taken))) returns-3 returns-4 returns-5 returns-6)

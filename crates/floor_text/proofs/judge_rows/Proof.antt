@@ -1,15 +1,9 @@
 -- `floor_text::judge_rows` meets its contract: the invariant: `Rowed`, the rows left answer like all of them.
--- Assumes nothing.
-use Prim.Native.Nat.{_-_}
-use lib.ListN.{length}
-use mathlib.Core.Path.{sym, _∙_}
-use borrow.Author.Tests.{eq-eqb, ne-eqb, not-true, not-false}
+use Rattle.learning.proofs.Words.{_-_, length, sym, _∙_, eq-eqb, ne-eqb, not-true, not-false, needs, arith}
 use Rattle.floor_text.proofs.Laws.{Rowed, rowed, rowed-more, rowed-fault, rowed-all}
 use Rattle.model.proofs.FloorTexts.{row-gives}
-use borrow.Author.Needs.{needs}
-use native.Mathlib.Omega.{arith}
-use Rattle.floor_text.proofs.judge_rows.Statement.{statement}
-use Rattle.floor_text.proofs.judge_rows.Tie as tie
+use Rattle.floor_text.proofs.judge_rows as f
+use f.Tie as tie
 
 abbrev Inv-loop : tie.InvT-loop
 Inv-loop width height text t₀ row₀ t row = Rowed width height text t row
@@ -29,23 +23,9 @@ returns-2 c = (let z = eq-eqb (length (c .before .before .loop .t .now)) 0 (omeg
 returns-3 : tie.Need-returns-3 Inv-loop μ-loop
 returns-3 c = (let z = ne-eqb (length (c .before .before .loop .t .now)) 0 (omega arith) in rw z at (rowed-all _ _ _ _ _ (c .before .before .loop .inv) (omega arith)))
 
-pub judge-rows-spec : {M : Type 1} → statement M
+pub judge-rows-spec : {M : Type 1} → f.Statement.statement M
 judge-rows-spec =
-    tie.close
-    (tie.spec
-    Inv-loop
-    μ-loop
-    (λ c. rowed _ _ _)
-    (λ c κs. search needs)
-    (λ c. search needs)
-    returns
-    (λ c. search needs)
+    tie.close (tie.spec Inv-loop μ-loop (λ c. rowed _ _ _) (λ c κs. search needs) (λ c. search needs) returns (λ c. search needs)
     (λ c. omega (arith, row-gives _ _ (sym (c .before .row-holds .ensures) ∙ not-false _ (c .if1 .left)) .0))
-    (λ c. omega (arith, row-gives _ _ (sym (c .before .row-holds .ensures) ∙ not-false _ (c .if1 .left)) .0))
-    (λ c. search needs)
-    (λ c. search needs)
-    (λ c. search needs)
-    loop-again
-    returns-2
-    (λ c. search needs)
-    returns-3)
+    (λ c. omega (arith, row-gives _ _ (sym (c .before .row-holds .ensures) ∙ not-false _ (c .if1 .left)) .0)) (λ c. search needs) (λ c. search needs) (λ c. search needs) loop-again returns-2
+    (λ c. search needs) returns-3)

@@ -1,16 +1,9 @@
 -- `floor_text::read_header` meets its contract: each `return` is one law of `header`.
--- Assumes nothing.
-use Prim.Native.Nat.{ℕ, _≤_}
-use mathlib.Core.Path.{_≡_, sym, _∙_, ap}
-use mathlib.Core.Bool.{true}
-use mathlib.Core.List.{List}
-use borrow.Author.Tests.{not-true, not-false}
+use Rattle.learning.proofs.Words.{ℕ, _≤_, _≡_, sym, _∙_, ap, true, List, not-true, not-false, needs, arith}
 use Rattle.model.specs.FloorText.{begins, typeAndHeight, andWidth, andMap, afterHeight}
 use Rattle.floor_text.proofs.Laws.{no-type, no-height, no-width-line, no-width, no-map, sound}
-use borrow.Author.Needs.{needs}
-use native.Mathlib.Omega.{arith}
-use Rattle.floor_text.proofs.read_header.Statement.{statement}
-use Rattle.floor_text.proofs.read_header.Tie as tie
+use Rattle.floor_text.proofs.read_header as f
+use f.Tie as tie
 
 -- past the first line's test: the text, and that it begins as it must
 abbrev text : tie.Else1 → List ℕ
@@ -58,23 +51,8 @@ returns-6 c =
     sound _ _ (typed (height .before)) (height .height-in .ensures .0) _ (worded (e .before .before)) (e .before .width-in .ensures .0)
     (sym word ∙ not-false _ (c .if5 .left)) (least e .0, least e .1, height .height-in .ensures .1, e .before .width-in .ensures .1)
 
-pub read-header-spec : {M : Type 1} → statement M
+pub read-header-spec : {M : Type 1} → f.Statement.statement M
 read-header-spec =
-    tie.close
-    (tie.spec
-    (λ c. search needs)
-    (λ c κs. search needs)
-    (λ c. no-type _ (sym (c .before .begins-with .ensures) ∙ not-true _ (c .if1 .taken)))
-    (λ c κs. search needs)
-    (λ c. no-height _ _ (typed (c .before .before)) (c .before .height-in .ensures .0) (c .if2 .taken))
-    (λ c. search needs)
-    (λ c κs. search needs)
-    (λ c κs. search needs)
-    returns-3
-    (λ c κs. search needs)
-    returns-4
-    (λ c. search needs)
-    (λ c κs. search needs)
-    (λ c κs. search needs)
-    returns-5
-    returns-6)
+    tie.close (tie.spec (λ c. search needs) (λ c κs. search needs) (λ c. no-type _ (sym (c .before .begins-with .ensures) ∙ not-true _ (c .if1 .taken))) (λ c κs. search needs)
+    (λ c. no-height _ _ (typed (c .before .before)) (c .before .height-in .ensures .0) (c .if2 .taken)) (λ c. search needs) (λ c κs. search needs) (λ c κs. search needs) returns-3
+    (λ c κs. search needs) returns-4 (λ c. search needs) (λ c κs. search needs) (λ c κs. search needs) returns-5 returns-6)

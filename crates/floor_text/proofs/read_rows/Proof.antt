@@ -1,15 +1,10 @@
 -- `floor_text::read_rows` meets its contract: one law for each of no room, a faulty row and all rows stored.
--- Assumes nothing.
-use mathlib.Core.Path.{_≡_, sym, _∙_, ap}
-use native.Mathlib.Nat.{mul-le-mul}
-use lib.ListN.{drop}
+use Rattle.learning.proofs.Words.{_≡_, sym, _∙_, ap, mul-le-mul, drop, needs, arith}
 use Rattle.model.specs.FloorText.{rows, rowsIn}
 use Rattle.floor_text.proofs.Laws.{no-room, rows-refused, rows-read}
 use Rattle.model.proofs.FloorTexts.{rows-there}
-use borrow.Author.Needs.{needs}
-use native.Mathlib.Omega.{arith}
-use Rattle.floor_text.proofs.read_rows.Statement.{statement}
-use Rattle.floor_text.proofs.read_rows.Tie as tie
+use Rattle.floor_text.proofs.read_rows as f
+use f.Tie as tie
 
 -- once the rows were judged: they are the text's
 abbrev begun : tie.After-judge-rows → tie.Start
@@ -37,18 +32,7 @@ returns-3 c =
     let e = told .before .before in
     rows-read _ _ _ _ (begun e .pre) (omega arith) _ (sym (judged e) ∙ told .enum-told .given .1) (rw (here e) at (c .before .before .store-rows .ensures))
 
-pub read-rows-spec : {M : Type 1} → statement M
+pub read-rows-spec : {M : Type 1} → f.Statement.statement M
 read-rows-spec =
-    tie.close
-    (tie.spec
-    (λ c. omega (arith, mul-le-mul (c .before .before .pre .narrow) (c .before .before .pre .low)))
-    (λ c. no-room _ _ _ _ (c .before .before .before .pre) (omega arith))
-    (λ c κs. search needs)
-    (λ c κs. search needs)
-    (λ c κs. search needs)
-    (λ c. search needs)
-    (λ c. search needs)
-    store-rows-requires
-    returns-2
-    (λ c. search needs)
-    returns-3)
+    tie.close (tie.spec (λ c. omega (arith, mul-le-mul (c .before .before .pre .narrow) (c .before .before .pre .low))) (λ c. no-room _ _ _ _ (c .before .before .before .pre) (omega arith))
+    (λ c κs. search needs) (λ c κs. search needs) (λ c κs. search needs) (λ c. search needs) (λ c. search needs) store-rows-requires returns-2 (λ c. search needs) returns-3)

@@ -1,13 +1,8 @@
 -- `floor_text::row_holds` meets its contract: the invariant: `Lettered`, i letters are passed.
--- Assumes nothing.
-use Prim.Native.Nat.{_-_}
-use borrow.Author.Tests.{not-true, not-false}
-use mathlib.Core.Path.{sym, _∙_}
+use Rattle.learning.proofs.Words.{_-_, not-true, not-false, sym, _∙_, needs, arith}
 use Rattle.floor_text.proofs.Laws.{Lettered, lettered, lettered-more, row-short, row-not, row-end}
-use borrow.Author.Needs.{needs}
-use native.Mathlib.Omega.{arith}
-use Rattle.floor_text.proofs.row_holds.Statement.{statement}
-use Rattle.floor_text.proofs.row_holds.Tie as tie
+use Rattle.floor_text.proofs.row_holds as f
+use f.Tie as tie
 
 abbrev Inv-loop : tie.InvT-loop
 Inv-loop width text i₀ i = Lettered width text i
@@ -21,19 +16,7 @@ returns-2 c = row-not _ _ _ (c .before .before .before .before .loop .inv) (sym 
 loop-again : tie.Need-loop-again Inv-loop μ-loop
 loop-again c = lettered-more _ _ _ (c .before .before .before .before .loop .inv) (sym (c .before .is-letter .ensures) ∙ not-false _ (c .if2 .left)) (omega arith)
 
-pub row-holds-spec : {M : Type 1} → statement M
+pub row-holds-spec : {M : Type 1} → f.Statement.statement M
 row-holds-spec =
-    tie.close
-    (tie.spec
-    Inv-loop
-    μ-loop
-    (λ c. row-short _ _ (omega arith))
-    (λ c. lettered _ _)
-    (λ c. search needs)
-    (λ c κs. search needs)
-    returns-2
-    (λ c. search needs)
-    (λ c. search needs)
-    loop-again
-    (λ c. search needs)
-    (λ c. row-end _ _ _ (c .before .before .loop .inv) (omega arith)))
+    tie.close (tie.spec Inv-loop μ-loop (λ c. row-short _ _ (omega arith)) (λ c. lettered _ _) (λ c. search needs) (λ c κs. search needs) returns-2 (λ c. search needs) (λ c. search needs)
+    loop-again (λ c. search needs) (λ c. row-end _ _ _ (c .before .before .loop .inv) (omega arith)))

@@ -1,12 +1,8 @@
 -- `floor_text::size_in` meets its contract: each `return` is one law of the run of digits at the front.
--- Assumes nothing.
-use mathlib.Core.Path.{_≡_, _∙_, sym}
-use lib.ListN.{getD}
+use Rattle.learning.proofs.Words.{_≡_, _∙_, sym, getD, needs, arith}
 use Rattle.floor_text.proofs.Sizes.{size-zero, size-long, size-no-LF, size-past, size-whole}
-use borrow.Author.Needs.{needs}
-use native.Mathlib.Omega.{arith}
-use Rattle.floor_text.proofs.size_in.Statement.{statement}
-use Rattle.floor_text.proofs.size_in.Tie as tie
+use Rattle.floor_text.proofs.size_in as f
+use f.Tie as tie
 
 -- past the first test: no zero stands in front
 no-zero : (e : tie.Else1) → getD (e .before .before .before .args .text .now) 0 0 ≡ 48 → ⊥
@@ -29,15 +25,7 @@ returns-5 c =
     let read = byte .before .before in
     (size-whole _ _ (read .read .ensures) (no-zero (read .before)) (omega arith) (sym (byte .byte-at2 .ensures) ∙ c .before .before .if3 .left) (omega arith), omega arith)
 
-pub size-in-spec : {M : Type 1} → statement M
+pub size-in-spec : {M : Type 1} → f.Statement.statement M
 size-in-spec =
-    tie.close
-    (tie.spec
-    (λ c κs. search needs)
-    (λ c. (size-zero _ (sym (c .before .byte-at .ensures) ∙ c .if1 .taken), omega arith))
-    (λ c κs. search needs)
-    (λ c. (size-long _ _ (c .before .read .ensures) (no-zero (c .before .before)) (omega arith), omega arith))
-    (λ c κs. search needs)
-    returns-3
-    returns-4
-    returns-5)
+    tie.close (tie.spec (λ c κs. search needs) (λ c. (size-zero _ (sym (c .before .byte-at .ensures) ∙ c .if1 .taken), omega arith)) (λ c κs. search needs)
+    (λ c. (size-long _ _ (c .before .read .ensures) (no-zero (c .before .before)) (omega arith), omega arith)) (λ c κs. search needs) returns-3 returns-4 returns-5)

@@ -1,12 +1,8 @@
 -- `floor_text::store_row` meets its contract: the invariant: `Stored`, i letters are stored.
--- Assumes nothing.
-use Prim.Native.Nat.{_-_}
-use lib.ListN.{length}
+use Rattle.learning.proofs.Words.{_-_, length, needs, arith}
 use Rattle.floor_text.proofs.Laws.{Stored, stored, stored-more, stored-all}
-use borrow.Author.Needs.{needs}
-use native.Mathlib.Omega.{arith}
-use Rattle.floor_text.proofs.store_row.Statement.{statement}
-use Rattle.floor_text.proofs.store_row.Tie as tie
+use Rattle.floor_text.proofs.store_row as f
+use f.Tie as tie
 
 abbrev Inv-loop : tie.InvT-loop
 Inv-loop letters part₀ i₀ part i = Stored letters part₀ part i
@@ -14,18 +10,8 @@ Inv-loop letters part₀ i₀ part i = Stored letters part₀ part i
 abbrev μ-loop : tie.MeasureT-loop
 μ-loop letters part₀ i₀ part i = length letters - i
 
-pub store-row-spec : {M : Type 1} → statement M
+pub store-row-spec : {M : Type 1} → f.Statement.statement M
 store-row-spec =
-    tie.close
-    (tie.spec
-    Inv-loop
-    μ-loop
-    (λ c. stored _ _)
-    (λ c. search needs)
-    (λ c κs. search needs)
-    (λ c. search needs)
-    (λ c. search needs)
-    (λ c. search needs)
-    (λ c. stored-more _ _ _ _ (c .before .before .before .loop .inv) _ (c .byte-of .ensures) (omega arith))
-    (λ c. search needs)
+    tie.close (tie.spec Inv-loop μ-loop (λ c. stored _ _) (λ c. search needs) (λ c κs. search needs) (λ c. search needs) (λ c. search needs) (λ c. search needs)
+    (λ c. stored-more _ _ _ _ (c .before .before .before .loop .inv) _ (c .byte-of .ensures) (omega arith)) (λ c. search needs)
     (λ c. stored-all _ _ _ _ (c .before .loop .inv) (omega arith)))

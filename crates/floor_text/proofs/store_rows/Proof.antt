@@ -1,14 +1,8 @@
 -- `floor_text::store_rows` meets its contract: the invariant: `Filled`, the cells of the rows passed are stored.
--- Assumes nothing.
-use Prim.Native.Nat.{_+_, _*_, _-_, _≤_}
-use mathlib.Core.Path.{sym}
-use lib.Seq.{length-take-le}
-use lib.ListN.{length, length-take, length-drop}
+use Rattle.learning.proofs.Words.{_+_, _*_, _-_, _≤_, sym, length-take-le, length, length-take, length-drop, needs, arith}
 use Rattle.floor_text.proofs.Laws.{Filled, filled, row-left, filled-more, filled-all}
-use borrow.Author.Needs.{needs}
-use native.Mathlib.Omega.{arith}
-use Rattle.floor_text.proofs.store_rows.Statement.{statement}
-use Rattle.floor_text.proofs.store_rows.Tie as tie
+use Rattle.floor_text.proofs.store_rows as f
+use f.Tie as tie
 
 abbrev Inv-loop : tie.InvT-loop
 Inv-loop width height text buffer₀ t₀ row₀ buffer t row = Filled width height text buffer₀ t buffer row
@@ -28,26 +22,10 @@ loop-again c =
     let in-loop = c .before .before .before .before .before .before in
     filled-more _ _ _ _ _ _ _ (in-loop .before .loop .inv) _ (c .before .before .before .store-row .ensures) (omega arith)
 
-pub store-rows-spec : {M : Type 1} → statement M
+pub store-rows-spec : {M : Type 1} → f.Statement.statement M
 store-rows-spec =
-    tie.close
-    (tie.spec
-    Inv-loop
-    μ-loop
-    (λ c. filled _ _ _ _ (omega arith))
-    (λ c. omega (arith, left c))
-    (λ c. omega (arith, left c))
-    (λ c. sym (length-take-le _ _ (omega (arith, left (c .before)))))
-    (λ c. omega arith)
-    (λ c. omega (arith, left (c .before)))
-    (λ c. omega (arith, left (c .before)))
-    (λ c κs. simp (length-take, length-drop) (omega (arith, left (c .before .before))))
-    (λ c. search needs)
-    (λ c. omega (arith, left (c .before .before .before .before .before)))
-    (λ c. omega (arith, left (c .before .before .before .before .before)))
-    (λ c. omega (arith, left (c .before .before .before .before .before)))
-    (λ c. search needs)
-    (λ c. search needs)
-    loop-again
-    (λ c. omega arith)
-    (λ c. filled-all _ _ _ _ _ _ _ (c .before .loop .inv) (omega arith)))
+    tie.close (tie.spec Inv-loop μ-loop (λ c. filled _ _ _ _ (omega arith)) (λ c. omega (arith, left c)) (λ c. omega (arith, left c))
+    (λ c. sym (length-take-le _ _ (omega (arith, left (c .before))))) (λ c. omega arith) (λ c. omega (arith, left (c .before))) (λ c. omega (arith, left (c .before)))
+    (λ c κs. simp (length-take, length-drop) (omega (arith, left (c .before .before)))) (λ c. search needs) (λ c. omega (arith, left (c .before .before .before .before .before)))
+    (λ c. omega (arith, left (c .before .before .before .before .before))) (λ c. omega (arith, left (c .before .before .before .before .before))) (λ c. search needs) (λ c. search needs)
+    loop-again (λ c. omega arith) (λ c. filled-all _ _ _ _ _ _ _ (c .before .loop .inv) (omega arith)))

@@ -1,14 +1,9 @@
 -- `journey::say_counts` meets its contract: two texts printed one after another, and told.
--- Assumes nothing.
-use native.Mathlib.Omega.{arith}
+use Rattle.learning.proofs.Words.{arith, needs}
 use Rattle.line.proofs.Decimals.{printed-then}
 use Rattle.journey.proofs.Telling.{counts-room, told-one}
-use borrow.Author.Needs.{needs}
-use Rattle.journey.proofs.say_counts.Statement.{statement}
-use Rattle.journey.proofs.say_counts.Tie as tie
-
-spill-requires : tie.Need-spill-requires
-spill-requires c κs = omega (arith, counts-room _ (c .before .before .before .counts .ensures))
+use Rattle.journey.proofs.say_counts as f
+use f.Tie as tie
 
 returns : tie.Need-returns
 returns c =
@@ -18,6 +13,6 @@ returns c =
     let p = c .before .before .before .before .counts .ensures in
     told-one (printed-then _ _ (after-say-none .say-none .ensures .0) p) (start .pre .size) (omega (arith, counts-room _ p)) (c .spill .ensures)
 
-pub say-counts-spec : {M : Type 1} → statement M
+pub say-counts-spec : {M : Type 1} → f.Statement.statement M
 say-counts-spec =
-    tie.close (tie.spec (λ c κs. search needs) (λ c κs. search needs) spill-requires (λ c. search needs) returns)
+    tie.close (tie.spec (λ c κs. search needs) (λ c κs. search needs) (λ c κs. omega (arith, counts-room _ (c .before .before .before .counts .ensures))) (λ c. search needs) returns)

@@ -1,11 +1,9 @@
 -- `journey::say_moves` meets its contract: the moves are printed, and told.
--- Assumes nothing.
-use native.Mathlib.Omega.{arith}
+use Rattle.learning.proofs.Words.{arith, needs}
 use Rattle.line.proofs.Decimals.{digits-length}
 use Rattle.journey.proofs.Telling.{told-one}
-use borrow.Author.Needs.{needs}
-use Rattle.journey.proofs.say_moves.Statement.{statement}
-use Rattle.journey.proofs.say_moves.Tie as tie
+use Rattle.journey.proofs.say_moves as f
+use f.Tie as tie
 
 spill-requires : tie.Need-spill-requires
 spill-requires c κs =
@@ -20,5 +18,5 @@ returns c =
     told-one (after-moves .moves .ensures) (start .pre .0 .size)
     (omega (arith, after-moves .moves .ensures .next, digits-length (start .args .moves .now) (start .args .n) (start .pre .1 .1))) (c .spill .ensures)
 
-pub say-moves-spec : {M : Type 1} → statement M
+pub say-moves-spec : {M : Type 1} → f.Statement.statement M
 say-moves-spec = tie.close (tie.spec (λ c κs. search needs) spill-requires (λ c. search needs) returns)

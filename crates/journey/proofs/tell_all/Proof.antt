@@ -1,14 +1,9 @@
 -- `journey::tell_all` meets its contract: the laws of the loop are `Course.antt`'s; the trials left fall.
--- Assumes nothing.
-use Prim.Native.Nat.{_-_}
-use mathlib.Core.Path.{_≡_, refl, _∙_}
-use native.Mathlib.Omega.{arith}
-use lib.ListN.{length}
+use Rattle.learning.proofs.Words.{_-_, _≡_, refl, _∙_, arith, length, needs}
 use Rattle.run.proofs.Course.{fewer}
 use Rattle.journey.proofs.Course.{Coursing, none-yet, may-tell, one-told, all-told}
-use borrow.Author.Needs.{needs}
-use Rattle.journey.proofs.tell_all.Statement.{statement}
-use Rattle.journey.proofs.tell_all.Tie as tie
+use Rattle.journey.proofs.tell_all as f
+use f.Tie as tie
 
 abbrev Inv-loop : tie.InvT-loop
 Inv-loop job floor start trials table₀ path₀ out₀ limit₀ made₀ at₀ table path out limit made at =
@@ -16,12 +11,6 @@ Inv-loop job floor start trials table₀ path₀ out₀ limit₀ made₀ at₀ t
 
 abbrev μ-loop : tie.MeasureT-loop
 μ-loop job floor start trials table₀ path₀ out₀ limit₀ made₀ at₀ table path out limit made at = limit - made
-
-loop-holds : tie.Need-loop-holds Inv-loop μ-loop
-loop-holds c = let a = c .before .before .before .before .pre in (none-yet _ _ _ _ _ _ _ (a .0) (a .1 .0) (a .1 .1) (a .1 .2), refl, refl, refl)
-
-tell-requires : tie.Need-tell-requires Inv-loop μ-loop
-tell-requires c κs = may-tell _ _ _ _ _ _ _ _ _ _ _ _ _ (c .before .before .before .before .loop .inv .0) (c .before .before .before .loop-test .taken)
 
 -- from a place to one before it
 abbrev to-in-loop : tie.After-tell Inv-loop μ-loop → tie.In-loop Inv-loop μ-loop
@@ -60,35 +49,13 @@ loop-again c =
       c .before .before .before .out .given ∙ i .3,
     )
 
-last-line-requires : tie.Need-last-line-requires Inv-loop μ-loop
-last-line-requires c κs = omega (arith, c .before .before .loop .inv .0 .told .room .size, c .before .before .loop .inv .0 .told .room .left)
-
-same-length : tie.Need-same-length Inv-loop μ-loop
-same-length c = c .before .before .before .before .before .loop .inv .1
-
-same-length-2 : tie.Need-same-length-2 Inv-loop μ-loop
-same-length-2 c = c .before .before .before .before .before .loop .inv .2
-
-same-length-3 : tie.Need-same-length-3 Inv-loop μ-loop
-same-length-3 c = c .before .out2 .given ∙ c .before .before .before .before .before .loop .inv .3
-
 returns : tie.Need-returns Inv-loop μ-loop
 returns c = all-told _ _ _ _ _ _ _ _ _ _ _ _ _ (c .before .before .before .before .before .loop .inv .0) (omega arith) _ _ (c .before .before .last-line .ensures)
 
-pub tell-all-spec : {M : Type 1} → statement M
+pub tell-all-spec : {M : Type 1} → f.Statement.statement M
 tell-all-spec =
-    tie.close
-    (tie.spec
-    Inv-loop
-    μ-loop
-    loop-holds
-    tell-requires
-    (λ c κs. search needs)
-    add-made
-    loop-less
-    loop-again
-    last-line-requires
-    same-length
-    same-length-2
-    same-length-3
-    returns)
+    tie.close (tie.spec Inv-loop μ-loop (λ c. let a = c .before .before .before .before .pre in (none-yet _ _ _ _ _ _ _ (a .0) (a .1 .0) (a .1 .1) (a .1 .2), refl, refl, refl))
+    (λ c κs. may-tell _ _ _ _ _ _ _ _ _ _ _ _ _ (c .before .before .before .before .loop .inv .0) (c .before .before .before .loop-test .taken)) (λ c κs. search needs) add-made loop-less
+    loop-again (λ c κs. omega (arith, c .before .before .loop .inv .0 .told .room .size, c .before .before .loop .inv .0 .told .room .left))
+    (λ c. c .before .before .before .before .before .loop .inv .1) (λ c. c .before .before .before .before .before .loop .inv .2)
+    (λ c. c .before .out2 .given ∙ c .before .before .before .before .before .loop .inv .3) returns)

@@ -1,13 +1,11 @@
 -- `journey::tell_moves` meets its contract: the loop is that of a trial, whose laws are `run`'s, and the moves told are those of the ride so far.
--- The measure is the ride's potential. Assumes nothing.
-use mathlib.Core.Path.{sym, ap, _∙_}
-use native.Mathlib.Omega.{arith}
-use borrow.Author.Needs.{needs}
+-- The measure is the ride's potential.
+use Rattle.learning.proofs.Words.{sym, ap, _∙_, arith, needs}
 use Rattle.run.proofs.Driving.{yetTo, long, sized, may-tally, done, rode-so, may-go-on, nearer, not-so, so}
 use Rattle.journey.specs.Telling.{some}
 use Rattle.journey.proofs.Telling.{Telling, tells-none, may-say, tells, told-ride}
-use Rattle.journey.proofs.tell_moves.Statement.{statement}
-use Rattle.journey.proofs.tell_moves.Tie as tie
+use Rattle.journey.proofs.tell_moves as f
+use f.Tie as tie
 
 abbrev Inv-loop : tie.InvT-loop
 Inv-loop job floor start table₀ path₀ moves₀ mark₀ cost₀ list₀ place₀ along₀ out₀ from w₀ moved₀ at₀ table path moves mark cost list place along out w moved at =
@@ -74,39 +72,9 @@ loop-again c =
     tells _ _ _ _ _ (opened (t .before) .pre .0) _ _ (t .before .before .loop .inv) (not-so (t .before .arrived .ensures) (t .if1 .taken)) (o .onward .ensures .0) (o .onward .ensures .1)
     (l .lay .ensures) (said .before .before .before .before .moves .given) (said .say-moves .ensures) (c .moves-yet .ensures)
 
-tally-requires : tie.Need-tally-requires Inv-loop μ-loop
-tally-requires c κs = let e = c .before .before in may-tally _ _ _ _ _ (opened e .pre .0) (e .before .loop .inv .under)
-
 -- the lists at the end are as long as those lent
 abbrev over : tie.After-tally Inv-loop μ-loop → tie.After-arrived Inv-loop μ-loop
 over e = e .before .before .before
-
-same-length : tie.Need-same-length Inv-loop μ-loop
-same-length c = let e = over c in sized _ _ _ _ _ (opened e .pre .0) (e .before .loop .inv .under .drive)
-
-same-length-2 : tie.Need-same-length-2 Inv-loop μ-loop
-same-length-2 c = let e = over c in long _ _ _ _ _ (opened e .pre .0) (e .before .loop .inv .under .drive)
-
-same-length-3 : tie.Need-same-length-3 Inv-loop μ-loop
-same-length-3 c = let e = over c in e .before .loop .inv .room ∙ sym (opened e .pre .1 .1 .0)
-
-same-length-4 : tie.Need-same-length-4 Inv-loop μ-loop
-same-length-4 c = let e = over c in e .before .loop .inv .under .used .marks .size ∙ sym (opened e .pre .1 .0 .used .marks .size)
-
-same-length-5 : tie.Need-same-length-5 Inv-loop μ-loop
-same-length-5 c = let e = over c in e .before .loop .inv .under .used .costs ∙ sym (opened e .pre .1 .0 .used .costs)
-
-same-length-6 : tie.Need-same-length-6 Inv-loop μ-loop
-same-length-6 c = let e = over c in e .before .loop .inv .under .used .cells ∙ sym (opened e .pre .1 .0 .used .cells)
-
-same-length-7 : tie.Need-same-length-7 Inv-loop μ-loop
-same-length-7 c = let e = over c in e .before .loop .inv .under .places .size ∙ sym (opened e .pre .1 .0 .places)
-
-same-length-8 : tie.Need-same-length-8 Inv-loop μ-loop
-same-length-8 c = let e = over c in e .before .loop .inv .under .legs-so .size ∙ sym (opened e .pre .1 .0 .sums)
-
-same-length-9 : tie.Need-same-length-9 Inv-loop μ-loop
-same-length-9 c = let e = over c in e .before .loop .inv .told .room .size ∙ sym (opened e .pre .1 .1 .1 .size)
 
 returns : tie.Need-returns Inv-loop μ-loop
 returns c =
@@ -120,29 +88,15 @@ returns c =
       told = told-ride whole (t .told);
     }
 
-pub tell-moves-spec : {M : Type 1} → statement M
+pub tell-moves-spec : {M : Type 1} → f.Statement.statement M
 tell-moves-spec =
-    tie.close
-    (tie.spec
-    Inv-loop
-    μ-loop
-    (λ c κs. search needs)
-    loop-holds
-    (λ c κs. search needs)
-    onward-requires
-    lay-requires
-    say-moves-requires
-    (λ c κs. search needs)
-    loop-less
-    loop-again
-    tally-requires
-    same-length
-    same-length-2
-    same-length-3
-    same-length-4
-    same-length-5
-    same-length-6
-    same-length-7
-    same-length-8
-    same-length-9
-    returns)
+    tie.close (tie.spec Inv-loop μ-loop (λ c κs. search needs) loop-holds (λ c κs. search needs) onward-requires lay-requires say-moves-requires (λ c κs. search needs) loop-less loop-again
+    (λ c κs. let e = c .before .before in may-tally _ _ _ _ _ (opened e .pre .0) (e .before .loop .inv .under))
+    (λ c. let e = over c in sized _ _ _ _ _ (opened e .pre .0) (e .before .loop .inv .under .drive))
+    (λ c. let e = over c in long _ _ _ _ _ (opened e .pre .0) (e .before .loop .inv .under .drive)) (λ c. let e = over c in e .before .loop .inv .room ∙ sym (opened e .pre .1 .1 .0))
+    (λ c. let e = over c in e .before .loop .inv .under .used .marks .size ∙ sym (opened e .pre .1 .0 .used .marks .size))
+    (λ c. let e = over c in e .before .loop .inv .under .used .costs ∙ sym (opened e .pre .1 .0 .used .costs))
+    (λ c. let e = over c in e .before .loop .inv .under .used .cells ∙ sym (opened e .pre .1 .0 .used .cells))
+    (λ c. let e = over c in e .before .loop .inv .under .places .size ∙ sym (opened e .pre .1 .0 .places))
+    (λ c. let e = over c in e .before .loop .inv .under .legs-so .size ∙ sym (opened e .pre .1 .0 .sums))
+    (λ c. let e = over c in e .before .loop .inv .told .room .size ∙ sym (opened e .pre .1 .1 .1 .size)) returns)

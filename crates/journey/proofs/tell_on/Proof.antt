@@ -1,9 +1,8 @@
 -- `journey::tell_on` meets its contract: the moves and the counts are the line.
--- Assumes nothing.
+use Rattle.learning.proofs.Words.{needs}
 use Rattle.journey.proofs.Telling.{told-line}
-use borrow.Author.Needs.{needs}
-use Rattle.journey.proofs.tell_on.Statement.{statement}
-use Rattle.journey.proofs.tell_on.Tie as tie
+use Rattle.journey.proofs.tell_on as f
+use f.Tie as tie
 
 say-counts-requires : tie.Need-say-counts-requires
 say-counts-requires c κs =
@@ -22,19 +21,7 @@ returns c =
     let w = after-tell-moves .tell-moves .ensures in
     record { rode = w .rode; told = told-line _ _ _ _ _ (w .moved) (w .rode .record-is) (w .told) (c .before .before .say-counts .ensures) }
 
-pub tell-on-spec : {M : Type 1} → statement M
+pub tell-on-spec : {M : Type 1} → f.Statement.statement M
 tell-on-spec =
-    tie.close
-    (tie.spec
-    (λ c κs. search needs)
-    say-counts-requires
-    (λ c. search needs)
-    (λ c. search needs)
-    (λ c. search needs)
-    (λ c. search needs)
-    (λ c. search needs)
-    (λ c. search needs)
-    (λ c. search needs)
-    (λ c. search needs)
-    (λ c. search needs)
-    returns)
+    tie.close (tie.spec (λ c κs. search needs) say-counts-requires (λ c. search needs) (λ c. search needs) (λ c. search needs) (λ c. search needs) (λ c. search needs) (λ c. search needs)
+    (λ c. search needs) (λ c. search needs) (λ c. search needs) returns)

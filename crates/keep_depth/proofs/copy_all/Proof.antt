@@ -1,11 +1,8 @@
--- `keep_depth::copy_all` meets its contract. The loop's invariant: `Reading`, what is held of all that was read, and the lists are as long as they were. Assumes nothing.
-use mathlib.Core.Path.{_≡_, refl}
-use native.Mathlib.Omega.{arith}
-use lib.ListN.{length}
+-- `keep_depth::copy_all` meets its contract. The loop's invariant: `Reading`, what is held of all that was read, and the lists are as long as they were.
+use Rattle.learning.proofs.Words.{_≡_, refl, arith, length, needs}
 use Rattle.keep_depth.proofs.Parting.{Reading, reading, part-goes, ended-told, stopped-told}
-use borrow.Author.Needs.{needs}
-use Rattle.keep_depth.proofs.copy_all.Statement.{statement}
-use Rattle.keep_depth.proofs.copy_all.Tie as tie
+use Rattle.keep_depth.proofs.copy_all as f
+use f.Tie as tie
 
 abbrev Inv-loop : tie.InvT-loop
 Inv-loop kept₀ part₀ out₀ held₀ line₀ turns₀ kept part out held line turns = Reading kept held line turns × (length kept ≡ length kept₀) × (length part ≡ length part₀) × (length out ≡ length out₀)
@@ -49,9 +46,6 @@ copy-part-requires c κs =
       counted = omega (arith, i .0 .counted, i .0 .most);
     }
 
-write-requires : tie.Need-write-requires Inv-loop μ-loop
-write-requires c κs = c .before .before .before .before .before .copy-part .ensures .room
-
 returns-4 : tie.Need-returns-4 Inv-loop μ-loop
 returns-4 c =
     let stops = c .before in
@@ -69,41 +63,9 @@ loop-again c =
       omega (arith, i .3, made .copy-part .kept .1 .1 .1 .1 .0),
     )
 
-pub copy-all-spec : {M : Type 1} → statement M
+pub copy-all-spec : {M : Type 1} → f.Statement.statement M
 copy-all-spec =
-    tie.close
-    (tie.spec
-    Inv-loop
-    μ-loop
-    (λ c. (reading _, refl, refl, refl))
-    (λ c κs. search needs)
-    (λ c. omega arith)
-    (λ c. omega arith)
-    (λ c. omega arith)
-    (λ c. tt)
-    (λ c κs. search needs)
-    (λ c. omega arith)
-    (λ c. omega arith)
-    (λ c. omega arith)
-    returns-2
-    (λ c κs. search needs)
-    (λ c. search needs)
-    (λ c. search needs)
-    copy-part-requires
-    write-requires
-    (λ c. omega arith)
-    (λ c. omega arith)
-    (λ c. omega arith)
-    (λ c. tt)
-    (λ c κs. search needs)
-    (λ c. omega arith)
-    (λ c. omega arith)
-    (λ c. omega arith)
-    returns-4
-    (λ c. omega arith)
-    (λ c. omega arith)
-    loop-again
-    (λ c. omega arith)
-    (λ c. omega arith)
-    (λ c. omega arith)
-    (λ c. tt))
+    tie.close (tie.spec Inv-loop μ-loop (λ c. (reading _, refl, refl, refl)) (λ c κs. search needs) (λ c. omega arith) (λ c. omega arith) (λ c. omega arith) (λ c. tt) (λ c κs. search needs)
+    (λ c. omega arith) (λ c. omega arith) (λ c. omega arith) returns-2 (λ c κs. search needs) (λ c. search needs) (λ c. search needs) copy-part-requires
+    (λ c κs. c .before .before .before .before .before .copy-part .ensures .room) (λ c. omega arith) (λ c. omega arith) (λ c. omega arith) (λ c. tt) (λ c κs. search needs) (λ c. omega arith)
+    (λ c. omega arith) (λ c. omega arith) returns-4 (λ c. omega arith) (λ c. omega arith) loop-again (λ c. omega arith) (λ c. omega arith) (λ c. omega arith) (λ c. tt))

@@ -1,10 +1,8 @@
--- `keep_depth::copy_part` meets its contract: the part stands behind what is held, its lines are copied, and what is left of the last is held or too long. Assumes nothing.
-use mathlib.Core.Path.{sym}
-use native.Mathlib.Omega.{arith}
+-- `keep_depth::copy_part` meets its contract: the part stands behind what is held, its lines are copied, and what is left of the last is held or too long.
+use Rattle.learning.proofs.Words.{sym, arith, needs}
 use Rattle.keep_depth.proofs.Parting.{within, bytes-long, part-fits, done-within, stops-here, stops-long, goes-on}
-use borrow.Author.Needs.{needs}
-use Rattle.keep_depth.proofs.copy_part.Statement.{statement}
-use Rattle.keep_depth.proofs.copy_part.Tie as tie
+use Rattle.keep_depth.proofs.copy_part as f
+use f.Tie as tie
 
 -- the places: at the start, once the part is put behind what is held, and once its lines are copied
 abbrev at-start : tie.After-bytes → tie.Start
@@ -15,9 +13,6 @@ at-bytes c = c .before .before .before .before .before
 
 abbrev at-lines : tie.Else1 → tie.After-copy-lines
 at-lines c = c .before .before .before
-
-copy-lines-requires : tie.Need-copy-lines-requires
-copy-lines-requires c κs = let b = c .before .before .before .before in part-fits (at-start b .pre) (b .bytes .ensures)
 
 sub-left : tie.Need-sub-left
 sub-left c =
@@ -53,24 +48,8 @@ returns-3 c =
     let b = at-bytes l in
     goes-on (at-start b .pre) (b .bytes .ensures) (l .copy-lines .ensures) (e .if1 .left) (omega arith) _ (moved .to-front .ensures)
 
-pub copy-part-spec : {M : Type 1} → statement M
+pub copy-part-spec : {M : Type 1} → f.Statement.statement M
 copy-part-spec =
-    tie.close
-    (tie.spec
-    (λ c κs. search needs)
-    (λ c. search needs)
-    (λ c. let b = c .before .before .before in sym (bytes-long (at-start b .pre) (b .bytes .ensures)))
-    copy-lines-requires
-    sub-left
-    (λ c κs. search needs)
-    (λ c. search needs)
-    (λ c. search needs)
-    returns
-    (λ c κs. search needs)
-    (λ c. search needs)
-    (λ c. search needs)
-    returns-2
-    to-front-requires
-    (λ c. search needs)
-    (λ c. search needs)
-    returns-3)
+    tie.close (tie.spec (λ c κs. search needs) (λ c. search needs) (λ c. let b = c .before .before .before in sym (bytes-long (at-start b .pre) (b .bytes .ensures)))
+    (λ c κs. let b = c .before .before .before .before in part-fits (at-start b .pre) (b .bytes .ensures)) sub-left (λ c κs. search needs) (λ c. search needs) (λ c. search needs) returns
+    (λ c κs. search needs) (λ c. search needs) (λ c. search needs) returns-2 to-front-requires (λ c. search needs) (λ c. search needs) returns-3)

@@ -1,19 +1,10 @@
 -- `line::push` meets its contract: each way out is one field of `Pushed`.
--- Assumes nothing.
-use mathlib.Core.Path.{refl}
-use native.Mathlib.Omega.{arith}
-use borrow.Author.Needs.{needs}
+use Rattle.learning.proofs.Words.{refl, arith, needs}
 use Rattle.model.proofs.Accepted.{never}
-use Rattle.line.proofs.push.Statement.{statement}
-use Rattle.line.proofs.push.Tie as tie
+use Rattle.line.proofs.push as f
+use f.Tie as tie
 
-pub push-spec : {M : Type 1} → statement M
+pub push-spec : {M : Type 1} → f.Statement.statement M
 push-spec =
-    tie.close
-    (tie.spec
-    (λ c κs. search needs)
-    (λ c. record { good = λ t. absurd (never t (c .blank .ensures .0)); bad = λ f o. omega arith })
-    (λ c. search needs)
-    (λ c. search needs)
-    (λ c. search needs)
-    (λ c. record { good = λ t. (omega arith, refl, refl, refl); bad = λ f o. absurd (never o f) }))
+    tie.close (tie.spec (λ c κs. search needs) (λ c. record { good = λ t. absurd (never t (c .blank .ensures .0)); bad = λ f o. omega arith }) (λ c. search needs) (λ c. search needs)
+    (λ c. search needs) (λ c. record { good = λ t. (omega arith, refl, refl, refl); bad = λ f o. absurd (never o f) }))

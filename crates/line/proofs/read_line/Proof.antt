@@ -1,15 +1,10 @@
 -- `line::read_line` meets its contract: the scanned numbers ask for what the line asks for.
--- Assumes nothing.
-use mathlib.Core.Path.{sym, ap, _∙_}
-use native.Mathlib.Omega.{arith}
-use borrow.Author.Tests.{not-true, not-false}
-use lib.ListN.{drop}
+use Rattle.learning.proofs.Words.{sym, ap, _∙_, arith, not-true, not-false, drop, needs}
 use Rattle.model.specs.Line.{readLineBy, defaultDepth}
 use Rattle.model.proofs.Cut.{asksOf}
 use Rattle.line.proofs.Laws.{none-some, beyond-asks-nothing}
-use borrow.Author.Needs.{needs}
-use Rattle.line.proofs.read_line.Statement.{statement}
-use Rattle.line.proofs.read_line.Tie as tie
+use Rattle.line.proofs.read_line as f
+use f.Tie as tie
 
 returns : tie.Need-returns
 returns c =
@@ -36,5 +31,5 @@ returns-2 c =
           (ap (λ n. drop n input) t ∙ g .3, omega (arith, t, g .4));
     }
 
-pub read-line-spec : {M : Type 1} → statement M
+pub read-line-spec : {M : Type 1} → f.Statement.statement M
 read-line-spec = tie.close (tie.spec (λ c κs. search needs) returns settings-requires returns-2)

@@ -1,16 +1,9 @@
 -- `line::scan` meets its contract. The loop's invariant: the numbers so far, with those of the bytes left, are the line's (`Scanning`), and they are seven at most.
--- Assumes nothing.
-use Prim.Native.Nat.{_-_}
-use mathlib.Core.Path.{_≡_}
-use mathlib.Core.Bool.{true}
-use borrow.Author.Needs.{needs}
-use borrow.Author.Tests.{not-true, not-false}
-use native.Mathlib.Omega.{arith}
-use lib.ListN.{length}
+use Rattle.learning.proofs.Words.{_-_, _≡_, true, needs, not-true, not-false, arith, length}
 use Rattle.line.specs.Reading.{numbersOf, Goes}
 use Rattle.line.proofs.Laws.{Scanning, scanning-none, scanning-pushed, scanned-none, scanned-bad, scanned-eighth, scanned, refused, refused-beyond, goes, full}
-use Rattle.line.proofs.scan.Statement.{statement}
-use Rattle.line.proofs.scan.Tie as tie
+use Rattle.line.proofs.scan as f
+use f.Tie as tie
 
 abbrev Inv-loop : tie.InvT-loop
 Inv-loop input r₀ i₀ r i = Scanning input 0 (numbersOf r) i × Goes r
@@ -52,9 +45,6 @@ returns-3 c =
     let i = at-loop w .loop .inv in
     scanned (i .0) (w .word-at .ensures) (good (p .before)) (c .if3 .taken) (i .1) (p .push .ensures) (kept e)
 
-loop-less : tie.Need-loop-less Inv-loop μ-loop
-loop-less c = let p = c .before .before .before in omega (arith, at-word p .word-at .ensures .on (good (p .before)))
-
 loop-again : tie.Need-loop-again Inv-loop μ-loop
 loop-again c =
     let e = c .before in
@@ -63,21 +53,8 @@ loop-again c =
     let i = at-loop w .loop .inv in
     scanning-pushed (i .0) (w .word-at .ensures) (good (p .before)) (c .if3 .left) (i .1) (p .push .ensures) (kept e)
 
-pub scan-spec : {M : Type 1} → statement M
+pub scan-spec : {M : Type 1} → f.Statement.statement M
 scan-spec =
-    tie.close
-    (tie.spec
-    Inv-loop
-    μ-loop
-    (λ c κs. search needs)
-    (λ c. (scanning-none _ (c .blank .result) (c .blank .ensures .1), goes _ (c .blank .ensures)))
-    (λ c κs. search needs)
-    (λ c κs. search needs)
-    returns
-    (λ c κs. search needs)
-    returns-2
-    returns-3
-    loop-less
-    loop-again
-    (λ c κs. search needs)
-    (λ c. refused _ _ (c .blank3 .ensures .0) (scanned-none (c .before .before .loop .inv .0) (omega arith))))
+    tie.close (tie.spec Inv-loop μ-loop (λ c κs. search needs) (λ c. (scanning-none _ (c .blank .result) (c .blank .ensures .1), goes _ (c .blank .ensures))) (λ c κs. search needs)
+    (λ c κs. search needs) returns (λ c κs. search needs) returns-2 returns-3 (λ c. let p = c .before .before .before in omega (arith, at-word p .word-at .ensures .on (good (p .before))))
+    loop-again (λ c κs. search needs) (λ c. refused _ _ (c .blank3 .ensures .0) (scanned-none (c .before .before .loop .inv .0) (omega arith))))

@@ -1,15 +1,8 @@
 -- `lookahead::clear` meets its contract. The loop's invariant: the marks at the first i places are 0.
--- Assumes nothing.
-use Prim.Native.Nat.{ℕ, _-_, _≤_, _<_}
-use mathlib.Core.Path.{_≡_, refl}
-use native.Mathlib.Decide.{decLt}
-use native.Mathlib.Omega.{arith}
-use borrow.Author.Needs.{needs}
-use mathlib.Core.List.{List}
-use lib.ListN.{length, getD, length-set, List·getD-eq-default}
+use Rattle.learning.proofs.Words.{ℕ, _-_, _≤_, _<_, _≡_, refl, decLt, arith, needs, List, length, getD, length-set, List·getD-eq-default}
 use Rattle.lookahead.proofs.Stores.{by-store}
-use Rattle.lookahead.proofs.clear.Statement.{statement}
-use Rattle.lookahead.proofs.clear.Tie as tie
+use Rattle.lookahead.proofs.clear as f
+use f.Tie as tie
 
 abbrev Inv-loop : tie.InvT-loop
 Inv-loop mark₀ i₀ mark i = (i ≤ length mark) × (length mark ≡ length mark₀) × ((x : ℕ) → x < i → getD mark x 0 ≡ 0)
@@ -22,12 +15,6 @@ past : (l : List ℕ) (x : ℕ) → Dec (x < length l) → (x < length l → get
 past l x (yes h) f = f h
 past l x (no h) f = List·getD-eq-default l 0 (omega (arith, h))
 
-loop-holds : tie.Need-loop-holds Inv-loop μ-loop
-loop-holds c = (omega arith, refl, λ x l. absurd (omega arith))
-
-loop-less : tie.Need-loop-less Inv-loop μ-loop
-loop-less c = simp length-set (omega arith)
-
 loop-again : tie.Need-loop-again Inv-loop μ-loop
 loop-again c =
     let l = c .before .loop in
@@ -37,25 +24,12 @@ loop-again c =
       λ x p. by-store (λ y. y ≡ 0) (l .mark) (l .i) 0 x h (λ e. refl) (λ n. l .inv .2 x (omega (arith, n))),
     )
 
-same-length : tie.Need-same-length Inv-loop μ-loop
-same-length c = c .before .loop .inv .1
-
 returns : tie.Need-returns Inv-loop μ-loop
 returns c =
     let l = c .before .loop in
     (l .inv .1, λ x. past (l .mark) x (decLt x (length (l .mark))) (λ h. l .inv .2 x (omega arith)))
 
-pub clear-spec : {M : Type 1} → statement M
+pub clear-spec : {M : Type 1} → f.Statement.statement M
 clear-spec =
-    tie.close
-    (tie.spec
-    Inv-loop
-    μ-loop
-    loop-holds
-    (λ c. search needs)
-    (λ c. omega arith)
-    (λ c. omega arith)
-    loop-less
-    loop-again
-    same-length
-    returns)
+    tie.close (tie.spec Inv-loop μ-loop (λ c. (omega arith, refl, λ x l. absurd (omega arith))) (λ c. search needs) (λ c. omega arith) (λ c. omega arith) (λ c. simp length-set (omega arith))
+    loop-again (λ c. c .before .loop .inv .1) returns)

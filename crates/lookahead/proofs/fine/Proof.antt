@@ -1,12 +1,7 @@
 -- `lookahead::fine` meets its contract.
--- Assumes nothing.
-use mathlib.Core.Path.{refl}
-use borrow.Author.Needs.{needs}
-use Rattle.lookahead.proofs.fine.Statement.{statement}
-use Rattle.lookahead.proofs.fine.Tie as tie
+use Rattle.learning.proofs.Words.{refl, needs}
+use Rattle.lookahead.proofs.fine as f
+use f.Tie as tie
 
-returns : tie.Need-returns
-returns c = refl
-
-pub fine-spec : {M : Type 1} → statement M
-fine-spec = tie.close (tie.spec (λ c. search needs) (λ c. search needs) returns)
+pub fine-spec : {M : Type 1} → f.Statement.statement M
+fine-spec = tie.close (tie.spec (λ c. search needs) (λ c. search needs) (λ c. refl))

@@ -1,19 +1,12 @@
 -- `lookahead::leg` meets its contract.
--- Assumes nothing.
-use mathlib.Core.Path.{ap, _∙_}
-use Prim.Native.Nat.{ℕ, _/_, _<_}
-use native.Mathlib.Omega.{arith}
-use borrow.Author.Needs.{needs}
+use Rattle.learning.proofs.Words.{ap, _∙_, ℕ, _/_, _<_, arith, needs}
 use Rattle.model.specs.Lookahead.{fineness}
 use Rattle.lookahead.proofs.Meaning.{near-few, near-cost, near-coarse}
-use Rattle.lookahead.proofs.leg.Statement.{statement}
-use Rattle.lookahead.proofs.leg.Tie as tie
+use Rattle.lookahead.proofs.leg as f
+use f.Tie as tie
 
 few : (c : tie.Start) → c .args .x < 4096
 few c = near-few _ _ _ (c .pre .0) _ (c .pre .1 .1)
-
-mul-coarse : tie.Need-mul-coarse
-mul-coarse c = omega (arith, few (c .before .before .before))
 
 shared-slice-read-coarse : tie.Need-shared-slice-read-coarse
 shared-slice-read-coarse c =
@@ -28,5 +21,5 @@ returns c =
     let e = c .coarse .ensures ∙ ap (λ (n : ℕ). n / fineness) (a .pre .1 .0 .costs (a .args .x) near) in
     (e ∙ near-coarse _ _ _ Q _ near, omega (arith, e, near-cost _ _ _ Q _ near))
 
-pub leg-spec : {M : Type 1} → statement M
-leg-spec = tie.close (tie.spec mul-coarse shared-slice-read-coarse (λ c κs. search needs) returns)
+pub leg-spec : {M : Type 1} → f.Statement.statement M
+leg-spec = tie.close (tie.spec (λ c. omega (arith, few (c .before .before .before))) shared-slice-read-coarse (λ c κs. search needs) returns)

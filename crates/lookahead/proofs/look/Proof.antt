@@ -1,15 +1,13 @@
 -- `lookahead::look` meets its contract: the rings' marks and the relaxed costs are the model's window, or a ring is empty.
--- Assumes nothing.
-use native.Mathlib.Omega.{arith}
-use borrow.Author.Needs.{needs}
+use Rattle.learning.proofs.Words.{arith, needs}
 use Rattle.model.proofs.Moves.{sized-cells}
 use Rattle.model.specs.Checks.{floorOf, goals}
 use Rattle.lookahead.proofs.Meaning.{looked, blocked}
 use Rattle.lookahead.proofs.Seeing.{framed-costs, framed-listing, framed-noted}
 use Rattle.lookahead.specs.Marks.{state}
 use Rattle.lookahead.specs.Rings.{Framed}
-use Rattle.lookahead.proofs.look.Statement.{statement}
-use Rattle.lookahead.proofs.look.Tie as tie
+use Rattle.lookahead.proofs.look as f
+use f.Tie as tie
 
 -- from a place to one before it
 abbrev to-start : tie.After-rings → tie.Start
@@ -71,19 +69,7 @@ returns-2 c =
     let B = rw (c .enum-told .given .1) at (after-rings .rings .ensures) in
     blocked _ _ _ (a .pre .0) _ (B .0) (B .1) _ _ _ (B .2) (a .pre .1 .marks .room)
 
-pub look-spec : {M : Type 1} → statement M
+pub look-spec : {M : Type 1} → f.Statement.statement M
 look-spec =
-    tie.close
-    (tie.spec
-    rings-requires
-    (λ c. search needs)
-    relax-requires
-    (λ c. search needs)
-    (λ c. search needs)
-    (λ c. search needs)
-    (λ c. search needs)
-    returns
-    (λ c. search needs)
-    (λ c. search needs)
-    (λ c. search needs)
-    returns-2)
+    tie.close (tie.spec rings-requires (λ c. search needs) relax-requires (λ c. search needs) (λ c. search needs) (λ c. search needs) (λ c. search needs) returns (λ c. search needs)
+    (λ c. search needs) (λ c. search needs) returns-2)

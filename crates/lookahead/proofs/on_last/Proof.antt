@@ -1,19 +1,10 @@
 -- `lookahead::on_last` meets its contract: a mark is that of the last ring just where the ring is the last.
--- Assumes nothing.
-use Prim.Native.Nat.{ℕ, _+_}
-use mathlib.Core.List.{List}
-use mathlib.Core.Path.{_≡_, sym, ap₂, _∙_}
-use native.Mathlib.Decide.{ℕ-discrete, decLe}
-use native.Mathlib.Omega.{arith}
-use borrow.Author.Needs.{needs}
-use borrow.Author.Tests.{eq-eqb, ne-eqb}
-use lib.Dec.{eqb}
-use lib.ListN.{getD}
+use Rattle.learning.proofs.Words.{ℕ, _+_, List, _≡_, sym, ap₂, _∙_, ℕ-discrete, decLe, arith, needs, eq-eqb, ne-eqb, eqb, getD}
 use Rattle.answers.specs.declared.Job.{Job}
 use Rattle.model.specs.Lookahead.{ring, seen}
 use Rattle.lookahead.specs.Contract.{Near, Seen}
-use Rattle.lookahead.proofs.on_last.Statement.{statement}
-use Rattle.lookahead.proofs.on_last.Tie as tie
+use Rattle.lookahead.proofs.on_last as f
+use f.Tie as tie
 
 -- two tests of equality that hold together are the same
 same-test : (a b c d : ℕ) → (a ≡ b → c ≡ d) → (c ≡ d → a ≡ b) → eqb a b ≡ eqb c d
@@ -44,13 +35,5 @@ returns c =
     ∙ same-test _ _ _ _ (to-ring (r .job) (r .floor .now) (r .s) (r .base) (r .mark .now) (r .cost .now) (p .0) (r .last) (r .x) (p .1 .0))
     (to-mark (r .job) (r .floor .now) (r .s) (r .base) (r .mark .now) (r .cost .now) (p .0) (r .last) (r .x) (p .1 .0))
 
-pub on-last-spec : {M : Type 1} → statement M
-on-last-spec =
-    tie.close
-    (tie.spec
-    (λ c. search needs)
-    (λ c. search needs)
-    (λ c κs. search needs)
-    (λ c κs. search needs)
-    (λ c. search needs)
-    returns)
+pub on-last-spec : {M : Type 1} → f.Statement.statement M
+on-last-spec = tie.close (tie.spec (λ c. search needs) (λ c. search needs) (λ c κs. search needs) (λ c κs. search needs) (λ c. search needs) returns)

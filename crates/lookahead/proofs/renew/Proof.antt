@@ -1,10 +1,7 @@
 -- `lookahead::renew` meets its contract.
--- Assumes nothing.
-use mathlib.Core.Path.{_∙_}
-use native.Mathlib.Omega.{arith}
-use borrow.Author.Needs.{needs}
-use Rattle.lookahead.proofs.renew.Statement.{statement}
-use Rattle.lookahead.proofs.renew.Tie as tie
+use Rattle.learning.proofs.Words.{_∙_, arith, needs}
+use Rattle.lookahead.proofs.renew as f
+use f.Tie as tie
 
 returns-2 : tie.Need-returns-2
 returns-2 c =
@@ -12,5 +9,5 @@ returns-2 c =
     let start = c .before .before .before .before .before .before in
     record { size = e .0 ∙ start .pre .size; room = omega arith; below = λ x. omega (arith, e .1 x) }
 
-pub renew-spec : {M : Type 1} → statement M
+pub renew-spec : {M : Type 1} → f.Statement.statement M
 renew-spec = tie.close (tie.spec (λ c. search needs) (λ c. search needs) (λ c. search needs) (λ c κs. search needs) (λ c. search needs) returns-2)

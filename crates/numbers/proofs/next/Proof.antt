@@ -1,15 +1,9 @@
 -- `numbers::next` meets its contract. The loop's invariant: what stands here is what stands at the first place.
--- Assumes nothing.
-use Prim.Native.Nat.{_-_}
-use mathlib.Core.Path.{_≡_, refl, sym, _∙_}
-use native.Mathlib.Omega.{arith}
-use lib.ListN.{length, drop}
-use borrow.Author.Needs.{needs}
-use borrow.Author.Tests.{not-true, not-false}
+use Rattle.learning.proofs.Words.{_-_, _≡_, refl, sym, _∙_, arith, length, drop, needs, not-true, not-false}
 use Rattle.numbers.specs.Reading.{numberFrom, numberAt}
 use Rattle.numbers.proofs.Laws.{blanks-end, blanks-over, blanks-more}
-use Rattle.numbers.proofs.next.Statement.{statement}
-use Rattle.numbers.proofs.next.Tie as tie
+use Rattle.numbers.proofs.next as f
+use f.Tie as tie
 
 abbrev Inv-loop : tie.InvT-loop
 Inv-loop input at i₀ i = numberFrom i (drop i input) ≡ numberAt input at
@@ -39,18 +33,6 @@ returns-2 c =
     let l = c .before .loop in
     blanks-end (a .input .now) (a .at) (l .i) (l .inv) (omega arith)
 
-pub next-spec : {M : Type 1} → statement M
+pub next-spec : {M : Type 1} → f.Statement.statement M
 next-spec =
-    tie.close
-    (tie.spec
-    Inv-loop
-    μ-loop
-    (λ c. refl)
-    (λ c. omega arith)
-    (λ c κs. search needs)
-    (λ c κs. search needs)
-    returns
-    (λ c. omega arith)
-    (λ c. omega arith)
-    loop-again
-    returns-2)
+    tie.close (tie.spec Inv-loop μ-loop (λ c. refl) (λ c. omega arith) (λ c κs. search needs) (λ c κs. search needs) returns (λ c. omega arith) (λ c. omega arith) loop-again returns-2)

@@ -1,13 +1,8 @@
 -- `numbers::number` meets its contract: by what stands at the cursor's place.
--- Assumes nothing.
-use mathlib.Core.Path.{_≡_, ap, _∙_}
-use mathlib.Core.Bool.{true}
-use native.Mathlib.Omega.{arith}
-use borrow.Author.Needs.{needs}
-use borrow.Author.Tests.{not-true, not-false}
+use Rattle.learning.proofs.Words.{_≡_, ap, _∙_, true, arith, needs, not-true, not-false}
 use Rattle.numbers.proofs.Laws.{number-not, number-by, number-read, number-over}
-use Rattle.numbers.proofs.number.Statement.{statement}
-use Rattle.numbers.proofs.number.Tie as tie
+use Rattle.numbers.proofs.number as f
+use f.Tie as tie
 
 returns : tie.Need-returns
 returns c =
@@ -38,20 +33,7 @@ returns-5 c =
     let e = c .before .before .before in
     (c .fail4 .ensures ∙ number-by _ _ _ (well e) _ _ (e .next .ensures) (c .before .enum-told2 .given .1), omega (arith, ap (λ x. x .value) (c .fail4 .ensures)))
 
-pub number-spec : {M : Type 1} → statement M
+pub number-spec : {M : Type 1} → f.Statement.statement M
 number-spec =
-    tie.close
-    (tie.spec
-    (λ c κs. search needs)
-    returns
-    (λ c κs. search needs)
-    (λ c. search needs)
-    (λ c κs. search needs)
-    returns-2
-    (λ c. search needs)
-    (λ c κs. search needs)
-    (λ c. search needs)
-    (λ c κs. search needs)
-    returns-3
-    returns-4
-    returns-5)
+    tie.close (tie.spec (λ c κs. search needs) returns (λ c κs. search needs) (λ c. search needs) (λ c κs. search needs) returns-2 (λ c. search needs) (λ c κs. search needs)
+    (λ c. search needs) (λ c κs. search needs) returns-3 returns-4 returns-5)

@@ -1,17 +1,15 @@
 -- `opening::accepts` meets its contract: one check after another, and the first refusal stands.
--- Once checks are passed, an answer that is what the rest says is what they and the rest say: `past-..`. Assumes nothing.
+-- Once checks are passed, an answer that is what the rest says is what they and the rest say: `past-..`.
+use Rattle.learning.proofs.Words.{needs, now, _≡_, sym, _∙_}
 use Rattle.model.proofs.Accepted.{then-stops, then-goes}
 use Rattle.model.proofs.Benches.{places-judges, goals-judges, benched}
 use Rattle.model.proofs.Moves.{free-below}
 use Rattle.model.specs.Basics.{then}
 use Rattle.model.specs.Checks.{floorOf, goals, places, goalsHold, figures}
 use Rattle.model.specs.Opening.{accepts}
-use borrow.Author.Needs.{needs}
-use denote.Ref.{now}
-use mathlib.Core.Path.{_≡_, sym, _∙_}
 use Rattle.answers.specs.declared.Verdict.{Verdict}
-use Rattle.opening.proofs.accepts.Statement.{statement}
-use Rattle.opening.proofs.accepts.Tie as tie
+use Rattle.opening.proofs.accepts as f
+use f.Tie as tie
 
 -- the places: at the start, from where 4 is passed; and there, from where 27 is
 abbrev at-start : tie.After-enum-told → tie.Start
@@ -55,21 +53,7 @@ returns-4 : tie.Need-returns-4
 unfolding accepts
 returns-4 c = past-goals (c .before .before .before .before) (then-goes _ (figures-are (c .before .before .before)) (c .before .enum-told5 .given .1) (c .soundness .ensures))
 
-pub accepts-spec : {M : Type 1} → statement M
+pub accepts-spec : {M : Type 1} → f.Statement.statement M
 accepts-spec =
-    tie.close
-    (tie.spec
-    (λ c κs. search needs)
-    (λ c. search needs)
-    (λ c. search needs)
-    returns
-    (λ c κs. search needs)
-    (λ c. search needs)
-    (λ c. search needs)
-    returns-2
-    (λ c κs. search needs)
-    (λ c. search needs)
-    (λ c. search needs)
-    returns-3
-    soundness-requires
-    returns-4)
+    tie.close (tie.spec (λ c κs. search needs) (λ c. search needs) (λ c. search needs) returns (λ c κs. search needs) (λ c. search needs) (λ c. search needs) returns-2 (λ c κs. search needs)
+    (λ c. search needs) (λ c. search needs) returns-3 soundness-requires returns-4)

@@ -1,17 +1,11 @@
 -- `opening::fill_figures` meets its contract. The invariant: the places passed hold their opening figures, whatever the floor's bytes.
--- Assumes nothing.
-use Prim.Native.Nat.{ℕ, _-_, _≤_}
+use Rattle.learning.proofs.Words.{ℕ, _-_, _≤_, needs, length, length-set, List, [], _≡_, refl, _∙_, arith}
 use Rattle.floor.specs.Moves.{flat}
 use Rattle.model.proofs.OpeningSound.{opening-high}
 use Rattle.model.specs.Floor.{opening, openingTable, goalsOf}
 use Rattle.opening.proofs.Fill.{Filled, fill-more, fill-all}
-use borrow.Author.Needs.{needs}
-use lib.ListN.{length, length-set}
-use mathlib.Core.List.{List, []}
-use mathlib.Core.Path.{_≡_, refl, _∙_}
-use native.Mathlib.Omega.{arith}
-use Rattle.opening.proofs.fill_figures.Statement.{statement}
-use Rattle.opening.proofs.fill_figures.Tie as tie
+use Rattle.opening.proofs.fill_figures as f
+use f.Tie as tie
 
 abbrev Inv-loop : tie.InvT-loop
 Inv-loop width height goals q table₀ x₀ table x =
@@ -23,12 +17,6 @@ abbrev μ-loop : tie.MeasureT-loop
 -- the start, from the loop
 abbrev start : tie.At-loop Inv-loop μ-loop → tie.Start Inv-loop μ-loop
 start c = c .before .before
-
-loop-holds : tie.Need-loop-holds Inv-loop μ-loop
-loop-holds c = (omega arith, refl, λ bytes k h. absurd (omega arith))
-
-opening-requires : tie.Need-opening-requires Inv-loop μ-loop
-opening-requires c κs = let p = start (c .before) .pre in (p .0, (p .1, (p .2, (p .3, (omega arith, p .4)))))
 
 cast-table : tie.Need-cast-table Inv-loop μ-loop
 cast-table c =
@@ -50,19 +38,8 @@ returns : tie.Need-returns Inv-loop μ-loop
 unfolding openingTable
 returns c bytes = let l = c .before in fill-all _ _ _ (l .loop .inv .1 ∙ start l .pre .5) (λ k h. l .loop .inv .2 bytes k (omega arith))
 
-pub fill-figures-spec : {M : Type 1} → statement M
+pub fill-figures-spec : {M : Type 1} → f.Statement.statement M
 fill-figures-spec =
-    tie.close
-    (tie.spec
-    Inv-loop
-    μ-loop
-    loop-holds
-    opening-requires
-    cast-table
-    (λ c. search needs)
-    (λ c. search needs)
-    (λ c. search needs)
-    (λ c. omega arith)
-    loop-again
-    (λ c. c .before .loop .inv .1)
-    returns)
+    tie.close (tie.spec Inv-loop μ-loop (λ c. (omega arith, refl, λ bytes k h. absurd (omega arith)))
+    (λ c κs. let p = start (c .before) .pre in (p .0, (p .1, (p .2, (p .3, (omega arith, p .4)))))) cast-table (λ c. search needs) (λ c. search needs) (λ c. search needs) (λ c. omega arith)
+    loop-again (λ c. c .before .loop .inv .1) returns)

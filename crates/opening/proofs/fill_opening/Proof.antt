@@ -1,15 +1,9 @@
 -- `opening::fill_opening` meets its contract: the table is stored to only when no check refuses.
--- Assumes nothing.
+use Rattle.learning.proofs.Words.{needs, sym, _∙_, arith}
 use Rattle.model.proofs.Files.{openable}
 use Rattle.opening.proofs.Promise.{fills-refused, fills-done}
-use borrow.Author.Needs.{needs}
-use mathlib.Core.Path.{sym, _∙_}
-use native.Mathlib.Omega.{arith}
-use Rattle.opening.proofs.fill_opening.Statement.{statement}
-use Rattle.opening.proofs.fill_opening.Tie as tie
-
-returns : tie.Need-returns
-returns c = fills-refused _ _ _ _ (c .before .before .open-table .ensures) (c .enum-told2 .given .1)
+use Rattle.opening.proofs.fill_opening as f
+use f.Tie as tie
 
 fill-figures-requires : tie.Need-fill-figures-requires
 fill-figures-requires c κs =
@@ -22,14 +16,7 @@ returns-2 c =
     let opened = filled .before .before in
     fills-done _ _ _ _ (sym (opened .enum-told .given .1) ∙ opened .before .before .open-table .ensures) (filled .fill-figures .ensures _)
 
-pub fill-opening-spec : {M : Type 1} → statement M
+pub fill-opening-spec : {M : Type 1} → f.Statement.statement M
 fill-opening-spec =
-    tie.close
-    (tie.spec
-    (λ c κs. search needs)
-    (λ c. search needs)
-    (λ c. search needs)
-    returns
-    fill-figures-requires
-    (λ c. search needs)
-    returns-2)
+    tie.close (tie.spec (λ c κs. search needs) (λ c. search needs) (λ c. search needs) (λ c. fills-refused _ _ _ _ (c .before .before .open-table .ensures) (c .enum-told2 .given .1))
+    fill-figures-requires (λ c. search needs) returns-2)

@@ -1,11 +1,9 @@
 -- `opening::job_in` meets its contract: the line names one goal.
--- Assumes nothing.
-use mathlib.Core.Path.{ap}
-use borrow.Author.Needs.{needs}
+use Rattle.learning.proofs.Words.{ap, needs}
 use Rattle.answers.specs.declared.Goals.{Goals}
 use Rattle.answers.specs.declared.Job.{Job}
-use Rattle.opening.proofs.job_in.Statement.{statement}
-use Rattle.opening.proofs.job_in.Tie as tie
+use Rattle.opening.proofs.job_in as f
+use f.Tie as tie
 
 returns : tie.Need-returns
 returns c =
@@ -21,5 +19,5 @@ returns c =
     } in
     ap with-goals (c .one-goal .ensures)
 
-pub job-in-spec : {M : Type 1} → statement M
+pub job-in-spec : {M : Type 1} → f.Statement.statement M
 job-in-spec = tie.close (tie.spec (λ c κs. search needs) returns)

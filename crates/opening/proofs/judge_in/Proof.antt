@@ -1,10 +1,8 @@
 -- `opening::judge_in` meets its contract: what it finds are the true distances, and they judge as the model does.
--- Assumes nothing.
+use Rattle.learning.proofs.Words.{needs, _∙_}
 use Rattle.opening.proofs.Truth.{judged-soundness}
-use borrow.Author.Needs.{needs}
-use mathlib.Core.Path.{_∙_}
-use Rattle.opening.proofs.judge_in.Statement.{statement}
-use Rattle.opening.proofs.judge_in.Tie as tie
+use Rattle.opening.proofs.judge_in as f
+use f.Tie as tie
 
 returns : tie.Need-returns
 returns c =
@@ -12,6 +10,5 @@ returns c =
     let start = found .before .before .before .before .before in
     c .judge-distances .ensures ∙ judged-soundness _ _ _ _ _ (start .pre .0) (c .before .before .before .before .find-distances .ensures)
 
-pub judge-in-spec : {M : Type 1} → statement M
-judge-in-spec =
-    tie.close (tie.spec (λ c κs. search needs) (λ c κs. search needs) (λ c. search needs) returns)
+pub judge-in-spec : {M : Type 1} → f.Statement.statement M
+judge-in-spec = tie.close (tie.spec (λ c κs. search needs) (λ c κs. search needs) (λ c. search needs) returns)

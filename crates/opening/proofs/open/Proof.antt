@@ -1,14 +1,8 @@
 -- `opening::open` meets its contract: a job is opened as a trial whose path list is as long as its table.
--- Assumes nothing.
-use mathlib.Core.Path.{refl, _∙_}
-use borrow.Author.Needs.{needs}
-use denote.Ref.{now}
+use Rattle.learning.proofs.Words.{refl, _∙_, needs, now}
 use Rattle.opening.proofs.Promise.{answered, trial-of-table}
-use Rattle.opening.proofs.open.Statement.{statement}
-use Rattle.opening.proofs.open.Tie as tie
+use Rattle.opening.proofs.open as f
+use f.Tie as tie
 
-returns : tie.Need-returns
-returns c = answered (c .open-trial .ensures (now (c .before .before .before .args .table)) refl ∙ trial-of-table _ _ _ _)
-
-pub open-spec : {M : Type 1} → statement M
-open-spec = tie.close (tie.spec (λ c κs. search needs) returns)
+pub open-spec : {M : Type 1} → f.Statement.statement M
+open-spec = tie.close (tie.spec (λ c κs. search needs) (λ c. answered (c .open-trial .ensures (now (c .before .before .before .args .table)) refl ∙ trial-of-table _ _ _ _)))

@@ -1,11 +1,6 @@
 -- `opening::open_run` meets its contract: one check after another, and the first refusal stands.
--- Once checks are passed, an answer that is what the rest says is what they and the rest say: `past-..`. Assumes nothing.
-use mathlib.Core.Path.{_≡_, sym, ap, _∙_}
-use mathlib.Core.List.{List}
-use Prim.Native.Nat.{ℕ}
-use borrow.Author.Needs.{needs}
-use denote.Ref.{now}
-use lib.ListN.{length}
+-- Once checks are passed, an answer that is what the rest says is what they and the rest say: `past-..`.
+use Rattle.learning.proofs.Words.{_≡_, sym, ap, _∙_, List, ℕ, needs, now, length}
 use Rattle.answers.specs.declared.Verdict.{Verdict}
 use Rattle.model.specs.Basics.{then}
 use Rattle.model.specs.Floor.{size, Sized}
@@ -13,8 +8,8 @@ use Rattle.model.specs.Checks.{floorOf, sizes, pathRoom, settings}
 use Rattle.model.specs.Opening.{reportsRoom, trialsHold, openRun}
 use Rattle.model.proofs.Accepted.{then-stops, then-goes, then-done, sizes-judges, settings-judges}
 use Rattle.opening.proofs.Promise.{then-two}
-use Rattle.opening.proofs.open_run.Statement.{statement}
-use Rattle.opening.proofs.open_run.Tie as tie
+use Rattle.opening.proofs.open_run as f
+use f.Tie as tie
 
 -- the places: at the start, once the sizes hold, and once the path list is long enough
 abbrev at-start : tie.After-enum-told → tie.Start
@@ -78,25 +73,7 @@ returns-5 : tie.Need-returns-5
 unfolding openRun
 returns-5 c = λ places q. past-room (at-room (c .before)) places q (past-settings (c .before) (c .accepts .ensures))
 
-pub open-run-spec : {M : Type 1} → statement M
+pub open-run-spec : {M : Type 1} → f.Statement.statement M
 open-run-spec =
-    tie.close
-    (tie.spec
-    (λ c κs. search needs)
-    (λ c. search needs)
-    (λ c. search needs)
-    returns
-    (λ c κs. search needs)
-    (λ c. search needs)
-    (λ c. search needs)
-    returns-2
-    (λ c κs. search needs)
-    (λ c. search needs)
-    (λ c. search needs)
-    returns-3
-    (λ c κs. search needs)
-    (λ c. search needs)
-    (λ c. search needs)
-    returns-4
-    accepts-requires
-    returns-5)
+    tie.close (tie.spec (λ c κs. search needs) (λ c. search needs) (λ c. search needs) returns (λ c κs. search needs) (λ c. search needs) (λ c. search needs) returns-2 (λ c κs. search needs)
+    (λ c. search needs) (λ c. search needs) returns-3 (λ c κs. search needs) (λ c. search needs) (λ c. search needs) returns-4 accepts-requires returns-5)

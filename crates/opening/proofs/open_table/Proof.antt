@@ -1,16 +1,13 @@
 -- `opening::open_table` meets its contract: one check after another.
--- Assumes nothing.
+use Rattle.learning.proofs.Words.{needs, now, _≡_, sym, _∙_}
 use Rattle.model.proofs.Accepted.{then-stops, then-goes, sizes-judges}
 use Rattle.model.specs.Basics.{then}
 use Rattle.model.specs.Checks.{sizes, scale}
 use Rattle.model.specs.Opening.{openTable}
 use Rattle.answers.specs.declared.Verdict.{Verdict}
 use Rattle.floor.specs.Moves.{flat}
-use borrow.Author.Needs.{needs}
-use denote.Ref.{now}
-use mathlib.Core.Path.{_≡_, sym, _∙_}
-use Rattle.opening.proofs.open_table.Statement.{statement}
-use Rattle.opening.proofs.open_table.Tie as tie
+use Rattle.opening.proofs.open_table as f
+use f.Tie as tie
 
 -- the places: at the start, and once the sizes hold
 abbrev at-start : tie.After-enum-told → tie.Start
@@ -35,9 +32,6 @@ returns-2 : tie.Need-returns-2
 unfolding openTable
 returns-2 c = past-sized (c .before .before .before) (then-stops _ (c .before .before .scale .ensures) (c .enum-told4 .given .1))
 
-benches-requires : tie.Need-benches-requires
-benches-requires c κs = let s = at-sized c in sizes-judges _ _ .gives (sym (s .before .before .sizes .ensures) ∙ s .enum-told .given .1) .0
-
 returns-3 : tie.Need-returns-3
 unfolding openTable
 returns-3 c = past-scale (c .before .before .before) (then-stops _ (c .before .before .benches .ensures) (c .enum-told6 .given .1))
@@ -48,21 +42,8 @@ returns-4 c =
     let b = c .before in
     past-scale (b .before .before .before) (then-goes _ (b .before .before .benches .ensures) (b .enum-told5 .given .1) (c .goals-hold .ensures))
 
-pub open-table-spec : {M : Type 1} → statement M
+pub open-table-spec : {M : Type 1} → f.Statement.statement M
 open-table-spec =
-    tie.close
-    (tie.spec
-    (λ c κs. search needs)
-    (λ c. search needs)
-    (λ c. search needs)
-    returns
-    (λ c κs. search needs)
-    (λ c. search needs)
-    (λ c. search needs)
-    returns-2
-    benches-requires
-    (λ c. search needs)
-    (λ c. search needs)
-    returns-3
-    (λ c κs. search needs)
-    returns-4)
+    tie.close (tie.spec (λ c κs. search needs) (λ c. search needs) (λ c. search needs) returns (λ c κs. search needs) (λ c. search needs) (λ c. search needs) returns-2
+    (λ c κs. let s = at-sized c in sizes-judges _ _ .gives (sym (s .before .before .sizes .ensures) ∙ s .enum-told .given .1) .0) (λ c. search needs) (λ c. search needs) returns-3
+    (λ c κs. search needs) returns-4)

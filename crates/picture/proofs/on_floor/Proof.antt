@@ -1,35 +1,10 @@
 -- `picture::on_floor` is safe and ends: tables and path list are the fronts of lists of 4,096 places.
--- Assumes nothing.
-use mathlib.Core.Path.{sym}
-use lib.Seq.{length-take-le}
-use borrow.Author.Needs.{needs}
-use native.Mathlib.Omega.{arith}
-use Rattle.picture.proofs.on_floor.Statement.{statement}
-use Rattle.picture.proofs.on_floor.Tie as tie
+use Rattle.learning.proofs.Words.{sym, length-take-le, needs, arith}
+use Rattle.picture.proofs.on_floor as f
+use f.Tie as tie
 
-slice-aggregate-opened : tie.Need-slice-aggregate-opened
-slice-aggregate-opened c = sym (length-take-le _ _ (omega arith))
-
-slice-aggregate-opened-2 : tie.Need-slice-aggregate-opened-2
-slice-aggregate-opened-2 c = sym (length-take-le _ _ (omega arith))
-
-slice-aggregate-opened-3 : tie.Need-slice-aggregate-opened-3
-slice-aggregate-opened-3 c = sym (length-take-le _ _ (omega arith))
-
-pub on-floor-spec : {M : Type 1} → statement M
+pub on-floor-spec : {M : Type 1} → f.Statement.statement M
 on-floor-spec =
-    tie.close
-    (tie.spec
-    (λ c κs. search needs)
-    (λ c κs. search needs)
-    (λ c κs. search needs)
-    (λ c κs. search needs)
-    (λ c κs. search needs)
-    (λ c. search needs)
-    slice-aggregate-opened
-    (λ c. search needs)
-    slice-aggregate-opened-2
-    (λ c. search needs)
-    slice-aggregate-opened-3
-    (λ c κs. search needs)
-    (λ c. search needs))
+    tie.close (tie.spec (λ c κs. search needs) (λ c κs. search needs) (λ c κs. search needs) (λ c κs. search needs) (λ c κs. search needs) (λ c. search needs)
+    (λ c. sym (length-take-le _ _ (omega arith))) (λ c. search needs) (λ c. sym (length-take-le _ _ (omega arith))) (λ c. search needs) (λ c. sym (length-take-le _ _ (omega arith)))
+    (λ c κs. search needs) (λ c. search needs))

@@ -1,11 +1,9 @@
 -- `probe_ahead::probe_plan` is safe: the window that `look` leaves is what `aim` and `trace` take.
--- Assumes nothing.
-use native.Mathlib.Omega.{arith}
-use borrow.Author.Needs.{needs}
+use Rattle.learning.proofs.Words.{arith, needs}
 use Rattle.probe_ahead.specs.Plain.{plain}
 use Rattle.lookahead.specs.Contract.{Window}
-use Rattle.probe_ahead.proofs.probe_plan.Statement.{statement}
-use Rattle.probe_ahead.proofs.probe_plan.Tie as tie
+use Rattle.probe_ahead.proofs.probe_plan as f
+use f.Tie as tie
 
 -- from the matched window back to where the lists are known; six steps ahead of that is the start
 abbrev known : tie.After-last → tie.After-slice-known4
@@ -39,22 +37,7 @@ trace-requires c κs =
     let p = known last .before .before .before .before .before .before .pre in
     (p .0, (window last .view, (omega (arith, aimed .aim .ensures .on-last), p .1 .1 .1)))
 
-pub probe-plan-spec : {M : Type 1} → statement M
+pub probe-plan-spec : {M : Type 1} → f.Statement.statement M
 probe-plan-spec =
-    tie.close
-    (tie.spec
-    (λ c κs. search needs)
-    (λ c. search needs)
-    aim-requires
-    trace-requires
-    (λ c κs. search needs)
-    (λ c. search needs)
-    (λ c. search needs)
-    (λ c. search needs)
-    (λ c. search needs)
-    (λ c. search needs)
-    (λ c. search needs)
-    (λ c. search needs)
-    (λ c. search needs)
-    (λ c. search needs)
-    (λ c. search needs))
+    tie.close (tie.spec (λ c κs. search needs) (λ c. search needs) aim-requires trace-requires (λ c κs. search needs) (λ c. search needs) (λ c. search needs) (λ c. search needs)
+    (λ c. search needs) (λ c. search needs) (λ c. search needs) (λ c. search needs) (λ c. search needs) (λ c. search needs) (λ c. search needs))

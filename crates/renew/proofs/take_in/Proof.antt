@@ -1,16 +1,10 @@
--- `renew::take_in` meets its contract: the list holds the last bytes of all the parts that were read, and each further part is put behind them. Assumes nothing.
-use Prim.Native.Nat.{ℕ}
-use mathlib.Core.Path.{_≡_, refl, sym}
-use mathlib.Core.List.{List, []}
-use lib.ListN.{length}
-use lib.Seq.{length-take-le}
+-- `renew::take_in` meets its contract: the list holds the last bytes of all the parts that were read, and each further part is put behind them.
+use Rattle.learning.proofs.Words.{ℕ, _≡_, refl, sym, List, [], length, length-take-le, needs, arith}
 use Rattle.io.specs.Counts.{Counts}
 use Rattle.renew.specs.Kept.{Taken}
 use Rattle.renew.proofs.Keeping.{kept-none}
-use borrow.Author.Needs.{needs}
-use native.Mathlib.Omega.{arith}
-use Rattle.renew.proofs.take_in.Statement.{statement}
-use Rattle.renew.proofs.take_in.Tie as tie
+use Rattle.renew.proofs.take_in as f
+use f.Tie as tie
 
 abbrev Inv-loop : tie.InvT-loop
 Inv-loop kept₀ part₀ held₀ turns₀ kept part held turns = Taken kept held × (length kept ≡ length kept₀) × (length part ≡ length part₀)
@@ -37,24 +31,8 @@ loop-again c =
     let l = read .before .before .before .loop in
     ((_, kept .keep .ensures .0 (l .inv .0 .0) (l .inv .0 .1)), omega arith, omega arith)
 
-pub take-in-spec : {M : Type 1} → statement M
+pub take-in-spec : {M : Type 1} → f.Statement.statement M
 take-in-spec =
-    tie.close
-    (tie.spec
-    Inv-loop
-    μ-loop
-    (λ c. (([], kept-none _), refl, refl))
-    (λ c κs. search needs)
-    (λ c. omega arith)
-    (λ c. omega arith)
-    (λ c. taken _ _ (c .before .before .before .before .before .before .loop .inv .0))
-    (λ c κs. search needs)
-    (λ c. search needs)
-    (λ c. search needs)
-    keep-requires
-    (λ c. omega arith)
-    (λ c. omega arith)
-    loop-again
-    (λ c. omega arith)
-    (λ c. omega arith)
-    (λ c. taken _ _ (c .before .loop .inv .0)))
+    tie.close (tie.spec Inv-loop μ-loop (λ c. (([], kept-none _), refl, refl)) (λ c κs. search needs) (λ c. omega arith) (λ c. omega arith)
+    (λ c. taken _ _ (c .before .before .before .before .before .before .loop .inv .0)) (λ c κs. search needs) (λ c. search needs) (λ c. search needs) keep-requires (λ c. omega arith)
+    (λ c. omega arith) loop-again (λ c. omega arith) (λ c. omega arith) (λ c. taken _ _ (c .before .loop .inv .0)))

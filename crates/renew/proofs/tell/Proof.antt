@@ -1,7 +1,7 @@
--- `renew::tell` meets its contract: a length that is answered fits in the list. Assumes nothing.
-use borrow.Author.Needs.{needs}
-use Rattle.renew.proofs.tell.Statement.{statement}
-use Rattle.renew.proofs.tell.Tie as tie
+-- `renew::tell` meets its contract: a length that is answered fits in the list.
+use Rattle.learning.proofs.Words.{needs}
+use Rattle.renew.proofs.tell as f
+use f.Tie as tie
 
 write-requires : tie.Need-write-requires
 write-requires c κs =
@@ -9,16 +9,7 @@ write-requires c κs =
     let told = known .before .before .before .before in
     told .answer .ensures .fits _ (known .n .given .1)
 
-pub tell-spec : {M : Type 1} → statement M
+pub tell-spec : {M : Type 1} → f.Statement.statement M
 tell-spec =
-    tie.close
-    (tie.spec
-    (λ c κs. search needs)
-    (λ c. search needs)
-    write-requires
-    (λ c. search needs)
-    (λ c κs. search needs)
-    (λ c. search needs)
-    (λ c. search needs)
-    (λ c. search needs)
+    tie.close (tie.spec (λ c κs. search needs) (λ c. search needs) write-requires (λ c. search needs) (λ c κs. search needs) (λ c. search needs) (λ c. search needs) (λ c. search needs)
     (λ c. search needs))

@@ -1,10 +1,9 @@
 -- `run::drive` meets its contract: the loop's laws are `Driving.antt`'s, of the model's own ride.
--- The measure is the ride's potential. Assumes nothing.
-use mathlib.Core.Path.{sym, _∙_}
-use borrow.Author.Needs.{needs}
+-- The measure is the ride's potential.
+use Rattle.learning.proofs.Words.{sym, _∙_, needs}
 use Rattle.run.proofs.Driving.{Underway, yetTo, long, sized, sets-out, may-tally, rode-so, may-go-on, goes-on, nearer, not-so, so}
-use Rattle.run.proofs.drive.Statement.{statement}
-use Rattle.run.proofs.drive.Tie as tie
+use Rattle.run.proofs.drive as f
+use f.Tie as tie
 
 abbrev Inv-loop : tie.InvT-loop
 Inv-loop job floor start table₀ path₀ mark₀ cost₀ list₀ place₀ along₀ w₀ table path mark cost list place along w =
@@ -29,9 +28,6 @@ went e =
     let path = list .before .before .before .before .before .before in
     path .before .before
 
-loop-holds : tie.Need-loop-holds Inv-loop μ-loop
-loop-holds c = let s = start c in rw (c .set-out .ensures) (sets-out _ _ _ _ _ (s .pre .0) (s .pre .1))
-
 onward-requires : tie.Need-onward-requires Inv-loop μ-loop
 onward-requires c κs =
     let t = turn c in
@@ -51,57 +47,22 @@ loop-again c =
     goes-on _ _ _ _ _ (opened (t .before) .pre .0) (t .before .before .loop .inv) (not-so (t .before .arrived .ensures) (t .if1 .taken)) (o .onward .ensures .0)
     (o .onward .ensures .1)
 
-tally-requires : tie.Need-tally-requires Inv-loop μ-loop
-tally-requires c κs = let e = c .before .before in may-tally _ _ _ _ _ (opened e .pre .0) (e .before .loop .inv)
-
 -- the lists at the end are as long as those lent
 abbrev over : tie.After-tally Inv-loop μ-loop → tie.After-arrived Inv-loop μ-loop
 over e = e .before .before .before
-
-same-length : tie.Need-same-length Inv-loop μ-loop
-same-length c = let e = over c in sized _ _ _ _ _ (opened e .pre .0) (e .before .loop .inv .drive)
-
-same-length-2 : tie.Need-same-length-2 Inv-loop μ-loop
-same-length-2 c = let e = over c in long _ _ _ _ _ (opened e .pre .0) (e .before .loop .inv .drive)
-
-same-length-3 : tie.Need-same-length-3 Inv-loop μ-loop
-same-length-3 c = let e = over c in e .before .loop .inv .used .marks .size ∙ sym (opened e .pre .1 .used .marks .size)
-
-same-length-4 : tie.Need-same-length-4 Inv-loop μ-loop
-same-length-4 c = let e = over c in e .before .loop .inv .used .costs ∙ sym (opened e .pre .1 .used .costs)
-
-same-length-5 : tie.Need-same-length-5 Inv-loop μ-loop
-same-length-5 c = let e = over c in e .before .loop .inv .used .cells ∙ sym (opened e .pre .1 .used .cells)
-
-same-length-6 : tie.Need-same-length-6 Inv-loop μ-loop
-same-length-6 c = let e = over c in e .before .loop .inv .places .size ∙ sym (opened e .pre .1 .places)
-
-same-length-7 : tie.Need-same-length-7 Inv-loop μ-loop
-same-length-7 c = let e = over c in e .before .loop .inv .legs-so .size ∙ sym (opened e .pre .1 .sums)
 
 returns : tie.Need-returns Inv-loop μ-loop
 returns c =
     let e = over c in
     rw (c .tally .ensures) (rode-so _ _ _ _ _ (opened e .pre .0) (e .before .loop .inv) (so (e .arrived .ensures) (c .before .before .if1 .left)))
 
-pub drive-spec : {M : Type 1} → statement M
+pub drive-spec : {M : Type 1} → f.Statement.statement M
 drive-spec =
-    tie.close
-    (tie.spec
-    Inv-loop
-    μ-loop
-    (λ c κs. search needs)
-    loop-holds
-    (λ c κs. search needs)
-    onward-requires
-    loop-less
-    loop-again
-    tally-requires
-    same-length
-    same-length-2
-    same-length-3
-    same-length-4
-    same-length-5
-    same-length-6
-    same-length-7
+    tie.close (tie.spec Inv-loop μ-loop (λ c κs. search needs) (λ c. let s = start c in rw (c .set-out .ensures) (sets-out _ _ _ _ _ (s .pre .0) (s .pre .1))) (λ c κs. search needs)
+    onward-requires loop-less loop-again (λ c κs. let e = c .before .before in may-tally _ _ _ _ _ (opened e .pre .0) (e .before .loop .inv))
+    (λ c. let e = over c in sized _ _ _ _ _ (opened e .pre .0) (e .before .loop .inv .drive)) (λ c. let e = over c in long _ _ _ _ _ (opened e .pre .0) (e .before .loop .inv .drive))
+    (λ c. let e = over c in e .before .loop .inv .used .marks .size ∙ sym (opened e .pre .1 .used .marks .size))
+    (λ c. let e = over c in e .before .loop .inv .used .costs ∙ sym (opened e .pre .1 .used .costs))
+    (λ c. let e = over c in e .before .loop .inv .used .cells ∙ sym (opened e .pre .1 .used .cells))
+    (λ c. let e = over c in e .before .loop .inv .places .size ∙ sym (opened e .pre .1 .places)) (λ c. let e = over c in e .before .loop .inv .legs-so .size ∙ sym (opened e .pre .1 .sums))
     returns)

@@ -1,12 +1,7 @@
 -- `run::judge` meets its contract: it is the opening's, at the path's length.
--- Assumes nothing.
-use mathlib.Core.Path.{refl}
-use borrow.Author.Needs.{needs}
-use Rattle.run.proofs.judge.Statement.{statement}
-use Rattle.run.proofs.judge.Tie as tie
+use Rattle.learning.proofs.Words.{refl, needs}
+use Rattle.run.proofs.judge as f
+use f.Tie as tie
 
-returns : tie.Need-returns
-returns c = (c .open-run .ensures _ refl, refl, refl)
-
-pub judge-spec : {M : Type 1} → statement M
-judge-spec = tie.close (tie.spec (λ c κs. search needs) (λ c. search needs) returns)
+pub judge-spec : {M : Type 1} → f.Statement.statement M
+judge-spec = tie.close (tie.spec (λ c κs. search needs) (λ c. search needs) (λ c. (c .open-run .ensures _ refl, refl, refl)))

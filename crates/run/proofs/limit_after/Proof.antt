@@ -1,14 +1,7 @@
 -- `run::limit_after` meets its contract: the test is the definition's.
--- Assumes nothing.
-use borrow.Author.Tests.{eq-eqb, ne-eqb}
-use Rattle.run.proofs.limit_after.Statement.{statement}
-use Rattle.run.proofs.limit_after.Tie as tie
+use Rattle.learning.proofs.Words.{eq-eqb, ne-eqb}
+use Rattle.run.proofs.limit_after as f
+use f.Tie as tie
 
-returns : tie.Need-returns
-returns c = rw (eq-eqb (c .before .before .args .r .learned) 0 (c .if1 .taken))
-
-returns-2 : tie.Need-returns-2
-returns-2 c = rw (ne-eqb (c .before .before .args .r .learned) 0 (c .if1 .left))
-
-pub limit-after-spec : {M : Type 1} → statement M
-limit-after-spec = tie.close (tie.spec returns returns-2)
+pub limit-after-spec : {M : Type 1} → f.Statement.statement M
+limit-after-spec = tie.close (tie.spec (λ c. rw (eq-eqb (c .before .before .args .r .learned) 0 (c .if1 .taken))) (λ c. rw (ne-eqb (c .before .before .args .r .learned) 0 (c .if1 .left))))

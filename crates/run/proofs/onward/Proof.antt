@@ -1,12 +1,8 @@
 -- `run::onward` meets its contract: `act` does the deed, `note_leg` notes its leg, and the sums fit.
--- Assumes nothing.
-use Prim.Native.Nat.{ℕ, _+_, _<_}
-use mathlib.Core.Path.{refl, ap, _∙_}
-use native.Mathlib.Omega.{arith}
-use borrow.Author.Needs.{needs}
+use Rattle.learning.proofs.Words.{ℕ, _+_, _<_, refl, ap, _∙_, arith, needs}
 use Rattle.run.specs.Trials.{Fits, noted}
-use Rattle.run.proofs.onward.Statement.{statement}
-use Rattle.run.proofs.onward.Tie as tie
+use Rattle.run.proofs.onward as f
+use f.Tie as tie
 
 abbrev start : tie.After-act → tie.Start
 start e =
@@ -41,15 +37,6 @@ low e =
     let did = a .act .ensures .0 in
     omega (arith, may .decisions, may .learned, may .travel, may .rise, may .leg, did .rise, did .cost)
 
-add-t30 : tie.Need-add-t30
-add-t30 c = omega (arith, low c)
-
-add-t32 : tie.Need-add-t32
-add-t32 c = omega (arith, low (c .before))
-
-add-t34 : tie.Need-add-t34
-add-t34 c = omega (arith, low (c .before .before))
-
 returns : tie.Need-returns
 returns c =
     let n = noting (c .before .before) in
@@ -69,20 +56,7 @@ returns c =
       record { used = serves .used; places = serves .places; shown = serves .shown; way = did .way },
     )
 
-pub onward-spec : {M : Type 1} → statement M
+pub onward-spec : {M : Type 1} → f.Statement.statement M
 onward-spec =
-    tie.close
-    (tie.spec
-    (λ c κs. search needs)
-    note-leg-requires
-    add-t30
-    add-t32
-    add-t34
-    (λ c. search needs)
-    (λ c. search needs)
-    (λ c. search needs)
-    (λ c. search needs)
-    (λ c. search needs)
-    (λ c. search needs)
-    (λ c. search needs)
-    returns)
+    tie.close (tie.spec (λ c κs. search needs) note-leg-requires (λ c. omega (arith, low c)) (λ c. omega (arith, low (c .before))) (λ c. omega (arith, low (c .before .before)))
+    (λ c. search needs) (λ c. search needs) (λ c. search needs) (λ c. search needs) (λ c. search needs) (λ c. search needs) (λ c. search needs) returns)

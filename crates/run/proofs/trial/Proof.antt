@@ -1,16 +1,8 @@
 -- `run::trial` meets its contract: by the two cases of what the opening answers.
--- Assumes nothing.
-use mathlib.Core.Path.{refl, sym, _∙_}
-use borrow.Author.Needs.{needs}
+use Rattle.learning.proofs.Words.{refl, sym, _∙_, needs}
 use Rattle.run.proofs.Driving.{trial-refused, trial-made}
-use Rattle.run.proofs.trial.Statement.{statement}
-use Rattle.run.proofs.trial.Tie as tie
-
-ride-requires : tie.Need-ride-requires
-ride-requires c κs = sym (c .before .before .before .before .open-trial .ensures _ refl) ∙ c .before .before .enum-told .given .1
-
-returns : tie.Need-returns
-returns c = trial-refused _ _ _ _ _ _ _ (c .before .before .before .open-trial .ensures _ refl) (c .before .f .given .1)
+use Rattle.run.proofs.trial as f
+use f.Tie as tie
 
 returns-2 : tie.Need-returns-2
 returns-2 c =
@@ -18,16 +10,8 @@ returns-2 c =
     let done = rode .before .before .before in
     trial-made _ _ _ _ _ _ _ _ _ (done .before .before .open-trial .ensures _ refl) (done .enum-told .given .1) (rode .ride .ensures)
 
-pub trial-spec : {M : Type 1} → statement M
+pub trial-spec : {M : Type 1} → f.Statement.statement M
 trial-spec =
-    tie.close
-    (tie.spec
-    (λ c κs. search needs)
-    (λ c. search needs)
-    (λ c. search needs)
-    ride-requires
-    (λ c. search needs)
-    returns
-    (λ c. search needs)
-    (λ c. search needs)
-    returns-2)
+    tie.close (tie.spec (λ c κs. search needs) (λ c. search needs) (λ c. search needs)
+    (λ c κs. sym (c .before .before .before .before .open-trial .ensures _ refl) ∙ c .before .before .enum-told .given .1) (λ c. search needs)
+    (λ c. trial-refused _ _ _ _ _ _ _ (c .before .before .before .open-trial .ensures _ refl) (c .before .f .given .1)) (λ c. search needs) (λ c. search needs) returns-2)

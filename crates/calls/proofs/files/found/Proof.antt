@@ -1,13 +1,8 @@
 -- `calls::files::found` meets its contract: the part that is printed is no longer than the file.
--- Assumes nothing.
-use Prim.Native.Nat.{_≤_}
-use mathlib.Core.Path.{ap}
-use native.Mathlib.Omega.{arith}
-use lib.ListN.{length}
+use Rattle.learning.proofs.Words.{_≤_, ap, arith, length, needs}
 use Rattle.calls.proofs.Laws.{part-short}
-use borrow.Author.Needs.{needs}
-use Rattle.calls.proofs.files.found.Statement.{statement}
-use Rattle.calls.proofs.files.found.Tie as tie
+use Rattle.calls.proofs.files.found as f
+use f.Tie as tie
 
 -- once the part is found
 part : (e : tie.After-find-records) → length (e .find-records .result .now) ≤ length (e .before .before .before .args .file .now)
@@ -16,12 +11,7 @@ part e = omega (arith, ap length (e .find-records .ensures .0), part-short (e .b
 returns : tie.Need-returns
 returns c = let printed = c .before .before in omega (arith, part (printed .before .before .before .before .before .before), printed .byte .ensures .next)
 
-pub found-spec : {M : Type 1} → statement M
+pub found-spec : {M : Type 1} → f.Statement.statement M
 found-spec =
-    tie.close
-    (tie.spec
-    (λ c κs. search needs)
-    (λ c κs. omega (arith, part (c .before)))
-    (λ c κs. omega (arith, part (c .before .before .before .before .before)))
-    (λ c. search needs)
+    tie.close (tie.spec (λ c κs. search needs) (λ c κs. omega (arith, part (c .before))) (λ c κs. omega (arith, part (c .before .before .before .before .before))) (λ c. search needs)
     returns)

@@ -1,14 +1,10 @@
 -- `decision::back::back_to` meets its contract: by the test on the last ring, lost or back.
--- Assumes nothing.
-use mathlib.Core.Path.{refl, sym, ap, _∙_}
-use native.Mathlib.Omega.{arith}
-use borrow.Author.Needs.{needs}
-use borrow.Author.Tests.{not-true, not-false}
+use Rattle.learning.proofs.Words.{refl, sym, ap, _∙_, arith, needs, not-true, not-false}
 use Rattle.decision.specs.declared.Acted.{Acted}
 use Rattle.decision.specs.Laying.{Shows}
 use Rattle.decision.proofs.Acting.{last-near, shown-refused, acts-lost, acts-returns}
-use Rattle.decision.proofs.back.back_to.Statement.{statement}
-use Rattle.decision.proofs.back.back_to.Tie as tie
+use Rattle.decision.proofs.back.back_to as f
+use f.Tie as tie
 
 -- the call's start
 abbrev start-of : tie.After-on-last → tie.Start
@@ -34,9 +30,6 @@ returns c =
       (ap (λ (r : Acted). r .base) q, omega (arith, ap (λ (r : Acted). r .state .length) q), shown-refused q),
     )
 
-leg-requires : tie.Need-leg-requires
-leg-requires c κs = let h = shows c in (h .asked, (h .seen, h .near))
-
 returns-2 : tie.Need-returns-2
 returns-2 c =
     let at-store = c .before .before .before in
@@ -48,15 +41,7 @@ returns-2 c =
       (refl, omega arith, record { window = shows at-if1 }),
     )
 
-pub back-to-spec : {M : Type 1} → statement M
+pub back-to-spec : {M : Type 1} → f.Statement.statement M
 back-to-spec =
-    tie.close
-    (tie.spec
-    (λ c κs. search needs)
-    (λ c κs. search needs)
-    returns
-    leg-requires
-    (λ c κs. search needs)
-    (λ c. search needs)
-    (λ c. search needs)
-    returns-2)
+    tie.close (tie.spec (λ c κs. search needs) (λ c κs. search needs) returns (λ c κs. let h = shows c in (h .asked, (h .seen, h .near))) (λ c κs. search needs) (λ c. search needs)
+    (λ c. search needs) returns-2)

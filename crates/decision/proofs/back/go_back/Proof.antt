@@ -1,13 +1,10 @@
 -- `decision::back::go_back` meets its contract: no path, an empty ring on the way, which means that the cart is lost, or a window.
--- Assumes nothing.
-use mathlib.Core.Path.{refl, ap}
-use native.Mathlib.Omega.{arith}
-use borrow.Author.Needs.{needs}
+use Rattle.learning.proofs.Words.{refl, ap, arith, needs}
 use Rattle.lookahead.proofs.Fresh.{window-used, renewed}
 use Rattle.decision.specs.declared.Acted.{Acted}
 use Rattle.decision.proofs.Acting.{current-in, table-short, asked-last, looked-window, looked-empty, used-at, shown-at, shown-refused, lost, acts-stays, acts-lost}
-use Rattle.decision.proofs.back.go_back.Statement.{statement}
-use Rattle.decision.proofs.back.go_back.Tie as tie
+use Rattle.decision.proofs.back.go_back as f
+use f.Tie as tie
 
 -- the call's start
 abbrev start-of : tie.After-wide16 → tie.Start
@@ -83,29 +80,8 @@ returns-3 c =
       (used-at (ap (λ (r : Acted). r .base) q) (v .0), omega (arith, ap (λ (r : Acted). r .state .length) q), shown-refused q),
     )
 
-pub go-back-spec : {M : Type 1} → statement M
+pub go-back-spec : {M : Type 1} → f.Statement.statement M
 go-back-spec =
-    tie.close
-    (tie.spec
-    store-requires
-    (λ c. search needs)
-    returns
-    (λ c. search needs)
-    (λ c. search needs)
-    (λ c. search needs)
-    (λ c κs. search needs)
-    (λ c κs. search needs)
-    look-requires
-    (λ c. search needs)
-    back-to-requires
-    (λ c. search needs)
-    (λ c κs. search needs)
-    (λ c. search needs)
-    (λ c. search needs)
-    (λ c. search needs)
-    (λ c. search needs)
-    returns-2
-    (λ c. search needs)
-    (λ c. search needs)
-    (λ c. search needs)
-    returns-3)
+    tie.close (tie.spec store-requires (λ c. search needs) returns (λ c. search needs) (λ c. search needs) (λ c. search needs) (λ c κs. search needs) (λ c κs. search needs) look-requires
+    (λ c. search needs) back-to-requires (λ c. search needs) (λ c κs. search needs) (λ c. search needs) (λ c. search needs) (λ c. search needs) (λ c. search needs) returns-2
+    (λ c. search needs) (λ c. search needs) (λ c. search needs) returns-3)

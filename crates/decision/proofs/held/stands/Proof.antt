@@ -1,24 +1,17 @@
 -- `decision::held::stands` meets its contract: each test that fails is a fault of the cell, and a cell that passes them all is fair and new.
--- Assumes nothing.
-use mathlib.Core.Path.{sym, _∙_}
-use native.Mathlib.Omega.{arith}
-use borrow.Author.Needs.{needs}
-use borrow.Author.Tests.{not-true, not-false}
+use Rattle.learning.proofs.Words.{sym, _∙_, arith, needs, not-true, not-false}
 use Rattle.model.proofs.Accepted.{never}
 use Rattle.model.proofs.Moves.{free-few}
 use Rattle.model.proofs.Accepted.{never}
 use Rattle.decision.proofs.Noting.{stands-unfair, stands-again, stands-new}
-use Rattle.decision.proofs.held.stands.Statement.{statement}
-use Rattle.decision.proofs.held.stands.Tie as tie
+use Rattle.decision.proofs.held.stands as f
+use f.Tie as tie
 
 returns : tie.Need-returns
 returns c = stands-unfair _ _ (c .before .before .wide16 .ensures .0) (λ f. never (f .free) (sym (c .before .is-free .ensures) ∙ not-true _ (c .if1 .taken)))
 
 returns-2 : tie.Need-returns-2
 returns-2 c = stands-unfair _ _ (c .before .before .before .before .wide16 .ensures .0) (λ f. never (sym (c .before .is-goal .ensures) ∙ c .if2 .taken) (f .away))
-
-returns-3 : tie.Need-returns-3
-returns-3 c = stands-unfair _ _ (c .before .before .before .before .before .wide16 .ensures .0) (λ f. f .other (c .if3 .taken))
 
 noted-requires : tie.Need-noted-requires
 noted-requires c κs =
@@ -54,23 +47,8 @@ returns-5 c =
     stands-new _ _ (at-wide16 .wide16 .ensures .0) (start .pre .1 .1) (sym (at-noted .noted .ensures) ∙ c .if4 .left) (free-few _ _ (start .pre .0) free)
     (record { free = free; away = sym (at-if2 .before .is-goal .ensures) ∙ at-if2 .if2 .left; other = at-if3 .if3 .left })
 
-pub stands-spec : {M : Type 1} → statement M
+pub stands-spec : {M : Type 1} → f.Statement.statement M
 stands-spec =
-    tie.close
-    (tie.spec
-    (λ c. search needs)
-    (λ c. search needs)
-    (λ c κs. search needs)
-    (λ c κs. search needs)
-    returns
-    (λ c κs. search needs)
-    returns-2
-    returns-3
-    noted-requires
-    (λ c. search needs)
-    returns-4
-    (λ c. search needs)
-    (λ c. search needs)
-    slice-write-place
-    (λ c. search needs)
-    returns-5)
+    tie.close (tie.spec (λ c. search needs) (λ c. search needs) (λ c κs. search needs) (λ c κs. search needs) returns (λ c κs. search needs) returns-2
+    (λ c. stands-unfair _ _ (c .before .before .before .before .before .wide16 .ensures .0) (λ f. f .other (c .if3 .taken))) noted-requires (λ c. search needs) returns-4 (λ c. search needs)
+    (λ c. search needs) slice-write-place (λ c. search needs) returns-5)

@@ -1,14 +1,9 @@
 -- `decision::held::state_holds` meets its contract: each test is a part of the fact that the check judges.
--- Assumes nothing.
-use native.Mathlib.Nat.{lt-of-le-of-lt, mul-le-mul}
-use native.Mathlib.Omega.{arith}
-use borrow.Author.Needs.{needs}
-use borrow.Author.Tests.{not-true, not-false}
-use lib.Dec.{lit<}
+use Rattle.learning.proofs.Words.{lt-of-le-of-lt, mul-le-mul, arith, needs, not-true, not-false, lit<}
 use Rattle.model.proofs.Moves.{sized-cells}
 use Rattle.decision.proofs.Judging.{checked-refused, checked-done}
-use Rattle.decision.proofs.held.state_holds.Statement.{statement}
-use Rattle.decision.proofs.held.state_holds.Tie as tie
+use Rattle.decision.proofs.held.state_holds as f
+use f.Tie as tie
 
 -- the call's start
 abbrev start-of : tie.After-path-holds → tie.Start
@@ -52,18 +47,7 @@ returns-4 c =
     checked-done _ (start .pre .1 .1 .0)
     (record { within = omega arith; short = omega (arith, start .pre .0 .cells); sound = at-path-holds .path-holds .ensures .sound r }) (at-path-holds .path-holds .ensures .places r)
 
-pub state-holds-spec : {M : Type 1} → statement M
+pub state-holds-spec : {M : Type 1} → f.Statement.statement M
 state-holds-spec =
-    tie.close
-    (tie.spec
-    mul-if1
-    (λ c κs. search needs)
-    returns
-    (λ c κs. search needs)
-    returns-2
-    path-holds-requires
-    (λ c κs. search needs)
-    (λ c. search needs)
-    returns-3
-    (λ c. search needs)
+    tie.close (tie.spec mul-if1 (λ c κs. search needs) returns (λ c κs. search needs) returns-2 path-holds-requires (λ c κs. search needs) (λ c. search needs) returns-3 (λ c. search needs)
     returns-4)

@@ -1,9 +1,8 @@
 -- `decision::moves::lay` meets its contract: by the answer, the way there, the way back, or no move.
--- Assumes nothing.
-use borrow.Author.Needs.{needs}
+use Rattle.learning.proofs.Words.{needs}
 use Rattle.decision.proofs.Laying.{lays-none, shown-as, lays-as}
-use Rattle.decision.proofs.moves.lay.Statement.{statement}
-use Rattle.decision.proofs.moves.lay.Tie as tie
+use Rattle.decision.proofs.moves.lay as f
+use f.Tie as tie
 
 -- the call's start
 abbrev start-there : tie.After-answer → tie.Start
@@ -36,30 +35,8 @@ returns-2 c =
     let at-lay = c .before .before in
     lays-as (at-lay .before .before .before .answer2 .given .1) _ _ _ (at-lay .lay-back .ensures)
 
-returns-3 : tie.Need-returns-3
-returns-3 c = lays-as (c .enum-told .given .1) _ _ _ (lays-none _ _)
-
-returns-4 : tie.Need-returns-4
-returns-4 c = lays-as (c .enum-told2 .given .1) _ _ _ (lays-none _ _)
-
-returns-5 : tie.Need-returns-5
-returns-5 c = lays-as (c .enum-told3 .given .1) _ _ _ (lays-none _ _)
-
-pub lay-spec : {M : Type 1} → statement M
+pub lay-spec : {M : Type 1} → f.Statement.statement M
 lay-spec =
-    tie.close
-    (tie.spec
-    (λ c. search needs)
-    lay-there-requires
-    (λ c. search needs)
-    lay-back-requires
-    (λ c. search needs)
-    (λ c. search needs)
-    (λ c. search needs)
-    (λ c. search needs)
-    returns
-    (λ c. search needs)
-    returns-2
-    returns-3
-    returns-4
-    returns-5)
+    tie.close (tie.spec (λ c. search needs) lay-there-requires (λ c. search needs) lay-back-requires (λ c. search needs) (λ c. search needs) (λ c. search needs) (λ c. search needs) returns
+    (λ c. search needs) returns-2 (λ c. lays-as (c .enum-told .given .1) _ _ _ (lays-none _ _)) (λ c. lays-as (c .enum-told2 .given .1) _ _ _ (lays-none _ _))
+    (λ c. lays-as (c .enum-told3 .given .1) _ _ _ (lays-none _ _)))

@@ -1,12 +1,9 @@
 -- `decision::moves::lay_back` meets its contract: the route is traced apart, and stands turned round at the front of the part that is lent on.
--- Assumes nothing.
-use Prim.Native.Nat.{_+_, _-_}
-use native.Mathlib.Omega.{arith}
-use borrow.Author.Needs.{needs}
+use Rattle.learning.proofs.Words.{_+_, _-_, arith, needs}
 use Rattle.decision.proofs.Laying.{part-long, traced-moves, lays-back}
 use Rattle.decision.specs.Laying.{leastRoom}
-use Rattle.decision.proofs.moves.lay_back.Statement.{statement}
-use Rattle.decision.proofs.moves.lay_back.Tie as tie
+use Rattle.decision.proofs.moves.lay_back as f
+use f.Tie as tie
 
 trace-requires : tie.Need-trace-requires
 trace-requires c κs =
@@ -27,17 +24,7 @@ returns c =
     let start = at-trace .before .before .before .before .before .before in
     lays-back (at-trace .trace .ensures) (start .args .moves .now) _ (start .args .from) (start .args .from + leastRoom - start .args .from) (at-turn .turn .ensures) (omega arith) (omega arith)
 
-pub lay-back-spec : {M : Type 1} → statement M
+pub lay-back-spec : {M : Type 1} → f.Statement.statement M
 lay-back-spec =
-    tie.close
-    (tie.spec
-    (λ c. search needs)
-    trace-requires
-    (λ c. search needs)
-    (λ c. search needs)
-    (λ c. search needs)
-    (λ c. search needs)
-    (λ c. search needs)
-    turn-requires
-    (λ c. search needs)
-    returns)
+    tie.close (tie.spec (λ c. search needs) trace-requires (λ c. search needs) (λ c. search needs) (λ c. search needs) (λ c. search needs) (λ c. search needs) turn-requires
+    (λ c. search needs) returns)

@@ -1,12 +1,9 @@
 -- `decision::moves::lay_there` meets its contract: the route stands at the front of the part that is lent on.
--- Assumes nothing.
-use Prim.Native.Nat.{_+_, _-_}
-use native.Mathlib.Omega.{arith}
-use borrow.Author.Needs.{needs}
+use Rattle.learning.proofs.Words.{_+_, _-_, arith, needs}
 use Rattle.decision.proofs.Laying.{part-long, lays}
 use Rattle.decision.specs.Laying.{leastRoom}
-use Rattle.decision.proofs.moves.lay_there.Statement.{statement}
-use Rattle.decision.proofs.moves.lay_there.Tie as tie
+use Rattle.decision.proofs.moves.lay_there as f
+use f.Tie as tie
 
 trace-requires : tie.Need-trace-requires
 trace-requires c κs =
@@ -19,7 +16,5 @@ returns c =
     let start = at-trace .before .before .before .before .before .before in
     lays (start .args .moves .now) (start .args .from) (start .args .from + leastRoom - start .args .from) (at-trace .trace .ensures) (omega arith) (omega arith)
 
-pub lay-there-spec : {M : Type 1} → statement M
-lay-there-spec =
-    tie.close
-    (tie.spec (λ c. search needs) (λ c. search needs) (λ c. search needs) (λ c. search needs) trace-requires (λ c. search needs) returns)
+pub lay-there-spec : {M : Type 1} → f.Statement.statement M
+lay-there-spec = tie.close (tie.spec (λ c. search needs) (λ c. search needs) (λ c. search needs) (λ c. search needs) trace-requires (λ c. search needs) returns)

@@ -1,14 +1,8 @@
 -- `decision::moves::turn` meets its contract. The invariant: the last k moves stand turned round at the front, and the rest of the part is as lent.
--- Assumes nothing.
-use Prim.Native.Nat.{_-_, _≤_}
-use mathlib.Core.List.{_++_}
-use mathlib.Core.Path.{_≡_, ap, ap₂, _∙_}
-use native.Mathlib.Omega.{arith}
-use borrow.Author.Needs.{needs}
-use lib.ListN.{length, set, drop}
+use Rattle.learning.proofs.Words.{_-_, _≤_, _++_, _≡_, ap, ap₂, _∙_, arith, needs, length, set, drop}
 use Rattle.decision.proofs.Laying.{turned, turn-none, turn-length, turn-more, turn-all}
-use Rattle.decision.proofs.moves.turn.Statement.{statement}
-use Rattle.decision.proofs.moves.turn.Tie as tie
+use Rattle.decision.proofs.moves.turn as f
+use f.Tie as tie
 
 abbrev Inv-loop : tie.InvT-loop
 Inv-loop there n part₀ k₀ part k = (k ≤ n) × (part ≡ turned there n k ++ drop k part₀)
@@ -54,20 +48,7 @@ returns c =
     at-loop .loop .inv .1 ∙ ap (λ k. turned (start .args .there .now) (start .args .n) k ++ drop k (start .args .part .now)) e
     ∙ turn-all (start .args .there .now) (start .args .part .now) (start .args .n) (omega arith) (omega arith)
 
-pub turn-spec : {M : Type 1} → statement M
+pub turn-spec : {M : Type 1} → f.Statement.statement M
 turn-spec =
-    tie.close
-    (tie.spec
-    Inv-loop
-    μ-loop
-    loop-holds
-    (λ c. search needs)
-    (λ c. search needs)
-    (λ c. search needs)
-    opposed-requires
-    slice-write-part
-    (λ c. search needs)
-    (λ c. omega arith)
-    loop-again
-    same-length
-    returns)
+    tie.close (tie.spec Inv-loop μ-loop loop-holds (λ c. search needs) (λ c. search needs) (λ c. search needs) opposed-requires slice-write-part (λ c. search needs) (λ c. omega arith)
+    loop-again same-length returns)

@@ -1,12 +1,8 @@
 -- `decision::steps::extend` meets its contract: the target is noted where the path is cut, and a target that is not noted is not on the path.
--- Assumes nothing.
-use mathlib.Core.Path.{sym, _∙_}
-use native.Mathlib.Omega.{arith}
-use borrow.Author.Needs.{needs}
-use lib.ListN.{length-set}
+use Rattle.learning.proofs.Words.{sym, _∙_, arith, needs, length-set}
 use Rattle.decision.proofs.Noting.{extended-cut, extended-on}
-use Rattle.decision.proofs.steps.extend.Statement.{statement}
-use Rattle.decision.proofs.steps.extend.Tie as tie
+use Rattle.decision.proofs.steps.extend as f
+use f.Tie as tie
 
 noted-requires : tie.Need-noted-requires
 noted-requires c κs =
@@ -22,28 +18,8 @@ returns c =
     let start = at-noted .before .before .before .before .before in
     extended-cut _ _ _ _ _ (start .pre .0) (sym (at-noted .noted .ensures) ∙ at-if1 .if1 .taken) _ (c .wide16 .ensures .0)
 
-returns-2 : tie.Need-returns-2
-returns-2 c = extended-on _ _ _ _ _ (c .before .before .before .before .before .before .pre .0) (sym (c .before .noted .ensures) ∙ c .if1 .left)
-
-pub extend-spec : {M : Type 1} → statement M
+pub extend-spec : {M : Type 1} → f.Statement.statement M
 extend-spec =
-    tie.close
-    (tie.spec
-    (λ c. search needs)
-    (λ c. search needs)
-    (λ c. search needs)
-    (λ c. search needs)
-    (λ c. search needs)
-    (λ c. search needs)
-    (λ c. search needs)
-    noted-requires
-    (λ c. search needs)
-    (λ c. search needs)
-    (λ c κs. search needs)
-    (λ c. search needs)
-    (λ c. search needs)
-    returns
-    (λ c. search needs)
-    (λ c. search needs)
-    (λ c. search needs)
-    returns-2)
+    tie.close (tie.spec (λ c. search needs) (λ c. search needs) (λ c. search needs) (λ c. search needs) (λ c. search needs) (λ c. search needs) (λ c. search needs) noted-requires
+    (λ c. search needs) (λ c. search needs) (λ c κs. search needs) (λ c. search needs) (λ c. search needs) returns (λ c. search needs) (λ c. search needs) (λ c. search needs)
+    (λ c. extended-on _ _ _ _ _ (c .before .before .before .before .before .before .pre .0) (sym (c .before .noted .ensures) ∙ c .if1 .left)))

@@ -1,11 +1,8 @@
 -- `decision::steps::forward` meets its contract: the path and the figure are those of the model, by what each writer promises.
--- Assumes nothing.
-use mathlib.Core.Path.{refl}
-use native.Mathlib.Omega.{arith}
-use borrow.Author.Needs.{needs}
+use Rattle.learning.proofs.Words.{refl, arith, needs}
 use Rattle.decision.proofs.Acting.{aimed-near, near-place, opened, current-in, quota-low, acts-forward}
-use Rattle.decision.proofs.steps.forward.Statement.{statement}
-use Rattle.decision.proofs.steps.forward.Tie as tie
+use Rattle.decision.proofs.steps.forward as f
+use f.Tie as tie
 
 -- the call's start
 abbrev start-of : tie.After-extend → tie.Start
@@ -36,6 +33,5 @@ returns c =
       (refl, refl, at-extend .extend .ensures .places),
     )
 
-pub forward-spec : {M : Type 1} → statement M
-forward-spec =
-    tie.close (tie.spec extend-requires store-requires add-t22 (λ c. search needs) (λ c. search needs) (λ c. search needs) returns)
+pub forward-spec : {M : Type 1} → f.Statement.statement M
+forward-spec = tie.close (tie.spec extend-requires store-requires add-t22 (λ c. search needs) (λ c. search needs) (λ c. search needs) returns)

@@ -1,15 +1,11 @@
 -- `floor::goals::octile` meets its contract: both gaps are below 64, so the figure fits.
--- Assumes nothing.
-use Prim.Native.Nat.{ℕ, _+_, _-_, _*_, _/_, _%_, _<_, min}
-use native.Mathlib.Omega.{arith}
-use native.Mathlib.Nat.{mod-lt, mul-le-mul}
-use borrow.Author.Needs.{needs}
+use Rattle.learning.proofs.Words.{ℕ, _+_, _-_, _*_, _/_, _%_, _<_, min, arith, mod-lt, mul-le-mul, needs}
 use Rattle.model.specs.Checks.{finest}
 use Rattle.model.specs.Floor.{straight, diagonal, octile}
 use Rattle.model.proofs.Cells.{row-lt}
 use Rattle.model.proofs.OpeningSound.{gap-lt}
-use Rattle.floor.proofs.goals.octile.Statement.{statement}
-use Rattle.floor.proofs.goals.octile.Tie as tie
+use Rattle.floor.proofs.goals.octile as f
+use f.Tie as tie
 
 min-lt : (n a b : ℕ) → a < n → min a b < n
 min-lt n a b p = omega arith
@@ -40,15 +36,6 @@ gap3-lt c =
     rw (c .gap3 .ensures)
     (gap-lt 64 (c .before .before .before .gap .result) (c .before .before .gap2 .result) (dx-lt (c .before .before)) (dy-lt (c .before .before)))
 
-mul-result : tie.Need-mul-result
-mul-result c = omega (arith, smaller-lt c)
-
-mul-result-2 : tie.Need-mul-result-2
-mul-result-2 c = omega (arith, gap3-lt c)
-
-add-result : tie.Need-add-result
-add-result c = omega (arith, smaller-lt (c .before), gap3-lt c)
-
 mul-result-3 : tie.Need-mul-result-3
 mul-result-3 c =
     let a = c .before .before .before .before .args in
@@ -59,20 +46,7 @@ returns : tie.Need-returns
 unfolding octile
 returns c bytes = cc
 
-pub octile-spec : {M : Type 1} → statement M
+pub octile-spec : {M : Type 1} → f.Statement.statement M
 octile-spec =
-    tie.close
-    (tie.spec
-    (λ c. search needs)
-    (λ c. search needs)
-    (λ c κs. search needs)
-    (λ c. search needs)
-    (λ c. search needs)
-    (λ c κs. search needs)
-    (λ c κs. search needs)
-    mul-result
-    (λ c κs. search needs)
-    mul-result-2
-    add-result
-    mul-result-3
-    returns)
+    tie.close (tie.spec (λ c. search needs) (λ c. search needs) (λ c κs. search needs) (λ c. search needs) (λ c. search needs) (λ c κs. search needs) (λ c κs. search needs)
+    (λ c. omega (arith, smaller-lt c)) (λ c κs. search needs) (λ c. omega (arith, gap3-lt c)) (λ c. omega (arith, smaller-lt (c .before), gap3-lt c)) mul-result-3 returns)

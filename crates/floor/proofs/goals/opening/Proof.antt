@@ -1,16 +1,10 @@
 -- `floor::goals::opening` meets its contract. The invariant: the figure is that of the goals passed.
--- Assumes nothing.
-use Prim.Native.Nat.{ℕ, suc, _+_, _-_, _*_, _≤_, _<_, min}
-use mathlib.Core.Path.{_≡_, sym, ap, ap₂, _∙_, subst}
-use mathlib.Core.List.{List}
-use native.Mathlib.Omega.{arith}
-use borrow.Author.Needs.{needs}
-use lib.ListN.{length, getD, take}
+use Rattle.learning.proofs.Words.{ℕ, suc, _+_, _-_, _*_, _≤_, _<_, min, _≡_, sym, ap, ap₂, _∙_, subst, List, arith, needs, length, getD, take}
 use Rattle.model.specs.Floor.{Floor, octile, opening, goalsOf}
 use Rattle.floor.specs.Moves.{flat}
 use Rattle.floor.proofs.Nearest.{nearest-first, nearest-more, nearest-all}
-use Rattle.floor.proofs.goals.opening.Statement.{statement}
-use Rattle.floor.proofs.goals.opening.Tie as tie
+use Rattle.floor.proofs.goals.opening as f
+use f.Tie as tie
 
 abbrev Inv-loop : tie.InvT-loop
 Inv-loop width height goals q cell n least₀ i₀ least i = (1 ≤ i) × ((bytes : List ℕ) → least ≡ opening (flat width height bytes) q (take i (goalsOf goals)) cell)
@@ -88,20 +82,8 @@ returns c bytes =
     l .loop .inv .1 bytes
     ∙ nearest-all (flat (a .width) (a .height) bytes) (a .q) (a .cell) (goalsOf (a .goals)) (l .loop .i) (omega (arith, c .loop-test .left, s .goals-in .ensures))
 
-pub opening-spec : {M : Type 1} → statement M
+pub opening-spec : {M : Type 1} → f.Statement.statement M
 opening-spec =
-    tie.close
-    (tie.spec
-    Inv-loop
-    μ-loop
-    (λ c κs. search needs)
-    (λ c κs. omega (arith, some c, c .goals-in .ensures))
-    octile-requires
-    loop-holds
-    (λ c κs. let s = counted (first (c .before)) in omega (arith, c .loop-test .taken, s .goals-in .ensures))
-    octile-requires-2
-    (λ c κs. search needs)
-    (λ c. omega arith)
-    (λ c. omega arith)
-    loop-again
-    returns)
+    tie.close (tie.spec Inv-loop μ-loop (λ c κs. search needs) (λ c κs. omega (arith, some c, c .goals-in .ensures)) octile-requires loop-holds
+    (λ c κs. let s = counted (first (c .before)) in omega (arith, c .loop-test .taken, s .goals-in .ensures)) octile-requires-2 (λ c κs. search needs) (λ c. omega arith) (λ c. omega arith)
+    loop-again returns)

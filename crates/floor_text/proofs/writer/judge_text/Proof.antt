@@ -1,9 +1,5 @@
 -- `floor_text::writer::judge_text` meets its contract: one check after another, and the first refusal stands.
--- Assumes nothing.
-use Prim.Native.Nat.{ℕ}
-use mathlib.Core.Path.{_≡_, sym, _∙_}
-use denote.Ref.{now}
-use lib.ListN.{length}
+use Rattle.learning.proofs.Words.{ℕ, _≡_, sym, _∙_, now, length, needs, arith}
 use Rattle.answers.specs.declared.Verdict.{Verdict}
 use Rattle.model.specs.Basics.{then}
 use Rattle.model.specs.Floor.{Sized}
@@ -12,10 +8,8 @@ use Rattle.model.specs.FloorWritten.{textOf, textVerdict}
 use Rattle.floor.specs.Moves.{flat}
 use Rattle.model.proofs.Accepted.{then-stops, then-goes, sizes-judges}
 use Rattle.model.proofs.Writings.{room-judges}
-use borrow.Author.Needs.{needs}
-use native.Mathlib.Omega.{arith}
-use Rattle.floor_text.proofs.writer.judge_text.Statement.{statement}
-use Rattle.floor_text.proofs.writer.judge_text.Tie as tie
+use Rattle.floor_text.proofs.writer.judge_text as f
+use f.Tie as tie
 
 returns : tie.Need-returns
 unfolding textVerdict
@@ -44,15 +38,6 @@ returns-3 c =
     let counted = c .before in
     past-sizes (counted .before) (sym (room-judges (text-length (counted .before)) _ .done (omega (arith, counted .text-bytes .ensures _ (sized (counted .before))))))
 
-pub judge-text-spec : {M : Type 1} → statement M
+pub judge-text-spec : {M : Type 1} → f.Statement.statement M
 judge-text-spec =
-    tie.close
-    (tie.spec
-    (λ c κs. search needs)
-    (λ c. search needs)
-    (λ c. search needs)
-    returns
-    (λ c κs. let s = sized c in (s .narrow, s .low))
-    (λ c κs. search needs)
-    returns-2
-    returns-3)
+    tie.close (tie.spec (λ c κs. search needs) (λ c. search needs) (λ c. search needs) returns (λ c κs. let s = sized c in (s .narrow, s .low)) (λ c κs. search needs) returns-2 returns-3)

@@ -1,19 +1,11 @@
 -- `floor_text::writer::put_header` meets its contract: its lines, one after another.
--- Assumes nothing.
-use Prim.Native.Nat.{_+_, _≤_}
-use mathlib.Core.List.{_++_}
-use lib.ListN.{length}
-use native.Mathlib.Omega.{arith}
+use Rattle.learning.proofs.Words.{_+_, _≤_, _++_, length, arith, needs}
 use Rattle.model.specs.FloorText.{typeAndHeight, andWidth, andMap}
 use Rattle.model.specs.FloorWritten.{sizeLine}
 use Rattle.notation.proofs.Decimals.{printed-then}
 use Rattle.floor_text.proofs.Writing.{length-head}
-use borrow.Author.Needs.{needs}
-use Rattle.floor_text.proofs.writer.put_header.Statement.{statement}
-use Rattle.floor_text.proofs.writer.put_header.Tie as tie
-
-put-line-requires : tie.Need-put-line-requires
-put-line-requires c κs = let a = c .before .before .before .args in omega (arith, length-head (a .width) (a .height))
+use Rattle.floor_text.proofs.writer.put_header as f
+use f.Tie as tie
 
 -- the places: at the start, and once the first line is put
 abbrev begun : tie.After-put-line → tie.Start
@@ -26,9 +18,6 @@ first e = e .before .before .before .before .before
 room : (e : tie.After-put-line) → e .put-line .result + (10 + length (sizeLine (begun e .args .width))) ≤ length (e .put-line .last .0)
 room e = let a = begun e .args in omega (arith, length-head (a .width) (a .height), e .put-line .ensures .next, e .put-line .kept .0)
 
-put-line-requires-2 : tie.Need-put-line-requires-2
-put-line-requires-2 c κs = omega (arith, room (c .before .before .before .before))
-
 bytes-requires : tie.Need-bytes-requires
 bytes-requires c κs = let second = c .before .before .before .before in omega (arith, room (first second), second .put-line2 .ensures .next, second .put-line2 .kept .0)
 
@@ -40,15 +29,7 @@ returns c =
     printed-then (typeAndHeight ++ sizeLine (a .height)) ((andWidth ++ sizeLine (a .width)) ++ andMap) (first second .put-line .ensures)
     (printed-then (andWidth ++ sizeLine (a .width)) andMap (second .put-line2 .ensures) (third .bytes .ensures))
 
-pub put-header-spec : {M : Type 1} → statement M
+pub put-header-spec : {M : Type 1} → f.Statement.statement M
 put-header-spec =
-    tie.close
-    (tie.spec
-    (λ c. search needs)
-    put-line-requires
-    (λ c. search needs)
-    put-line-requires-2
-    (λ c. search needs)
-    bytes-requires
-    (λ c. search needs)
-    returns)
+    tie.close (tie.spec (λ c. search needs) (λ c κs. let a = c .before .before .before .args in omega (arith, length-head (a .width) (a .height))) (λ c. search needs)
+    (λ c κs. omega (arith, room (c .before .before .before .before))) (λ c. search needs) bytes-requires (λ c. search needs) returns)

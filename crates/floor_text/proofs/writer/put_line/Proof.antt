@@ -1,23 +1,14 @@
 -- `floor_text::writer::put_line` meets its contract: a word, the digits and the LF, one after another.
--- Assumes nothing.
-use Prim.Native.Nat.{_+_, _≤_}
-use mathlib.Core.List.{[], _∷_, _++_}
-use denote.Ref.{now}
-use lib.ListN.{length, length-append}
-use native.Mathlib.Omega.{arith}
+use Rattle.learning.proofs.Words.{_+_, _≤_, [], _∷_, _++_, now, length, length-append, arith, needs}
 use Rattle.model.specs.FloorText.{LF}
 use Rattle.model.specs.Line.{decimal}
 use Rattle.notation.proofs.Decimals.{printed-then}
-use borrow.Author.Needs.{needs}
-use Rattle.floor_text.proofs.writer.put_line.Statement.{statement}
-use Rattle.floor_text.proofs.writer.put_line.Tie as tie
+use Rattle.floor_text.proofs.writer.put_line as f
+use f.Tie as tie
 
 -- once the word is put: room for the digits and the LF
 room : (e : tie.After-bytes) → let n = e .before .before .before .before .args .n in e .bytes .result + (length (decimal n) + 1) ≤ length (e .bytes .last .0)
 room e = let n = e .before .before .before .before .args .n in omega (arith, e .bytes .ensures .next, e .bytes .kept .0, length-append (decimal n) (LF ∷ []))
-
-decimal-requires : tie.Need-decimal-requires
-decimal-requires c κs = omega (arith, room (c .before .before .before))
 
 -- the digits are put
 abbrev worded : tie.After-decimal → tie.After-bytes
@@ -33,5 +24,5 @@ returns c =
     printed-then (now (a .word)) (decimal (a .n) ++ (LF ∷ [])) (worded numbered .bytes .ensures)
     (printed-then (decimal (a .n)) (LF ∷ []) (numbered .decimal .ensures) (c .before .before .byte .ensures))
 
-pub put-line-spec : {M : Type 1} → statement M
-put-line-spec = tie.close (tie.spec (λ c κs. search needs) decimal-requires byte-requires (λ c. search needs) returns)
+pub put-line-spec : {M : Type 1} → f.Statement.statement M
+put-line-spec = tie.close (tie.spec (λ c κs. search needs) (λ c κs. omega (arith, room (c .before .before .before))) byte-requires (λ c. search needs) returns)

@@ -1,14 +1,8 @@
 -- `floor_text::writer::put_rows` meets its contract: the invariant: `Rowing`, the rows that are left make the whole.
--- Assumes nothing.
-use Prim.Native.Nat.{_+_, _-_, _≤_, _<_}
-use mathlib.Core.Path.{_≡_, sym}
-use lib.ListN.{length, take}
-use lib.Seq.{length-take-le}
+use Rattle.learning.proofs.Words.{_+_, _-_, _≤_, _<_, _≡_, sym, length, take, length-take-le, needs, arith}
 use Rattle.floor_text.proofs.Writing.{Rowing, rowing, row-ahead, rowing-more, rowing-all}
-use borrow.Author.Needs.{needs}
-use native.Mathlib.Omega.{arith}
-use Rattle.floor_text.proofs.writer.put_rows.Statement.{statement}
-use Rattle.floor_text.proofs.writer.put_rows.Tie as tie
+use Rattle.floor_text.proofs.writer.put_rows as f
+use f.Tie as tie
 
 abbrev Inv-loop : tie.InvT-loop
 Inv-loop out₀ at width height floor t₀ end₀ row₀ out t end row = Rowing out₀ at width height floor out t end row
@@ -26,31 +20,14 @@ ahead e = row-ahead _ _ _ _ _ _ _ _ _ (e .before .loop .inv) (omega arith)
 whole-row : (e : tie.In-loop Inv-loop μ-loop) → let w = e .before .before .before .before .args .width in w ≡ length (take w (e .before .loop .t .now))
 whole-row e = sym (length-take-le _ _ (ahead e .0))
 
-put-row-requires : tie.Need-put-row-requires Inv-loop μ-loop
-put-row-requires c κs = let in-loop = c .before .before in omega (arith, ahead in-loop, whole-row in-loop)
-
 loop-again : tie.Need-loop-again Inv-loop μ-loop
 loop-again c =
     let in-loop = c .before .before .before .before .before .before in
     rowing-more _ _ _ _ _ _ _ _ _ (in-loop .before .loop .inv) (omega arith) (c .before .before .before .put-row .ensures)
 
-returns : tie.Need-returns Inv-loop μ-loop
-returns c = rowing-all _ _ _ _ _ _ _ _ _ (c .before .loop .inv) (omega arith)
-
-pub put-rows-spec : {M : Type 1} → statement M
+pub put-rows-spec : {M : Type 1} → f.Statement.statement M
 put-rows-spec =
-    tie.close
-    (tie.spec
-    Inv-loop
-    μ-loop
-    (λ c. rowing _ _ _ _ _ (omega arith))
-    (λ c. whole-row (c .before .before))
-    put-row-requires
-    (λ c. omega (arith, ahead (c .before .before .before .before .before)))
-    (λ c. omega (arith, ahead (c .before .before .before .before .before)))
-    (λ c. omega (arith, ahead (c .before .before .before .before .before)))
-    (λ c. search needs)
-    (λ c. search needs)
-    loop-again
-    (λ c. omega arith)
-    returns)
+    tie.close (tie.spec Inv-loop μ-loop (λ c. rowing _ _ _ _ _ (omega arith)) (λ c. whole-row (c .before .before))
+    (λ c κs. let in-loop = c .before .before in omega (arith, ahead in-loop, whole-row in-loop)) (λ c. omega (arith, ahead (c .before .before .before .before .before)))
+    (λ c. omega (arith, ahead (c .before .before .before .before .before))) (λ c. omega (arith, ahead (c .before .before .before .before .before))) (λ c. search needs) (λ c. search needs)
+    loop-again (λ c. omega arith) (λ c. rowing-all _ _ _ _ _ _ _ _ _ (c .before .loop .inv) (omega arith)))

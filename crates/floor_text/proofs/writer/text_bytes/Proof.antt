@@ -1,12 +1,8 @@
 -- `floor_text::writer::text_bytes` meets its contract: `length-text`, and 64 rows of 65 bytes at most.
--- Assumes nothing.
-use Prim.Native.Nat.{_+_, _*_, _≤_}
-use native.Mathlib.Nat.{mul-le-mul}
-use native.Mathlib.Omega.{arith}
+use Rattle.learning.proofs.Words.{_+_, _*_, _≤_, mul-le-mul, arith, needs}
 use Rattle.model.proofs.FloorTexts.{length-text}
-use borrow.Author.Needs.{needs}
-use Rattle.floor_text.proofs.writer.text_bytes.Statement.{statement}
-use Rattle.floor_text.proofs.writer.text_bytes.Tie as tie
+use Rattle.floor_text.proofs.writer.text_bytes as f
+use f.Tie as tie
 
 small : (c : tie.After-size-bytes2) → let a = c .before .before .args in a .height * (a .width + 1) ≤ 4160
 small c = let wide : c .before .before .args .width + 1 ≤ 65 = omega arith in mul-le-mul (c .before .before .pre .1) wide
@@ -14,15 +10,7 @@ small c = let wide : c .before .before .args .width + 1 ≤ 65 = omega arith in 
 returns : tie.Need-returns
 returns c bytes s = omega (arith, length-text _ s, c .size-bytes2 .ensures .0, c .before .size-bytes .ensures .0)
 
-pub text-bytes-spec : {M : Type 1} → statement M
+pub text-bytes-spec : {M : Type 1} → f.Statement.statement M
 text-bytes-spec =
-    tie.close
-    (tie.spec
-    (λ c κs. search needs)
-    (λ c. search needs)
-    (λ c κs. search needs)
-    (λ c. search needs)
-    (λ c. search needs)
-    (λ c. omega (arith, small c))
-    (λ c. omega (arith, small c))
+    tie.close (tie.spec (λ c κs. search needs) (λ c. search needs) (λ c κs. search needs) (λ c. search needs) (λ c. search needs) (λ c. omega (arith, small c)) (λ c. omega (arith, small c))
     returns)

@@ -1,19 +1,12 @@
 -- `floor_text::writer::write_floor` meets its contract: a refusal leaves the buffer; else the header and the rows are the whole text.
--- Assumes nothing.
-use Prim.Native.Nat.{_≤_}
-use mathlib.Core.Path.{sym, _∙_}
-use native.Mathlib.Nat.{mul-comm}
-use native.Mathlib.Omega.{arith}
-use denote.Ref.{now}
-use lib.ListN.{length}
+use Rattle.learning.proofs.Words.{_≤_, sym, _∙_, mul-comm, arith, now, length, needs}
 use Rattle.model.specs.Floor.{Floor, Sized}
 use Rattle.model.specs.FloorWritten.{textOf}
 use Rattle.floor.specs.Moves.{flat}
 use Rattle.model.proofs.FloorTexts.{text-gives}
 use Rattle.floor_text.proofs.Writing.{room-for-both, write-refused, write-done}
-use borrow.Author.Needs.{needs}
-use Rattle.floor_text.proofs.writer.write_floor.Statement.{statement}
-use Rattle.floor_text.proofs.writer.write_floor.Tie as tie
+use Rattle.floor_text.proofs.writer.write_floor as f
+use f.Tie as tie
 
 -- the places: at the start, and once the checks are passed
 abbrev begun : tie.After-enum-told → tie.Start
@@ -29,9 +22,6 @@ floor e = let a = begun e .args in flat (a .width) (a .height) (now (a .floor))
 passed : (e : tie.After-enum-told) → Sized (floor e) × (length (textOf (floor e)) ≤ length (now (begun e .args .buffer)))
 passed e = text-gives _ _ (sym (e .before .before .judge-text .ensures) ∙ e .enum-told .given .1)
 
-put-header-requires : tie.Need-put-header-requires
-put-header-requires c κs = let e = c .before in omega (arith, passed e, room-for-both (floor e))
-
 put-rows-requires : tie.Need-put-rows-requires
 put-rows-requires c κs =
     let headed = c .before .before .before in
@@ -40,24 +30,13 @@ put-rows-requires c κs =
       omega (arith, passed e, room-for-both (floor e), headed .put-header .ensures .next, headed .put-header .kept .0),
     )
 
-returns : tie.Need-returns
-returns c = write-refused _ _ _ (c .before .before .before .judge-text .ensures) (c .before .v .given .0 .0) (c .before .v .given .1)
-
 returns-2 : tie.Need-returns-2
 returns-2 c =
     let headed = c .before .before .before .before .before .before in
     let e = at-passed headed in
     write-done _ _ _ (e .before .before .judge-text .ensures) (e .enum-told .given .1) (passed e .1) (headed .put-header .ensures) (c .before .before .put-rows .ensures)
 
-pub write-floor-spec : {M : Type 1} → statement M
+pub write-floor-spec : {M : Type 1} → f.Statement.statement M
 write-floor-spec =
-    tie.close
-    (tie.spec
-    (λ c κs. search needs)
-    (λ c. search needs)
-    (λ c. search needs)
-    put-header-requires
-    put-rows-requires
-    returns
-    (λ c. search needs)
-    returns-2)
+    tie.close (tie.spec (λ c κs. search needs) (λ c. search needs) (λ c. search needs) (λ c κs. let e = c .before in omega (arith, passed e, room-for-both (floor e))) put-rows-requires
+    (λ c. write-refused _ _ _ (c .before .before .before .judge-text .ensures) (c .before .v .given .0 .0) (c .before .v .given .1)) (λ c. search needs) returns-2)

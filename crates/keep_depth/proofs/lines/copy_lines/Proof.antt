@@ -1,11 +1,9 @@
 -- `keep_depth::lines::copy_lines` meets its contract. The loop's invariant: `Going`, whatever follows, what is told of the whole is what is written and then what is told
--- of the bytes that are left. Assumes nothing.
-use Prim.Native.Nat.{_+_, _-_, _≤_}
-use native.Mathlib.Omega.{arith}
-use lib.ListN.{length}
+-- of the bytes that are left.
+use Rattle.learning.proofs.Words.{_+_, _-_, _≤_, arith, length}
 use Rattle.keep_depth.proofs.Copying.{Going, going, going-ends, going-none, going-more, room-more, line-given, none-left-unended}
-use Rattle.keep_depth.proofs.lines.copy_lines.Statement.{statement}
-use Rattle.keep_depth.proofs.lines.copy_lines.Tie as tie
+use Rattle.keep_depth.proofs.lines.copy_lines as f
+use f.Tie as tie
 
 abbrev Inv-loop : tie.InvT-loop
 Inv-loop bytes first out₀ c₀ out c = Going bytes first out₀ c out
@@ -58,23 +56,11 @@ returns-2 c =
     let l = c .before .before in
     going-ends (at-start l .pre) (l .loop .inv) (none-left-unended (at-start l .args .bytes .now) (l .loop .c .done) (omega arith))
 
-pub copy-lines-spec : {M : Type 1} → statement M
+pub copy-lines-spec : {M : Type 1} → f.Statement.statement M
 copy-lines-spec =
-    tie.close
-    (tie.spec
-    Inv-loop
-    μ-loop
-    (λ c. going _ _ _)
-    (λ c κs. c .before .before .loop .inv .within)
-    (λ c κs. at-loop (c .before .before) .loop .inv .within)
-    (λ c. at-loop (c .before .before .before) .loop .inv .same)
-    returns
-    (λ c. omega (arith, at-line c .first-line .ensures .ended (some c) .1))
-    (λ c. omega (arith, at-line c .first-line .ensures .ended (some c) .1))
-    (λ c. omega (arith, at-line c .first-line .ensures .ended (some c) .2))
-    put-line-requires
+    tie.close (tie.spec Inv-loop μ-loop (λ c. going _ _ _) (λ c κs. c .before .before .loop .inv .within) (λ c κs. at-loop (c .before .before) .loop .inv .within)
+    (λ c. at-loop (c .before .before .before) .loop .inv .same) returns (λ c. omega (arith, at-line c .first-line .ensures .ended (some c) .1))
+    (λ c. omega (arith, at-line c .first-line .ensures .ended (some c) .1)) (λ c. omega (arith, at-line c .first-line .ensures .ended (some c) .2)) put-line-requires
     (λ c. let p = c .before .before .before in let l = at-loop (at-line (p .before .before .before)) in omega (arith, more p .counted, more p .within, at-start l .pre .counted))
-    (λ c. let p = c .before .before .before in let e = p .before .before .before in omega (arith, at-line e .first-line .ensures .ended (some e)))
-    (λ c. more (c .before .before .before))
-    (λ c. c .before .before .loop .inv .same)
-    returns-2)
+    (λ c. let p = c .before .before .before in let e = p .before .before .before in omega (arith, at-line e .first-line .ensures .ended (some e))) (λ c. more (c .before .before .before))
+    (λ c. c .before .before .loop .inv .same) returns-2)

@@ -1,14 +1,8 @@
--- `line::depth::first_line` meets its contract. The loop's invariant: `Counting`, so many numbers are read. Assumes nothing.
-use Prim.Native.Nat.{_-_}
-use mathlib.Core.Path.{_≡_}
-use mathlib.Core.Bool.{true}
-use borrow.Author.Needs.{needs}
-use borrow.Author.Tests.{not-true, not-false}
-use native.Mathlib.Omega.{arith}
-use lib.ListN.{length}
+-- `line::depth::first_line` meets its contract. The loop's invariant: `Counting`, so many numbers are read.
+use Rattle.learning.proofs.Words.{_-_, _≡_, true, needs, not-true, not-false, arith, length}
 use Rattle.line.proofs.Depths.{Counting, counting, counting-more, first-unended, first-no-word, first-last}
-use Rattle.line.proofs.depth.first_line.Statement.{statement}
-use Rattle.line.proofs.depth.first_line.Tie as tie
+use Rattle.line.proofs.depth.first_line as f
+use f.Tie as tie
 
 abbrev Inv-loop : tie.InvT-loop
 Inv-loop bytes from count₀ i₀ count i = Counting bytes from count i
@@ -35,29 +29,15 @@ returns-2 c =
     let w = e .before .before in
     first-last (at-loop w .loop .inv) (w .word-at .ensures) (good e) (last .if2 .taken) (c .formed .ensures)
 
-loop-less : tie.Need-loop-less Inv-loop μ-loop
-loop-less c = let e = c .before in omega (arith, e .before .before .word-at .ensures .on (good e))
-
 loop-again : tie.Need-loop-again Inv-loop μ-loop
 loop-again c =
     let e = c .before in
     let w = e .before .before in
     counting-more (at-loop w .loop .inv) (w .word-at .ensures) (good e) (c .if2 .left)
 
-pub first-line-spec : {M : Type 1} → statement M
+pub first-line-spec : {M : Type 1} → f.Statement.statement M
 first-line-spec =
-    tie.close
-    (tie.spec
-    Inv-loop
-    μ-loop
-    (λ c. counting _ _ (c .before .pre))
-    (λ c κs. search needs)
-    (λ c κs. search needs)
-    returns
-    (λ c. omega (arith, at-loop (c .before .before) .loop .inv .few, at-loop (c .before .before) .loop .inv .scanning .most))
-    (λ c κs. search needs)
-    returns-2
-    loop-less
-    loop-again
-    (λ c κs. search needs)
+    tie.close (tie.spec Inv-loop μ-loop (λ c. counting _ _ (c .before .pre)) (λ c κs. search needs) (λ c κs. search needs) returns
+    (λ c. omega (arith, at-loop (c .before .before) .loop .inv .few, at-loop (c .before .before) .loop .inv .scanning .most)) (λ c κs. search needs) returns-2
+    (λ c. let e = c .before in omega (arith, e .before .before .word-at .ensures .on (good e))) loop-again (λ c κs. search needs)
     (λ c. first-unended _ _ _ (c .no-line2 .ensures) (c .before .before .loop .inv) (omega arith)))

@@ -1,12 +1,9 @@
--- `line::depth::put_line` meets its contract: all but the LF and then the depth where two numbers are given, else the line. Assumes nothing.
-use mathlib.Core.Path.{_≡_, sym, _∙_}
-use native.Mathlib.Omega.{arith}
-use denote.Ref.{now}
+-- `line::depth::put_line` meets its contract: all but the LF and then the depth where two numbers are given, else the line.
+use Rattle.learning.proofs.Words.{_≡_, sym, _∙_, arith, now, needs}
 use Rattle.model.specs.KeepDepth.{numbersGiven}
 use Rattle.line.proofs.Depths.{line-long, body-long, two-long, two-printed, others-stay, others-long}
-use borrow.Author.Needs.{needs}
-use Rattle.line.proofs.depth.put_line.Statement.{statement}
-use Rattle.line.proofs.depth.put_line.Tie as tie
+use Rattle.line.proofs.depth.put_line as f
+use f.Tie as tie
 
 -- the places: at the start, where two numbers are given, and once all but the LF is printed
 abbrev at-start : tie.Then1 → tie.Start
@@ -52,17 +49,7 @@ returns-2 c =
     let b = c .before .before in
     rw (others-stay _ (others (b .before .before))) (b .bytes3 .ensures)
 
-pub put-line-spec : {M : Type 1} → statement M
+pub put-line-spec : {M : Type 1} → f.Statement.statement M
 put-line-spec =
-    tie.close
-    (tie.spec
-    (λ c. line-long (at-start c .args .line .now) (omega (arith, two c)))
-    (λ c. sym (body-long (at-start (c .before .before) .args .line .now)))
-    bytes-requires
-    (λ c. search needs)
-    bytes-requires-2
-    (λ c. search needs)
-    returns
-    bytes-requires-3
-    (λ c. search needs)
-    returns-2)
+    tie.close (tie.spec (λ c. line-long (at-start c .args .line .now) (omega (arith, two c))) (λ c. sym (body-long (at-start (c .before .before) .args .line .now))) bytes-requires
+    (λ c. search needs) bytes-requires-2 (λ c. search needs) returns bytes-requires-3 (λ c. search needs) returns-2)

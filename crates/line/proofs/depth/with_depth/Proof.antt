@@ -1,15 +1,10 @@
--- `line::depth::with_depth` meets its contract: a refusal leaves the buffer; else the line with its depth stands in its first places. Assumes nothing.
-use mathlib.Core.Path.{refl, sym, _∙_}
-use Prim.Native.Nat.{_≤_}
-use native.Mathlib.Omega.{arith}
-use lib.ListN.{length}
-use borrow.Author.Tests.{not-true, not-false, leb-true, leb-false}
+-- `line::depth::with_depth` meets its contract: a refusal leaves the buffer; else the line with its depth stands in its first places.
+use Rattle.learning.proofs.Words.{refl, sym, _∙_, _≤_, arith, length, not-true, not-false, leb-true, leb-false, needs}
 use Rattle.model.specs.KeepDepth.{numbersGiven, withOldDepth, withDepth}
 use Rattle.model.proofs.Writings.{writes-refused, writes-done}
 use Rattle.line.proofs.Depths.{printed-first, depth-malformed, depth-no-room, depth-done}
-use borrow.Author.Needs.{needs}
-use Rattle.line.proofs.depth.with_depth.Statement.{statement}
-use Rattle.line.proofs.depth.with_depth.Tie as tie
+use Rattle.line.proofs.depth.with_depth as f
+use f.Tie as tie
 
 -- the line is of the form
 formed : (e : tie.Else1) → 1 ≤ numbersGiven (e .before .before .before .before .args .line .now)
@@ -46,16 +41,6 @@ returns-3 c =
     let whole = printed-first _ _ _ _ (fits e) (put .put-line .ensures) in
     writes-done _ _ (depth-done _ _ (formed (e .before .before)) (fits e)) _ _ refl (whole .0) (whole .1)
 
-pub with-depth-spec : {M : Type 1} → statement M
+pub with-depth-spec : {M : Type 1} → f.Statement.statement M
 with-depth-spec =
-    tie.close
-    (tie.spec
-    (λ c κs. search needs)
-    (λ c κs. search needs)
-    returns
-    (λ c κs. search needs)
-    (λ c κs. search needs)
-    returns-2
-    put-line-requires
-    (λ c. search needs)
-    returns-3)
+    tie.close (tie.spec (λ c κs. search needs) (λ c κs. search needs) returns (λ c κs. search needs) (λ c κs. search needs) returns-2 put-line-requires (λ c. search needs) returns-3)

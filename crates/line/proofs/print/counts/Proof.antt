@@ -1,12 +1,10 @@
 -- `line::print::counts` meets its contract: four fields and the LF, one after another.
--- Assumes nothing.
-use mathlib.Core.List.{[], _∷_, _++_}
+use Rattle.learning.proofs.Words.{[], _∷_, _++_, needs}
 use Rattle.model.specs.FloorText.{LF}
 use Rattle.model.specs.Line.{field}
 use Rattle.notation.proofs.Decimals.{printed-then}
-use borrow.Author.Needs.{needs}
-use Rattle.line.proofs.print.counts.Statement.{statement}
-use Rattle.line.proofs.print.counts.Tie as tie
+use Rattle.line.proofs.print.counts as f
+use f.Tie as tie
 
 returns : tie.Need-returns
 returns c =
@@ -24,14 +22,5 @@ returns c =
     (printed-then (field (r .kept)) travel (after-field3 .field3 .ensures .0)
     (printed-then (field (r .travel)) end (c .before .before .before .before .before .before .field4 .ensures .0) (c .before .before .byte .ensures))))
 
-pub counts-spec : {M : Type 1} → statement M
-counts-spec =
-    tie.close
-    (tie.spec
-    (λ c κs. search needs)
-    (λ c κs. search needs)
-    (λ c κs. search needs)
-    (λ c κs. search needs)
-    (λ c κs. search needs)
-    (λ c. search needs)
-    returns)
+pub counts-spec : {M : Type 1} → f.Statement.statement M
+counts-spec = tie.close (tie.spec (λ c κs. search needs) (λ c κs. search needs) (λ c κs. search needs) (λ c κs. search needs) (λ c κs. search needs) (λ c. search needs) returns)

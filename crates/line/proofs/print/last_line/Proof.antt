@@ -1,12 +1,10 @@
 -- `line::print::last_line` meets its contract: a word, a field and the LF, one after another.
--- Assumes nothing.
-use mathlib.Core.List.{[], _∷_, _++_}
+use Rattle.learning.proofs.Words.{[], _∷_, _++_, needs}
 use Rattle.model.specs.FloorText.{LF}
 use Rattle.model.specs.Line.{field, settledWord}
 use Rattle.notation.proofs.Decimals.{printed-then}
-use borrow.Author.Needs.{needs}
-use Rattle.line.proofs.print.last_line.Statement.{statement}
-use Rattle.line.proofs.print.last_line.Tie as tie
+use Rattle.line.proofs.print.last_line as f
+use f.Tie as tie
 
 returns : tie.Need-returns
 returns c =
@@ -18,6 +16,5 @@ returns c =
     printed-then (settledWord (a .settled)) (field (a .trials) ++ end) (after-said .said .ensures .0)
     (printed-then (field (a .trials)) end (c .before .before .before .before .before .before .field .ensures .0) (c .before .before .byte .ensures))
 
-pub last-line-spec : {M : Type 1} → statement M
-last-line-spec =
-    tie.close (tie.spec (λ c κs. search needs) (λ c κs. search needs) (λ c κs. search needs) (λ c. search needs) returns)
+pub last-line-spec : {M : Type 1} → f.Statement.statement M
+last-line-spec = tie.close (tie.spec (λ c κs. search needs) (λ c κs. search needs) (λ c κs. search needs) (λ c. search needs) returns)

@@ -1,15 +1,10 @@
 -- `line::print::moves` meets its contract. The loop's invariant: the first i bytes are written, and nothing else has changed.
--- Assumes nothing.
-use Prim.Native.Nat.{_+_, _-_, _≤_}
-use mathlib.Core.Path.{_≡_, refl, ap, _∙_}
-use native.Mathlib.Omega.{arith}
-use lib.ListN.{length, getD, set, take, length-set}
-use lib.Seq.{sets}
+use Rattle.learning.proofs.Words.{_+_, _-_, _≤_, _≡_, refl, ap, _∙_, arith, length, getD, set, take, length-set, sets}
 use Rattle.line.specs.Printing.{moveDigits}
 use Rattle.notation.proofs.Decimals.{bytes-more, bytes-all}
 use Rattle.line.proofs.Decimals.{digits-length, digit-at}
-use Rattle.line.proofs.print.moves.Statement.{statement}
-use Rattle.line.proofs.print.moves.Tie as tie
+use Rattle.line.proofs.print.moves as f
+use f.Tie as tie
 
 abbrev Inv-loop : tie.InvT-loop
 Inv-loop out₀ at ms n i₀ out i = (i ≤ n) × (length out ≡ length out₀) × (out ≡ sets out₀ at (take i (moveDigits (take n ms))))
@@ -37,20 +32,7 @@ returns c =
     let d = digits-length (a .args .ms .now) (a .args .n) (a .pre .0) in
     bytes-all (a .args .out .now) (moveDigits (take (a .args .n) (a .args .ms .now))) (l .out) (a .args .at) (l .i) (omega (arith, d)) (omega (arith, d)) (l .inv .2)
 
-pub moves-spec : {M : Type 1} → statement M
+pub moves-spec : {M : Type 1} → f.Statement.statement M
 moves-spec =
-    tie.close
-    (tie.spec
-    Inv-loop
-    μ-loop
-    (λ c. (omega arith, refl, refl))
-    (λ c. omega arith)
-    (λ c. omega (arith, c .before .before .before .pre .2 (c .before .before .loop .i) (omega arith)))
-    (λ c. omega arith)
-    (λ c. omega arith)
-    (λ c. omega arith)
-    (λ c. omega arith)
-    loop-again
-    (λ c. omega arith)
-    (λ c. omega arith)
-    returns)
+    tie.close (tie.spec Inv-loop μ-loop (λ c. (omega arith, refl, refl)) (λ c. omega arith) (λ c. omega (arith, c .before .before .before .pre .2 (c .before .before .loop .i) (omega arith)))
+    (λ c. omega arith) (λ c. omega arith) (λ c. omega arith) (λ c. omega arith) loop-again (λ c. omega arith) (λ c. omega arith) returns)

@@ -1,12 +1,10 @@
 -- `line::print::refusal_line` meets its contract: a word, the number, any place and the LF, one after another.
--- Assumes nothing.
-use mathlib.Core.List.{[], _∷_, _++_}
+use Rattle.learning.proofs.Words.{[], _∷_, _++_, needs}
 use Rattle.model.specs.FloorText.{LF}
 use Rattle.model.specs.Line.{field, placeField, refusalLine}
 use Rattle.notation.proofs.Decimals.{printed-then}
-use borrow.Author.Needs.{needs}
-use Rattle.line.proofs.print.refusal_line.Statement.{statement}
-use Rattle.line.proofs.print.refusal_line.Tie as tie
+use Rattle.line.proofs.print.refusal_line as f
+use f.Tie as tie
 
 returns : tie.Need-returns
 unfolding refusalLine
@@ -22,14 +20,5 @@ returns c =
     (printed-then (field (r .number)) place (after-field .field .ensures .0)
     (printed-then (placeField (r .place)) end (c .before .before .before .before .before .before .place .ensures .0) (c .before .before .byte .ensures)))
 
-pub refusal-line-spec : {M : Type 1} → statement M
-refusal-line-spec =
-    tie.close
-    (tie.spec
-    (λ c. search needs)
-    (λ c κs. search needs)
-    (λ c κs. search needs)
-    (λ c κs. search needs)
-    (λ c κs. search needs)
-    (λ c. search needs)
-    returns)
+pub refusal-line-spec : {M : Type 1} → f.Statement.statement M
+refusal-line-spec = tie.close (tie.spec (λ c. search needs) (λ c κs. search needs) (λ c κs. search needs) (λ c κs. search needs) (λ c κs. search needs) (λ c. search needs) returns)

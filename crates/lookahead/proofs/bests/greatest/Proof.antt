@@ -1,25 +1,15 @@
 -- `lookahead::bests::greatest` meets its contract. The loop's invariant: top is the greatest of the entries 1 to k - 1.
--- Assumes nothing.
-use Prim.Native.Nat.{_+_, _-_, _≤_}
-use mathlib.Core.Path.{_≡_, subst}
-use native.Mathlib.Omega.{arith}
-use borrow.Author.Needs.{needs}
+use Rattle.learning.proofs.Words.{_+_, _-_, _≤_, _≡_, subst, arith, needs}
 use Rattle.lookahead.proofs.Weighing.{topped-none, topped-more}
 use Rattle.lookahead.specs.Bests.{Topped}
-use Rattle.lookahead.proofs.bests.greatest.Statement.{statement}
-use Rattle.lookahead.proofs.bests.greatest.Tie as tie
+use Rattle.lookahead.proofs.bests.greatest as f
+use f.Tie as tie
 
 abbrev Inv-loop : tie.InvT-loop
 Inv-loop best last top₀ k₀ top k = (1 ≤ k) × (k ≤ last + 1) × Topped best k top
 
 abbrev μ-loop : tie.MeasureT-loop
 μ-loop best last top₀ k₀ top k = last + 1 - k
-
-loop-holds : tie.Need-loop-holds Inv-loop μ-loop
-loop-holds c = (omega arith, omega arith, topped-none (c .before .args .best .now))
-
-shared-slice-read-larger : tie.Need-shared-slice-read-larger Inv-loop μ-loop
-shared-slice-read-larger c = omega (arith, c .before .before .before .before .pre .0)
 
 loop-again : tie.Need-loop-again Inv-loop μ-loop
 loop-again c =
@@ -32,17 +22,7 @@ returns c =
     let e : l .k ≡ c .before .before .before .args .last + 1 = omega arith in
     subst (λ k. Topped (c .before .before .before .args .best .now) k (l .top)) e (l .inv .2)
 
-pub greatest-spec : {M : Type 1} → statement M
+pub greatest-spec : {M : Type 1} → f.Statement.statement M
 greatest-spec =
-    tie.close
-    (tie.spec
-    Inv-loop
-    μ-loop
-    loop-holds
-    (λ c. search needs)
-    shared-slice-read-larger
-    (λ c κs. tt)
-    (λ c. omega arith)
-    (λ c. omega arith)
-    loop-again
-    returns)
+    tie.close (tie.spec Inv-loop μ-loop (λ c. (omega arith, omega arith, topped-none (c .before .args .best .now))) (λ c. search needs)
+    (λ c. omega (arith, c .before .before .before .before .pre .0)) (λ c κs. tt) (λ c. omega arith) (λ c. omega arith) loop-again returns)

@@ -1,14 +1,9 @@
 -- `lookahead::bests::weigh` meets its contract: a key of the window is small.
--- Assumes nothing.
-use Prim.Native.Nat.{_+_, _-_, _*_, _≤_, _<_, min}
-use mathlib.Core.Path.{ap₂, _∙_}
-use native.Mathlib.Omega.{arith}
-use borrow.Author.Needs.{needs}
-use lib.ListN.{length, getD, set}
+use Rattle.learning.proofs.Words.{_+_, _-_, _*_, _≤_, _<_, min, ap₂, _∙_, arith, needs, length, getD, set}
 use Rattle.model.specs.Lookahead.{highestNew}
 use Rattle.lookahead.proofs.Weighing.{value-lt, ring-is}
-use Rattle.lookahead.proofs.bests.weigh.Statement.{statement}
-use Rattle.lookahead.proofs.bests.weigh.Tie as tie
+use Rattle.lookahead.proofs.bests.weigh as f
+use f.Tie as tie
 
 -- the call's start, from where the ring is known; from the cost and the figure it is two and four places further
 abbrev start : tie.After-wide32 → tie.Start
@@ -47,24 +42,10 @@ returns c =
     let v = ap₂ (λ w t. (a .args .p * w + t) * 4096 + a .args .c) (cost .coarse .ensures) (figure .wide322 .ensures .0) in
     c .before .before .enter .ensures ∙ ap₂ (λ i u. set (a .args .best .now) i (min u (getD (a .args .best .now) i 0))) k v
 
-pub weigh-spec : {M : Type 1} → statement M
+pub weigh-spec : {M : Type 1} → f.Statement.statement M
 weigh-spec =
-    tie.close
-    (tie.spec
-    (λ c. omega (arith, places (c .before .before .before .before) .0))
-    (λ c. let a = c .before .before .before .before .before in omega (arith, places a .0, a .pre .0 .marks))
-    (λ c. search needs)
-    (λ c κs. search needs)
-    (λ c. omega (arith, places (start c) .0))
-    (λ c. let a = start (c .before) in omega (arith, places a .0, a .pre .0 .costs))
-    (λ c κs. search needs)
-    mul-v
-    (λ c. omega (arith, places (start (c .before .before)) .0))
-    (λ c. places (start (c .before .before .before)) .1)
-    (λ c κs. search needs)
-    (λ c. omega (arith, small c))
-    (λ c. omega (arith, small (c .before)))
-    (λ c. omega (arith, small (c .before), places (start (c .before .before .before .before .before)) .0))
-    enter-requires
-    (λ c. search needs)
-    returns)
+    tie.close (tie.spec (λ c. omega (arith, places (c .before .before .before .before) .0))
+    (λ c. let a = c .before .before .before .before .before in omega (arith, places a .0, a .pre .0 .marks)) (λ c. search needs) (λ c κs. search needs)
+    (λ c. omega (arith, places (start c) .0)) (λ c. let a = start (c .before) in omega (arith, places a .0, a .pre .0 .costs)) (λ c κs. search needs) mul-v
+    (λ c. omega (arith, places (start (c .before .before)) .0)) (λ c. places (start (c .before .before .before)) .1) (λ c κs. search needs) (λ c. omega (arith, small c))
+    (λ c. omega (arith, small (c .before))) (λ c. omega (arith, small (c .before), places (start (c .before .before .before .before .before)) .0)) enter-requires (λ c. search needs) returns)

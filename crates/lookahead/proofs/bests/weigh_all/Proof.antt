@@ -1,15 +1,11 @@
 -- `lookahead::bests::weigh_all` meets its contract. The loop's invariant: the keys of the first i cells are entered.
--- Assumes nothing.
-use Prim.Native.Nat.{_-_, _≤_}
-use mathlib.Core.Path.{_≡_, sym, _∙_, subst}
-use native.Mathlib.Omega.{arith}
-use borrow.Author.Needs.{needs}
+use Rattle.learning.proofs.Words.{_-_, _≤_, _≡_, sym, _∙_, subst, arith, needs}
 use Rattle.lookahead.proofs.Weighing.{in-ring, bests-more}
 use Rattle.lookahead.specs.Bests.{Bests}
 use Rattle.model.specs.Checks.{deepest}
 use Rattle.lookahead.specs.Marks.{In}
-use Rattle.lookahead.proofs.bests.weigh_all.Statement.{statement}
-use Rattle.lookahead.proofs.bests.weigh_all.Tie as tie
+use Rattle.lookahead.proofs.bests.weigh_all as f
+use f.Tie as tie
 
 abbrev Inv-loop : tie.InvT-loop
 Inv-loop table p base mark cost list n best₀ i₀ best i = (i ≤ n) × Bests base mark cost table p list i best
@@ -27,9 +23,6 @@ listed : (c : tie.After-wide16 Inv-loop μ-loop) →
 listed c =
     let a = to-start (c .before .before .before) in
     subst (In (a .args .base) (a .args .mark .now)) (sym (c .wide16 .ensures .0)) (a .pre .1 .0 .early (c .before .before .before .loop .i) (omega arith))
-
-loop-holds : tie.Need-loop-holds Inv-loop μ-loop
-loop-holds c = (omega arith, c .before .before .before .before .before .pre .1 .1)
 
 shared-slice-read-wide16 : tie.Need-shared-slice-read-wide16 Inv-loop μ-loop
 shared-slice-read-wide16 c =
@@ -66,19 +59,7 @@ returns c =
     let e : l .i ≡ a .n = omega arith in
     subst (λ z. Bests (a .base) (a .mark .now) (a .cost .now) (a .table .now) (a .p) (a .list .now) z (l .best)) e (l .inv .1)
 
-pub weigh-all-spec : {M : Type 1} → statement M
+pub weigh-all-spec : {M : Type 1} → f.Statement.statement M
 weigh-all-spec =
-    tie.close
-    (tie.spec
-    Inv-loop
-    μ-loop
-    loop-holds
-    (λ c. search needs)
-    shared-slice-read-wide16
-    (λ c κs. tt)
-    weigh-requires
-    (λ c. omega arith)
-    (λ c. omega arith)
-    loop-again
-    same-length
-    returns)
+    tie.close (tie.spec Inv-loop μ-loop (λ c. (omega arith, c .before .before .before .before .before .pre .1 .1)) (λ c. search needs) shared-slice-read-wide16 (λ c κs. tt) weigh-requires
+    (λ c. omega arith) (λ c. omega arith) loop-again same-length returns)

@@ -1,14 +1,11 @@
 -- `lookahead::costs::ease` meets its contract: what `lower` does, at the cell that the move leads to.
--- Assumes nothing.
-use mathlib.Core.Path.{_≡_, sym, _∙_}
-use native.Mathlib.Omega.{arith}
-use borrow.Author.Needs.{needs}
+use Rattle.learning.proofs.Words.{_≡_, sym, _∙_, arith, needs}
 use Rattle.floor.proofs.Steps.{Stepped, stepped}
 use Rattle.floor.specs.Moves.{flat, stepOf}
 use Rattle.floor.specs.declared.Step.the-variants.{To}
 use Rattle.lookahead.proofs.Lowering.{eased, eased-out, eased-wall}
-use Rattle.lookahead.proofs.costs.ease.Statement.{statement}
-use Rattle.lookahead.proofs.costs.ease.Tie as tie
+use Rattle.lookahead.proofs.costs.ease as f
+use f.Tie as tie
 
 -- the call's start
 abbrev to-start : tie.After-cell → tie.Start
@@ -26,9 +23,6 @@ at-cell : (c : tie.After-cell) →
     Stepped (flat (a .width) (a .height) (a .floor .now)) (a .c) (a .m) (c .cell .given .0 .0) (c .cell .given .0 .1 .0)
 at-cell c = stepped _ (to-start c .pre .0) _ _ _ _ (to-cell c)
 
-mul-if1 : tie.Need-mul-if1
-mul-if1 c = omega (arith, at-cell (c .before) .few)
-
 shared-slice-read-if1 : tie.Need-shared-slice-read-if1
 shared-slice-read-if1 c =
     let start = to-start (c .before .before) in
@@ -38,9 +32,6 @@ returns : tie.Need-returns
 returns c =
     let a = to-start (c .before .before .before) in
     eased-out _ _ _ _ _ _ _ (a .pre .1 .0) (a .pre .1 .1 .1 .1) _ _ _ (to-cell (c .before .before .before)) (c .if1 .taken)
-
-fine-requires : tie.Need-fine-requires
-fine-requires c κs = omega (arith, at-cell (c .before .before .before) .most)
 
 -- where the fine price is known
 abbrev from-fine : tie.After-fine → tie.After-cell
@@ -69,19 +60,7 @@ returns-3 c =
     let a = c .before .before .before .before .before .before in
     eased-wall _ _ _ _ _ _ _ (a .pre .1 .0) (a .pre .1 .1 .1 .1) _ (sym (c .before .before .step-from .ensures) ∙ c .enum-told .given .1)
 
-pub ease-spec : {M : Type 1} → statement M
+pub ease-spec : {M : Type 1} → f.Statement.statement M
 ease-spec =
-    tie.close
-    (tie.spec
-    (λ c κs. search needs)
-    (λ c. search needs)
-    mul-if1
-    shared-slice-read-if1
-    returns
-    fine-requires
-    add-sum
-    lower-requires
-    (λ c. search needs)
-    (λ c. search needs)
-    returns-2
-    returns-3)
+    tie.close (tie.spec (λ c κs. search needs) (λ c. search needs) (λ c. omega (arith, at-cell (c .before) .few)) shared-slice-read-if1 returns
+    (λ c κs. omega (arith, at-cell (c .before .before .before) .most)) add-sum lower-requires (λ c. search needs) (λ c. search needs) returns-2 returns-3)

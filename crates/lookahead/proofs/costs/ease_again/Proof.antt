@@ -1,13 +1,10 @@
 -- `lookahead::costs::ease_again` meets its contract: what `ease_cell` does, or nothing where no cost can be lowered.
--- Assumes nothing.
-use mathlib.Core.Path.{refl, sym, subst}
-use native.Mathlib.Omega.{arith}
-use borrow.Author.Needs.{needs}
+use Rattle.learning.proofs.Words.{refl, sym, subst, arith, needs}
 use Rattle.model.proofs.Moves.{free-few}
 use Rattle.lookahead.proofs.Lowering.{again-not, again-topped, again-eased}
 use Rattle.lookahead.specs.Marks.{In}
-use Rattle.lookahead.proofs.costs.ease_again.Statement.{statement}
-use Rattle.lookahead.proofs.costs.ease_again.Tie as tie
+use Rattle.lookahead.proofs.costs.ease_again as f
+use f.Tie as tie
 
 -- the call's start, from where the cell is known
 abbrev start : tie.After-wide16 → tie.Start
@@ -46,27 +43,8 @@ returns-3 c =
     let cell = wide .before .before .before .before in
     again-eased _ _ _ _ _ _ _ _ _ _ _ (sym (cell .wide16 .ensures .0)) refl (eased .ease-cell .ensures)
 
-pub ease-again-spec : {M : Type 1} → statement M
+pub ease-again-spec : {M : Type 1} → f.Statement.statement M
 ease-again-spec =
-    tie.close
-    (tie.spec
-    (λ c. search needs)
-    (λ c. search needs)
-    (λ c κs. search needs)
-    (λ c. search needs)
-    slice-read-w
-    (λ c. search needs)
-    (λ c. search needs)
-    (λ c. search needs)
-    returns
-    (λ c. search needs)
-    (λ c. search needs)
-    (λ c. search needs)
-    (λ c κs. search needs)
-    (λ c. omega (arith, c .wide162 .ensures .1))
-    (λ c. search needs)
-    returns-2
-    ease-cell-requires
-    (λ c. search needs)
-    (λ c. search needs)
-    returns-3)
+    tie.close (tie.spec (λ c. search needs) (λ c. search needs) (λ c κs. search needs) (λ c. search needs) slice-read-w (λ c. search needs) (λ c. search needs) (λ c. search needs) returns
+    (λ c. search needs) (λ c. search needs) (λ c. search needs) (λ c κs. search needs) (λ c. omega (arith, c .wide162 .ensures .1)) (λ c. search needs) returns-2 ease-cell-requires
+    (λ c. search needs) (λ c. search needs) returns-3)

@@ -1,13 +1,10 @@
 -- `lookahead::costs::ease_cell` meets its contract. The loop's invariant: the first m moves have lowered what they can.
--- Assumes nothing.
-use Prim.Native.Nat.{_-_, _≤_}
-use mathlib.Core.Path.{_≡_, sym, _∙_, subst}
-use native.Mathlib.Omega.{arith}
+use Rattle.learning.proofs.Words.{_-_, _≤_, _≡_, sym, _∙_, subst, arith}
 use Rattle.floor.specs.Moves.{flat}
 use Rattle.lookahead.proofs.Lowering.{lowered-none, eased-more}
 use Rattle.lookahead.specs.Costs.{Lowered, Easing}
-use Rattle.lookahead.proofs.costs.ease_cell.Statement.{statement}
-use Rattle.lookahead.proofs.costs.ease_cell.Tie as tie
+use Rattle.lookahead.proofs.costs.ease_cell as f
+use f.Tie as tie
 
 abbrev Inv-loop : tie.InvT-loop
 Inv-loop width height floor base mark cost₀ c w changed spot any₀ m₀ cost any m =
@@ -15,9 +12,6 @@ Inv-loop width height floor base mark cost₀ c w changed spot any₀ m₀ cost 
 
 abbrev μ-loop : tie.MeasureT-loop
 μ-loop width height floor base mark cost₀ c w changed spot any₀ m₀ cost any m = 8 - m
-
-spot-of-requires : tie.Need-spot-of-requires Inv-loop μ-loop
-spot-of-requires c κs = let a = c .before .before .before in (a .pre .0, a .pre .1 .0 .free (a .args .c) (a .pre .1 .1 .0))
 
 loop-holds : tie.Need-loop-holds Inv-loop μ-loop
 loop-holds c =
@@ -37,9 +31,6 @@ loop-again c =
     let l = c .before .before .before .before .before .loop in
     (omega arith, eased-more _ _ _ _ _ _ _ _ _ _ _ _ (l .inv .1) (c .before .before .ease .ensures))
 
-same-length : tie.Need-same-length Inv-loop μ-loop
-same-length c = c .before .loop .inv .1 .costs .costs ∙ sym (c .before .before .before .before .before .before .pre .1 .0 .costs)
-
 returns : tie.Need-returns Inv-loop μ-loop
 returns c =
     let a = c .before .before .before .before .before .before .args in
@@ -48,17 +39,7 @@ returns c =
     let g = flat (a .width) (a .height) (a .floor .now) in
     subst (λ z. Lowered g (a .base) (a .mark .now) (Easing g (a .base) (a .mark .now) (a .c) z (a .w)) (a .cost .now) (a .changed) (l .cost) (l .any)) e (l .inv .1)
 
-pub ease-cell-spec : {M : Type 1} → statement M
+pub ease-cell-spec : {M : Type 1} → f.Statement.statement M
 ease-cell-spec =
-    tie.close
-    (tie.spec
-    Inv-loop
-    μ-loop
-    spot-of-requires
-    loop-holds
-    ease-requires
-    (λ c. omega arith)
-    (λ c. omega arith)
-    loop-again
-    same-length
-    returns)
+    tie.close (tie.spec Inv-loop μ-loop (λ c κs. let a = c .before .before .before in (a .pre .0, a .pre .1 .0 .free (a .args .c) (a .pre .1 .1 .0))) loop-holds ease-requires
+    (λ c. omega arith) (λ c. omega arith) loop-again (λ c. c .before .loop .inv .1 .costs .costs ∙ sym (c .before .before .before .before .before .before .pre .1 .0 .costs)) returns)

@@ -1,13 +1,8 @@
 -- `lookahead::costs::highest` meets its contract. The loop's invariant: no cost of the first i cells is above the greatest so far.
--- Assumes nothing.
-use Prim.Native.Nat.{_-_, _≤_}
-use mathlib.Core.Path.{ap}
-use native.Mathlib.Omega.{arith}
-use borrow.Author.Count.{below-more}
-use lib.ListN.{getD}
+use Rattle.learning.proofs.Words.{_-_, _≤_, ap, arith, below-more, getD}
 use Rattle.lookahead.specs.Costs.{at, Highest}
-use Rattle.lookahead.proofs.costs.highest.Statement.{statement}
-use Rattle.lookahead.proofs.costs.highest.Tie as tie
+use Rattle.lookahead.proofs.costs.highest as f
+use f.Tie as tie
 
 abbrev Inv-loop : tie.InvT-loop
 Inv-loop base mark cost list n high₀ i₀ high i = (i ≤ n) × Highest cost list i high
@@ -17,12 +12,6 @@ abbrev μ-loop : tie.MeasureT-loop
 
 abbrev start : tie.At-loop Inv-loop μ-loop → tie.Start Inv-loop μ-loop
 start c = c .before .before .before .before
-
-mul-wide16 : tie.Need-mul-wide16 Inv-loop μ-loop
-mul-wide16 c = omega (arith, start (c .before) .pre .0 .fits)
-
-shared-slice-read-wide16 : tie.Need-shared-slice-read-wide16 Inv-loop μ-loop
-shared-slice-read-wide16 c = let L = start (c .before .before) .pre .0 in omega (arith, L .fits, L .room)
 
 shared-slice-read-wide16-2 : tie.Need-shared-slice-read-wide16-2 Inv-loop μ-loop
 shared-slice-read-wide16-2 c =
@@ -50,21 +39,8 @@ returns c x h =
     let k = a .pre .0 .listed x h in
     omega (arith, l .inv .1 (k .0) (omega (arith, k .1)), ap (at (a .args .cost .now)) (k .2))
 
-pub highest-spec : {M : Type 1} → statement M
+pub highest-spec : {M : Type 1} → f.Statement.statement M
 highest-spec =
-    tie.close
-    (tie.spec
-    Inv-loop
-    μ-loop
-    (λ c. (omega arith, λ j l. absurd (omega arith)))
-    mul-wide16
-    shared-slice-read-wide16
-    (λ c κs. tt)
-    (λ c. omega (arith, c .wide16 .ensures .1))
-    shared-slice-read-wide16-2
-    (λ c κs. tt)
-    (λ c κs. tt)
-    (λ c. omega arith)
-    (λ c. omega arith)
-    loop-again
-    returns)
+    tie.close (tie.spec Inv-loop μ-loop (λ c. (omega arith, λ j l. absurd (omega arith))) (λ c. omega (arith, start (c .before) .pre .0 .fits))
+    (λ c. let L = start (c .before .before) .pre .0 in omega (arith, L .fits, L .room)) (λ c κs. tt) (λ c. omega (arith, c .wide16 .ensures .1)) shared-slice-read-wide16-2 (λ c κs. tt)
+    (λ c κs. tt) (λ c. omega arith) (λ c. omega arith) loop-again returns)

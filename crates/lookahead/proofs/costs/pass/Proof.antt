@@ -1,13 +1,10 @@
 -- `lookahead::costs::pass` meets its contract. The loop's invariant: the moves of the first i cells are followed where they need to be.
--- Assumes nothing.
-use Prim.Native.Nat.{_-_, _≤_}
-use mathlib.Core.Path.{_≡_, sym, _∙_, subst}
-use native.Mathlib.Omega.{arith}
+use Rattle.learning.proofs.Words.{_-_, _≤_, _≡_, sym, _∙_, subst, arith}
 use Rattle.floor.specs.Moves.{flat}
 use Rattle.lookahead.proofs.Lowering.{passed-none, passed-more}
 use Rattle.lookahead.specs.Costs.{Passed}
-use Rattle.lookahead.proofs.costs.pass.Statement.{statement}
-use Rattle.lookahead.proofs.costs.pass.Tie as tie
+use Rattle.lookahead.proofs.costs.pass as f
+use f.Tie as tie
 
 abbrev Inv-loop : tie.InvT-loop
 Inv-loop width height floor base mark cost₀ list₀ n high any₀ i₀ cost list any i =
@@ -48,12 +45,6 @@ loop-again c =
     let l = at-loop .loop in
     (omega arith, passed-more _ _ _ _ _ _ _ _ _ _ _ _ (omega arith) (l .inv .1) (after-ease-again .ease-again .ensures))
 
-same-length : tie.Need-same-length Inv-loop μ-loop
-same-length c = c .before .loop .inv .1 .lowered .costs .costs ∙ sym (c .before .before .before .before .before .before .pre .1 .0 .costs)
-
-same-length-2 : tie.Need-same-length-2 Inv-loop μ-loop
-same-length-2 c = c .before .loop .inv .1 .listing .room ∙ sym (c .before .before .before .before .before .before .pre .1 .1 .0 .room)
-
 returns : tie.Need-returns Inv-loop μ-loop
 returns c =
     let a = c .before .before .before .before .before .before .args in
@@ -61,17 +52,8 @@ returns c =
     let e : l .i ≡ a .n = omega arith in
     subst (λ z. Passed (flat (a .width) (a .height) (a .floor .now)) (a .base) (a .mark .now) (a .n) z (a .cost .now) (l .cost) (l .list) (l .any)) e (l .inv .1)
 
-pub pass-spec : {M : Type 1} → statement M
+pub pass-spec : {M : Type 1} → f.Statement.statement M
 pass-spec =
-    tie.close
-    (tie.spec
-    Inv-loop
-    μ-loop
-    loop-holds
-    ease-again-requires
-    (λ c. omega arith)
-    (λ c. omega arith)
-    loop-again
-    same-length
-    same-length-2
-    returns)
+    tie.close (tie.spec Inv-loop μ-loop loop-holds ease-again-requires (λ c. omega arith) (λ c. omega arith) loop-again
+    (λ c. c .before .loop .inv .1 .lowered .costs .costs ∙ sym (c .before .before .before .before .before .before .pre .1 .0 .costs))
+    (λ c. c .before .loop .inv .1 .listing .room ∙ sym (c .before .before .before .before .before .before .pre .1 .1 .0 .room)) returns)

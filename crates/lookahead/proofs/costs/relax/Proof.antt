@@ -1,15 +1,13 @@
 -- `lookahead::costs::relax` meets its contract. The loop's invariant: the costs are still those of walks, none has risen, and the list says
 -- at which cost each cell's moves were followed.
--- The measure is their sum. Assumes nothing.
-use Prim.Native.Nat.{ℕ, _≤_}
-use mathlib.Core.Path.{sym, _∙_}
-use native.Mathlib.Omega.{arith}
+-- The measure is their sum.
+use Rattle.learning.proofs.Words.{ℕ, _≤_, sym, _∙_, arith}
 use Rattle.model.proofs.Moves.{free-few}
 use Rattle.floor.specs.Moves.{flat}
 use Rattle.lookahead.proofs.Lowering.{relaxed, turned}
 use Rattle.lookahead.specs.Costs.{Costs, Walked, Listing, Noted, Topmost, total, at}
-use Rattle.lookahead.proofs.costs.relax.Statement.{statement}
-use Rattle.lookahead.proofs.costs.relax.Tie as tie
+use Rattle.lookahead.proofs.costs.relax as f
+use f.Tie as tie
 
 abbrev Inv-loop : tie.InvT-loop
 Inv-loop width height floor base mark cost₀ list₀ n high cost list =
@@ -39,9 +37,6 @@ abbrev to-start : tie.At-loop Inv-loop μ-loop → tie.Start Inv-loop μ-loop
 to-start c =
     let after-shared-slice-known2 = c .before .before .before .before .before .before in
     after-shared-slice-known2 .before .before
-
-pass-requires : tie.Need-pass-requires Inv-loop μ-loop
-pass-requires c κs = let i = c .before .before .loop .inv in (to-start (c .before .before) .pre .0, (i .0, (i .3, (i .4, i .5))))
 
 loop-less : tie.Need-loop-less Inv-loop μ-loop
 loop-less c =
@@ -76,17 +71,7 @@ returns c =
     let i = at-loop .loop .inv in
     relaxed _ _ _ (a .pre .0) _ _ _ _ _ _ (i .1) (i .2) (after-pass .pass .ensures) (c .if1 .left)
 
-pub relax-spec : {M : Type 1} → statement M
+pub relax-spec : {M : Type 1} → f.Statement.statement M
 relax-spec =
-    tie.close
-    (tie.spec
-    Inv-loop
-    μ-loop
-    highest-requires
-    loop-holds
-    pass-requires
-    loop-less
-    loop-again
-    same-length
-    same-length-2
-    returns)
+    tie.close (tie.spec Inv-loop μ-loop highest-requires loop-holds (λ c κs. let i = c .before .before .loop .inv in (to-start (c .before .before) .pre .0, (i .0, (i .3, (i .4, i .5)))))
+    loop-less loop-again same-length same-length-2 returns)

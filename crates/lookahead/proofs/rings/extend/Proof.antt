@@ -1,14 +1,11 @@
 -- `lookahead::rings::extend` meets its contract: what `reach` does, at the cell that the move leads to.
--- Assumes nothing.
-use mathlib.Core.Path.{_≡_, sym, _∙_}
-use native.Mathlib.Omega.{arith}
-use borrow.Author.Needs.{needs}
+use Rattle.learning.proofs.Words.{_≡_, sym, _∙_, arith, needs}
 use Rattle.floor.proofs.Steps.{Stepped, stepped}
 use Rattle.floor.specs.Moves.{flat, stepOf}
 use Rattle.floor.specs.declared.Step.the-variants.{To}
 use Rattle.lookahead.proofs.Grow.{extended-to, extended-wall}
-use Rattle.lookahead.proofs.rings.extend.Statement.{statement}
-use Rattle.lookahead.proofs.rings.extend.Tie as tie
+use Rattle.lookahead.proofs.rings.extend as f
+use f.Tie as tie
 
 -- the call's start
 abbrev to-start : tie.After-cell → tie.Start
@@ -27,9 +24,6 @@ at-cell : (c : tie.After-cell) →
     let a = to-start c .args in
     Stepped (flat (a .width) (a .height) (a .floor .now)) (a .c) (a .m) (c .cell .given .0 .0) (c .cell .given .0 .1 .0)
 at-cell c = stepped _ (to-start c .pre .0) _ _ _ _ (to-cell c)
-
-fine-requires : tie.Need-fine-requires
-fine-requires c κs = omega (arith, at-cell (c .before) .most)
 
 -- where the fine price is known
 abbrev from-fine : tie.After-fine → tie.After-cell
@@ -70,19 +64,7 @@ returns-2 c =
     let a = after-shared-slice-known .before in
     extended-wall _ _ _ _ _ _ _ (a .pre .1 .0) (a .pre .1 .1 .0 .costs) (sym (c .before .before .step-from .ensures) ∙ c .enum-told .given .1)
 
-pub extend-spec : {M : Type 1} → statement M
+pub extend-spec : {M : Type 1} → f.Statement.statement M
 extend-spec =
-    tie.close
-    (tie.spec
-    (λ c κs. search needs)
-    (λ c. search needs)
-    fine-requires
-    add-sum
-    (λ c. search needs)
-    reach-requires
-    (λ c. search needs)
-    (λ c. search needs)
-    (λ c. search needs)
-    (λ c. search needs)
-    returns
-    returns-2)
+    tie.close (tie.spec (λ c κs. search needs) (λ c. search needs) (λ c κs. omega (arith, at-cell (c .before) .most)) add-sum (λ c. search needs) reach-requires (λ c. search needs)
+    (λ c. search needs) (λ c. search needs) (λ c. search needs) returns returns-2)

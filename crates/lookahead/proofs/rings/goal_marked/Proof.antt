@@ -1,18 +1,9 @@
 -- `lookahead::rings::goal_marked` meets its contract. The invariant: no goal passed is marked.
--- Assumes nothing.
-use Prim.Native.Nat.{ℕ, _-_, _≤_, _<_}
-use mathlib.Core.Path.{_≡_, sym, ap}
-use mathlib.Core.Bool.{false}
-use native.Mathlib.Omega.{arith}
-use borrow.Author.Needs.{needs}
-use borrow.Author.Tests.{le-leb, lt-leb}
-use borrow.Author.Count.{below-more}
-use lib.Dec.{leb}
-use lib.ListN.{length, getD}
+use Rattle.learning.proofs.Words.{ℕ, _-_, _≤_, _<_, _≡_, sym, ap, false, arith, needs, le-leb, lt-leb, below-more, leb, length, getD}
 use Rattle.model.specs.Floor.{goalsOf}
 use Rattle.model.proofs.Lists.{any-at, any-none}
-use Rattle.lookahead.proofs.rings.goal_marked.Statement.{statement}
-use Rattle.lookahead.proofs.rings.goal_marked.Tie as tie
+use Rattle.lookahead.proofs.rings.goal_marked as f
+use f.Tie as tie
 
 abbrev Inv-loop : tie.InvT-loop
 Inv-loop base mark goals n i₀ i = (k : ℕ) → k < i → leb base (getD mark (getD (goalsOf goals) k 0) 0) ≡ false
@@ -52,22 +43,8 @@ loop-again c =
     let fresh : getD (a .mark .now) (getD (goalsOf (a .goals)) (asked g .loop .i) 0) 0 < a .base = omega (arith, c .if1 .left, mark-is g) in
     below-more _ (asked g .loop .i) (asked g .loop .inv) (lt-leb _ _ fresh)
 
-returns-2 : tie.Need-returns-2 Inv-loop μ-loop
-returns-2 c = sym (any-none _ _ (λ k h. c .before .loop .inv k (omega (arith, h, c .loop-test .left, c .before .before .goals-in .ensures))))
-
-pub goal-marked-spec : {M : Type 1} → statement M
+pub goal-marked-spec : {M : Type 1} → f.Statement.statement M
 goal-marked-spec =
-    tie.close
-    (tie.spec
-    Inv-loop
-    μ-loop
-    (λ c κs. search needs)
-    (λ c k h. absurd (omega arith))
-    (λ c κs. omega (arith, c .loop-test .taken, c .before .before .goals-in .ensures))
-    (λ c. record { fits = omega (arith, has-mark c) })
-    (λ c. let g = c .before in omega (arith, has-mark g, start (asked g) .pre .1))
-    returns
-    (λ c. omega arith)
-    (λ c. omega arith)
-    loop-again
-    returns-2)
+    tie.close (tie.spec Inv-loop μ-loop (λ c κs. search needs) (λ c k h. absurd (omega arith)) (λ c κs. omega (arith, c .loop-test .taken, c .before .before .goals-in .ensures))
+    (λ c. record { fits = omega (arith, has-mark c) }) (λ c. let g = c .before in omega (arith, has-mark g, start (asked g) .pre .1)) returns (λ c. omega arith) (λ c. omega arith) loop-again
+    (λ c. sym (any-none _ _ (λ k h. c .before .loop .inv k (omega (arith, h, c .loop-test .left, c .before .before .goals-in .ensures))))))

@@ -1,10 +1,5 @@
 -- `lookahead::rings::rings` meets its contract. The loop's invariant: rings 0 to r are marked, none is empty, and no goal is in one of them.
--- Assumes nothing.
-use Prim.Native.Nat.{_+_, _-_, _≤_, _<_}
-use mathlib.Core.Path.{_≡_, sym, _∙_, subst}
-use native.Mathlib.Omega.{arith}
-use borrow.Author.Tests.{leb-true, leb-false}
-use lib.ListN.{length}
+use Rattle.learning.proofs.Words.{_+_, _-_, _≤_, _<_, _≡_, sym, _∙_, subst, arith, leb-true, leb-false, length}
 use Rattle.model.proofs.Moves.{free-few}
 use Rattle.model.specs.Floor.{goalsOf}
 use Rattle.model.proofs.Lists.{any-some, any-fails}
@@ -12,8 +7,8 @@ use Rattle.floor.specs.Moves.{flat}
 use Rattle.lookahead.proofs.Levels.{level-begin, full-begin, begin-unmet, level-segment, level-next, full-next, level-framed, next-blocked, next-framed}
 use Rattle.lookahead.specs.Marks.{State, state}
 use Rattle.lookahead.specs.Rings.{Level, Full, Unmet}
-use Rattle.lookahead.proofs.rings.rings.Statement.{statement}
-use Rattle.lookahead.proofs.rings.rings.Tie as tie
+use Rattle.lookahead.proofs.rings.rings as f
+use f.Tie as tie
 
 abbrev Inv-loop : tie.InvT-loop
 Inv-loop width height floor s goals depth base mark₀ cost₀ list₀ from₀ to₀ r₀ k₀ mark cost list from to r k =
@@ -150,29 +145,9 @@ returns-3 c =
     let l = c .before .loop in
     level-framed _ (a .pre .0) _ _ _ _ _ _ _ _ (l .inv .5) (l .inv .3) (l .inv .2) (l .inv .4) (omega arith) (a .pre .1 .1 .1 .0 .0)
 
-pub rings-spec : {M : Type 1} → statement M
+pub rings-spec : {M : Type 1} → f.Statement.statement M
 rings-spec =
-    tie.close
-    (tie.spec
-    Inv-loop
-    μ-loop
-    begin-requires
-    loop-holds
-    spread-requires
-    (λ c. omega arith)
-    add-k
-    (λ c. kept (marking (c .before .before)) .0)
-    (λ c. kept (marking (c .before .before)) .1)
-    (λ c. kept (marking (c .before .before)) .2)
-    returns
-    goal-marked-requires
-    (λ c. kept (marking (c .before .before .before .before .before)) .0)
-    (λ c. kept (marking (c .before .before .before .before .before)) .1)
-    (λ c. kept (marking (c .before .before .before .before .before)) .2)
-    returns-2
-    (λ c. omega arith)
-    loop-again
-    (λ c. lengths c .0)
-    (λ c. lengths c .1)
-    (λ c. lengths c .2)
-    returns-3)
+    tie.close (tie.spec Inv-loop μ-loop begin-requires loop-holds spread-requires (λ c. omega arith) add-k (λ c. kept (marking (c .before .before)) .0)
+    (λ c. kept (marking (c .before .before)) .1) (λ c. kept (marking (c .before .before)) .2) returns goal-marked-requires
+    (λ c. kept (marking (c .before .before .before .before .before)) .0) (λ c. kept (marking (c .before .before .before .before .before)) .1)
+    (λ c. kept (marking (c .before .before .before .before .before)) .2) returns-2 (λ c. omega arith) loop-again (λ c. lengths c .0) (λ c. lengths c .1) (λ c. lengths c .2) returns-3)

@@ -1,16 +1,11 @@
 -- `lookahead::rings::spread` meets its contract. The loop's invariant: the cells at the places from `from` to i are left.
--- Assumes nothing.
-use Prim.Native.Nat.{_-_, _≤_}
-use mathlib.Core.Path.{_≡_, refl, sym, _∙_, subst}
-use native.Mathlib.Omega.{arith}
-use borrow.Author.Needs.{needs}
-use lib.ListN.{length, getD}
+use Rattle.learning.proofs.Words.{_-_, _≤_, _≡_, refl, sym, _∙_, subst, arith, needs, length, getD}
 use Rattle.model.proofs.Moves.{free-few}
 use Rattle.floor.specs.Moves.{flat}
 use Rattle.lookahead.proofs.Grow.{swept-none, swept-more}
 use Rattle.lookahead.specs.Marks.{state, In, Swept}
-use Rattle.lookahead.proofs.rings.spread.Statement.{statement}
-use Rattle.lookahead.proofs.rings.spread.Tie as tie
+use Rattle.lookahead.proofs.rings.spread as f
+use f.Tie as tie
 
 abbrev Inv-loop : tie.InvT-loop
 Inv-loop width height floor base mark₀ cost₀ list₀ from to k end₀ i₀ mark cost list end i =
@@ -35,9 +30,6 @@ marked c = let l = to-loop c .loop in rw (cell-eq c) at (to-start (to-loop c) .p
 
 inside : (c : tie.After-wide16 Inv-loop μ-loop) → let a = to-start (to-loop c) .args in In (a .base) (a .mark .now) (c .wide16 .result)
 inside c = omega (arith, marked c, to-start (to-loop c) .pre .1 .1 .ring .first)
-
-loop-holds : tie.Need-loop-holds Inv-loop μ-loop
-loop-holds c = let a = c .before .before .before .before in (a .pre .1 .1 .order, omega arith, swept-none _ _ _ _ _ (a .pre .1 .0))
 
 slice-read-wide16 : tie.Need-slice-read-wide16 Inv-loop μ-loop
 slice-read-wide16 c =
@@ -88,26 +80,10 @@ returns c =
     let to = state (l .mark) (l .cost) (l .list) (l .end) in
     subst (λ z. Swept (flat (a .width) (a .height) (a .floor .now)) (a .base) (a .k) (a .from) z from to) e (l .inv .2)
 
-pub spread-spec : {M : Type 1} → statement M
+pub spread-spec : {M : Type 1} → f.Statement.statement M
 spread-spec =
-    tie.close
-    (tie.spec
-    Inv-loop
-    μ-loop
-    loop-holds
-    (λ c. search needs)
-    slice-read-wide16
-    (λ c κs. tt)
-    (λ c. search needs)
-    slice-read-w
-    visit-requires
+    tie.close (tie.spec Inv-loop μ-loop (λ c. let a = c .before .before .before .before in (a .pre .1 .1 .order, omega arith, swept-none _ _ _ _ _ (a .pre .1 .0))) (λ c. search needs)
+    slice-read-wide16 (λ c κs. tt) (λ c. search needs) slice-read-w visit-requires (λ c. omega (arith, short (c .before .before .before .before .before .before)))
     (λ c. omega (arith, short (c .before .before .before .before .before .before)))
-    (λ c. omega (arith, short (c .before .before .before .before .before .before)))
-    (λ c. let left = c .before .before .before .before .before .before in omega (arith, short left, left .visit .ensures .grew .room .sizes .cells))
-    (λ c. omega arith)
-    (λ c. omega arith)
-    loop-again
-    (λ c. kept c .0)
-    (λ c. kept c .1)
-    (λ c. kept c .2)
-    returns)
+    (λ c. let left = c .before .before .before .before .before .before in omega (arith, short left, left .visit .ensures .grew .room .sizes .cells)) (λ c. omega arith) (λ c. omega arith)
+    loop-again (λ c. kept c .0) (λ c. kept c .1) (λ c. kept c .2) returns)

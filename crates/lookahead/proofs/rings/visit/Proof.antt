@@ -1,14 +1,10 @@
 -- `lookahead::rings::visit` meets its contract. The loop's invariant: the cell is left by each of the first m moves.
--- Assumes nothing.
-use Prim.Native.Nat.{_-_, _≤_}
-use mathlib.Core.Path.{_≡_, sym, _∙_, subst}
-use native.Mathlib.Omega.{arith}
-use lib.ListN.{length}
+use Rattle.learning.proofs.Words.{_-_, _≤_, _≡_, sym, _∙_, subst, arith, length}
 use Rattle.floor.specs.Moves.{flat}
 use Rattle.lookahead.proofs.Grow.{left-none, left-more}
 use Rattle.lookahead.specs.Marks.{state, Left}
-use Rattle.lookahead.proofs.rings.visit.Statement.{statement}
-use Rattle.lookahead.proofs.rings.visit.Tie as tie
+use Rattle.lookahead.proofs.rings.visit as f
+use f.Tie as tie
 
 abbrev Inv-loop : tie.InvT-loop
 Inv-loop width height floor base mark₀ cost₀ list₀ n c k w spot end₀ m₀ mark cost list end m =
@@ -16,12 +12,6 @@ Inv-loop width height floor base mark₀ cost₀ list₀ n c k w spot end₀ m�
 
 abbrev μ-loop : tie.MeasureT-loop
 μ-loop width height floor base mark₀ cost₀ list₀ n c k w spot end₀ m₀ mark cost list end m = 8 - m
-
-spot-of-requires : tie.Need-spot-of-requires Inv-loop μ-loop
-spot-of-requires c κs = let a = c .before .before .before .before in (a .pre .0, a .pre .1 .1 .free)
-
-loop-holds : tie.Need-loop-holds Inv-loop μ-loop
-loop-holds c = let a = c .before .before .before .before .before in (omega arith, left-none _ _ _ _ _ _ (a .pre .1 .0) (a .pre .1 .1 .costs))
 
 abbrev start : tie.At-loop Inv-loop μ-loop → tie.Start Inv-loop μ-loop
 start c = c .before .before .before .before .before .before
@@ -60,19 +50,8 @@ returns c =
     let to = state (l .mark) (l .cost) (l .list) (l .end) in
     subst (λ z. Left (flat (a .width) (a .height) (a .floor .now)) (a .base) (a .k) (a .c) z (a .w) from to) e (l .inv .1)
 
-pub visit-spec : {M : Type 1} → statement M
+pub visit-spec : {M : Type 1} → f.Statement.statement M
 visit-spec =
-    tie.close
-    (tie.spec
-    Inv-loop
-    μ-loop
-    spot-of-requires
-    loop-holds
-    extend-requires
-    (λ c. omega arith)
-    (λ c. omega arith)
-    loop-again
-    (λ c. kept c .0)
-    (λ c. kept c .1)
-    (λ c. kept c .2)
-    returns)
+    tie.close (tie.spec Inv-loop μ-loop (λ c κs. let a = c .before .before .before .before in (a .pre .0, a .pre .1 .1 .free))
+    (λ c. let a = c .before .before .before .before .before in (omega arith, left-none _ _ _ _ _ _ (a .pre .1 .0) (a .pre .1 .1 .costs))) extend-requires (λ c. omega arith)
+    (λ c. omega arith) loop-again (λ c. kept c .0) (λ c. kept c .1) (λ c. kept c .2) returns)

@@ -1,29 +1,17 @@
 -- `lookahead::route::back` meets its contract. The loop's invariant: the first k moves, those to the lowest cells, lead to no cell before x.
--- Assumes nothing.
-use Prim.Native.Nat.{_-_}
-use mathlib.Core.Path.{subst}
-use native.Mathlib.Omega.{arith}
+use Rattle.learning.proofs.Words.{_-_, subst, arith}
 use Rattle.floor.specs.Moves.{flat}
 use Rattle.lookahead.specs.Way.{risingMove, Led, Unled}
 use Rattle.lookahead.proofs.Rising.{rising-lt}
 use Rattle.lookahead.proofs.Linking.{unled-none, unled-more, led-prior, unled-all}
-use Rattle.lookahead.proofs.route.back.Statement.{statement}
-use Rattle.lookahead.proofs.route.back.Tie as tie
+use Rattle.lookahead.proofs.route.back as f
+use f.Tie as tie
 
 abbrev Inv-loop : tie.InvT-loop
 Inv-loop width height floor base mark cost x spot k₀ k = Unled (flat width height floor) base mark cost x k
 
 abbrev μ-loop : tie.MeasureT-loop
 μ-loop width height floor base mark cost x spot k₀ k = 8 - k
-
-spot-of-requires : tie.Need-spot-of-requires Inv-loop μ-loop
-spot-of-requires c κs = let a = c .before .before .before in (a .pre .0, a .pre .1 .0 .free (a .args .x) (a .pre .1 .1 .0))
-
-loop-holds : tie.Need-loop-holds Inv-loop μ-loop
-loop-holds c = unled-none _ (c .before .before .before .before .pre .0) _ _ _ _
-
-rising-requires : tie.Need-rising-requires Inv-loop μ-loop
-rising-requires c κs = omega arith
 
 led-requires : tie.Need-led-requires Inv-loop μ-loop
 led-requires c κs =
@@ -48,12 +36,6 @@ returns c =
     let at-loop = l .before .before .before in
     led-prior _ (start l .pre .0) _ _ _ _ (at-loop .loop .k) (omega arith) (at-loop .loop .inv) _ (leads l) (c .if1 .taken)
 
-add-k : tie.Need-add-k Inv-loop μ-loop
-add-k c = omega arith
-
-loop-less : tie.Need-loop-less Inv-loop μ-loop
-loop-less c = omega arith
-
 loop-again : tie.Need-loop-again Inv-loop μ-loop
 loop-again c =
     let l = c .before .before in
@@ -66,18 +48,7 @@ returns-2 c =
     let at-loop = c .before in
     absurd (unled-all _ (p .0) _ _ _ _ (at-loop .loop .k) (omega arith) (at-loop .loop .inv) (p .1 .1 .1 .0) (p .1 .1 .1 .1))
 
-pub back-spec : {M : Type 1} → statement M
+pub back-spec : {M : Type 1} → f.Statement.statement M
 back-spec =
-    tie.close
-    (tie.spec
-    Inv-loop
-    μ-loop
-    spot-of-requires
-    loop-holds
-    rising-requires
-    led-requires
-    returns
-    add-k
-    loop-less
-    loop-again
-    returns-2)
+    tie.close (tie.spec Inv-loop μ-loop (λ c κs. let a = c .before .before .before in (a .pre .0, a .pre .1 .0 .free (a .args .x) (a .pre .1 .1 .0)))
+    (λ c. unled-none _ (c .before .before .before .before .pre .0) _ _ _ _) (λ c κs. omega arith) led-requires returns (λ c. omega arith) (λ c. omega arith) loop-again returns-2)

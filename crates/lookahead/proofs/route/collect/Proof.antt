@@ -1,12 +1,10 @@
 -- `lookahead::route::collect` meets its contract. The loop's invariant: the moves from the cell on stand at the end. The measure is the cell's cost.
--- Assumes nothing.
-use mathlib.Core.Path.{sym, _∙_}
-use native.Mathlib.Omega.{arith}
+use Rattle.learning.proofs.Words.{sym, _∙_, arith}
 use Rattle.lookahead.specs.Costs.{at}
 use Rattle.lookahead.specs.Way.{Collecting}
 use Rattle.lookahead.proofs.Tracing.{costs-of, in-of, some-prior, prior-cheap, collects-none, collects-more, collected}
-use Rattle.lookahead.proofs.route.collect.Statement.{statement}
-use Rattle.lookahead.proofs.route.collect.Tie as tie
+use Rattle.lookahead.proofs.route.collect as f
+use f.Tie as tie
 
 abbrev Inv-loop : tie.InvT-loop
 Inv-loop job floor s base mark cost x way₀ cell₀ k₀ way cell k =
@@ -41,12 +39,6 @@ sub-k c =
     let l = c .before .before .loop in
     collects-more _ _ _ (p .0) _ _ _ (p .1 .0) (l .cell) (l .inv .near) (c .before .loop-test .taken) _ (c .back .ensures) _ (l .k) (l .way) (l .inv) .0
 
-cast-way : tie.Need-cast-way Inv-loop μ-loop
-cast-way c = omega (arith, c .before .back .ensures .from .one)
-
-slice-write-way : tie.Need-slice-write-way Inv-loop μ-loop
-slice-write-way c = let l = c .before .before .before .loop .inv in omega (arith, l .size, l .fits)
-
 loop-less : tie.Need-loop-less Inv-loop μ-loop
 loop-less c =
     let a = start (c .before .before .before) in
@@ -59,27 +51,14 @@ loop-again c =
     let l = c .before .before .before .loop in
     collects-more _ _ _ (a .pre .0) _ _ _ (a .pre .1 .0) _ (l .inv .near) (c .before .before .loop-test .taken) _ (c .before .back .ensures) _ _ _ (l .inv) .1
 
-same-length : tie.Need-same-length Inv-loop μ-loop
-same-length c = c .before .loop .inv .size ∙ sym (start (c .before) .pre .1 .1 .1)
-
 returns : tie.Need-returns Inv-loop μ-loop
 returns c =
     let a = start (c .before) in
     let l = c .before .loop in
     collected _ _ _ (a .pre .0) _ _ _ (a .pre .1 .0) _ _ _ _ (c .loop-test .left) (l .inv)
 
-pub collect-spec : {M : Type 1} → statement M
+pub collect-spec : {M : Type 1} → f.Statement.statement M
 collect-spec =
-    tie.close
-    (tie.spec
-    Inv-loop
-    μ-loop
-    loop-holds
-    back-requires
-    sub-k
-    cast-way
-    slice-write-way
-    loop-less
-    loop-again
-    same-length
+    tie.close (tie.spec Inv-loop μ-loop loop-holds back-requires sub-k (λ c. omega (arith, c .before .back .ensures .from .one))
+    (λ c. let l = c .before .before .before .loop .inv in omega (arith, l .size, l .fits)) loop-less loop-again (λ c. c .before .loop .inv .size ∙ sym (start (c .before) .pre .1 .1 .1))
     returns)

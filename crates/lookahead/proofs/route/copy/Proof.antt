@@ -1,13 +1,8 @@
 -- `lookahead::route::copy` meets its contract. The loop's invariant: the first i moves stand at the front.
--- Assumes nothing.
-use Prim.Native.Nat.{_-_, _≤_}
-use mathlib.Core.Path.{_≡_, refl, subst}
-use mathlib.Core.List.{_++_}
-use lib.ListN.{length, take, drop}
-use native.Mathlib.Omega.{arith}
+use Rattle.learning.proofs.Words.{_-_, _≤_, _≡_, refl, subst, _++_, length, take, drop, arith}
 use Rattle.model.proofs.Copying.{copied-room, copied-more}
-use Rattle.lookahead.proofs.route.copy.Statement.{statement}
-use Rattle.lookahead.proofs.route.copy.Tie as tie
+use Rattle.lookahead.proofs.route.copy as f
+use f.Tie as tie
 
 abbrev Inv-loop : tie.InvT-loop
 Inv-loop way k n out₀ i₀ out i =
@@ -16,24 +11,12 @@ Inv-loop way k n out₀ i₀ out i =
 abbrev μ-loop : tie.MeasureT-loop
 μ-loop way k n out₀ i₀ out i = n - i
 
-loop-holds : tie.Need-loop-holds Inv-loop μ-loop
-loop-holds c = (omega arith, refl)
-
-add-out : tie.Need-add-out Inv-loop μ-loop
-add-out c = omega (arith, c .before .before .pre)
-
-shared-slice-read-out : tie.Need-shared-slice-read-out Inv-loop μ-loop
-shared-slice-read-out c = omega (arith, c .before .before .before .pre)
-
 -- what is copied leaves the list's length
 room : (c : tie.At-loop Inv-loop μ-loop) → length (c .loop .out) ≡ length (c .before .args .out .now)
 room c =
     let a = c .before in
     let l = c .loop in
     copied-room (a .args .way .now) (a .args .k) (a .args .out .now) (l .out) (l .i) (a .args .n) (a .pre .0) (l .inv .0) (a .pre .2) (l .inv .1)
-
-slice-write-out : tie.Need-slice-write-out Inv-loop μ-loop
-slice-write-out c = omega (arith, room (c .before .before), c .before .before .before .pre .2)
 
 loop-again : tie.Need-loop-again Inv-loop μ-loop
 loop-again c =
@@ -48,18 +31,7 @@ returns c =
     let e : l .i ≡ a .n = omega arith in
     subst (λ i. l .out ≡ take i (drop (a .k) (a .way .now)) ++ drop i (a .out .now)) e (l .inv .1)
 
-pub copy-spec : {M : Type 1} → statement M
+pub copy-spec : {M : Type 1} → f.Statement.statement M
 copy-spec =
-    tie.close
-    (tie.spec
-    Inv-loop
-    μ-loop
-    loop-holds
-    add-out
-    shared-slice-read-out
-    slice-write-out
-    (λ c. omega arith)
-    (λ c. omega arith)
-    loop-again
-    (λ c. room (c .before))
-    returns)
+    tie.close (tie.spec Inv-loop μ-loop (λ c. (omega arith, refl)) (λ c. omega (arith, c .before .before .pre)) (λ c. omega (arith, c .before .before .before .pre))
+    (λ c. omega (arith, room (c .before .before), c .before .before .before .pre .2)) (λ c. omega arith) (λ c. omega arith) loop-again (λ c. room (c .before)) returns)

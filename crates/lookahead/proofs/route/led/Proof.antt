@@ -1,16 +1,12 @@
 -- `lookahead::route::led` meets its contract: each test that fails leads nowhere.
--- Assumes nothing.
-use Prim.Native.Nat.{_<_}
-use mathlib.Core.Path.{_≡_, refl, sym, _∙_}
-use native.Mathlib.Omega.{arith}
-use borrow.Author.Needs.{needs}
+use Rattle.learning.proofs.Words.{_<_, _≡_, refl, sym, _∙_, arith, needs}
 use Rattle.model.proofs.Moves.{free-few}
 use Rattle.floor.proofs.Steps.{Stepped, stepped}
 use Rattle.floor.specs.Moves.{flat, stepOf}
 use Rattle.floor.specs.declared.Step.the-variants.{To}
 use Rattle.lookahead.proofs.Linking.{led-out, led-wall, led-slack, led-new}
-use Rattle.lookahead.proofs.route.led.Statement.{statement}
-use Rattle.lookahead.proofs.route.led.Tie as tie
+use Rattle.lookahead.proofs.route.led as f
+use f.Tie as tie
 
 few : (c : tie.Start) → c .args .x < 4096
 few c = free-few _ _ (c .pre .0) (c .pre .1 .1 .0 .placed .free)
@@ -31,9 +27,6 @@ at-cell : (c : tie.After-cell) →
     Stepped (flat (a .width) (a .height) (a .floor .now)) (a .x) (a .j) (c .cell .given .0 .0) (c .cell .given .0 .1 .0)
 at-cell c = stepped _ (to-start c .pre .0) _ _ _ _ (to-cell c)
 
-mul-if1 : tie.Need-mul-if1
-mul-if1 c = omega (arith, at-cell (c .before) .few)
-
 shared-slice-read-if1 : tie.Need-shared-slice-read-if1
 shared-slice-read-if1 c =
     let start = to-start (c .before .before) in
@@ -42,16 +35,10 @@ shared-slice-read-if1 c =
 returns : tie.Need-returns
 returns c = led-out _ (to-start (c .before .before .before) .pre .0) _ _ _ _ _ _ refl _ _ (to-cell (c .before .before .before)) (c .if1 .taken)
 
-mul-sum : tie.Need-mul-sum
-mul-sum c = omega (arith, at-cell (c .before .before .before) .few)
-
 shared-slice-read-sum : tie.Need-shared-slice-read-sum
 shared-slice-read-sum c =
     let start = to-start (c .before .before .before .before) in
     omega (arith, at-cell (c .before .before .before .before) .few, start .pre .1 .0 .costs)
-
-fine-requires : tie.Need-fine-requires
-fine-requires c κs = omega (arith, at-cell (c .before .before .before .before) .most)
 
 -- where the fine price is known
 abbrev from-fine : tie.After-fine → tie.After-cell
@@ -67,9 +54,6 @@ add-sum c =
       at-cell after-cell .most,
       c .fine .ensures,
     )
-
-mul-if2 : tie.Need-mul-if2
-mul-if2 c = omega (arith, few (to-start (from-fine c)))
 
 shared-slice-read-if2 : tie.Need-shared-slice-read-if2
 shared-slice-read-if2 c =
@@ -95,23 +79,8 @@ returns-4 c =
     let start = c .before .before .before .before .before .before in
     led-wall _ (start .pre .0) _ _ _ _ _ _ refl (sym (c .before .before .step-from .ensures) ∙ c .enum-told .given .1)
 
-pub led-spec : {M : Type 1} → statement M
+pub led-spec : {M : Type 1} → f.Statement.statement M
 led-spec =
-    tie.close
-    (tie.spec
-    (λ c κs. search needs)
-    (λ c. search needs)
-    mul-if1
-    shared-slice-read-if1
-    returns
-    mul-sum
-    shared-slice-read-sum
-    fine-requires
-    add-sum
-    mul-if2
-    shared-slice-read-if2
-    returns-2
-    (λ c. search needs)
-    (λ c. search needs)
-    returns-3
-    returns-4)
+    tie.close (tie.spec (λ c κs. search needs) (λ c. search needs) (λ c. omega (arith, at-cell (c .before) .few)) shared-slice-read-if1 returns
+    (λ c. omega (arith, at-cell (c .before .before .before) .few)) shared-slice-read-sum (λ c κs. omega (arith, at-cell (c .before .before .before .before) .most)) add-sum
+    (λ c. omega (arith, few (to-start (from-fine c)))) shared-slice-read-if2 returns-2 (λ c. search needs) (λ c. search needs) returns-3 returns-4)

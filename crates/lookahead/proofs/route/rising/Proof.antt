@@ -1,12 +1,8 @@
 -- `lookahead::route::rising` meets its contract: past the other seven it is the last.
--- Assumes nothing.
-use Prim.Native.Nat.{ℕ, _≤_, _<_}
-use mathlib.Core.Path.{_≡_, ap}
-use native.Mathlib.Omega.{arith}
-use borrow.Author.Needs.{needs}
+use Rattle.learning.proofs.Words.{ℕ, _≤_, _<_, _≡_, ap, arith, needs}
 use Rattle.lookahead.specs.Way.{risingMove}
-use Rattle.lookahead.proofs.route.rising.Statement.{statement}
-use Rattle.lookahead.proofs.route.rising.Tie as tie
+use Rattle.lookahead.proofs.route.rising as f
+use f.Tie as tie
 
 -- in two parts, as there are seven of them
 past : (k : ℕ) → (k ≡ 0 → ⊥) → (k ≡ 1 → ⊥) → (k ≡ 2 → ⊥) → (k ≡ 3 → ⊥) → 4 ≤ k
@@ -22,15 +18,5 @@ returns-8 c =
     let k = c .before .args .k in
     ap risingMove (last k (c .before .pre) (past k (low .0 .0 .0 .1) (low .0 .0 .1) (low .0 .1) (low .1)) (high .0 .0 .1) (high .0 .1) (high .1))
 
-pub rising-spec : {M : Type 1} → statement M
-rising-spec =
-    tie.close
-    (tie.spec
-    (λ c. search needs)
-    (λ c. search needs)
-    (λ c. search needs)
-    (λ c. search needs)
-    (λ c. search needs)
-    (λ c. search needs)
-    (λ c. search needs)
-    returns-8)
+pub rising-spec : {M : Type 1} → f.Statement.statement M
+rising-spec = tie.close (tie.spec (λ c. search needs) (λ c. search needs) (λ c. search needs) (λ c. search needs) (λ c. search needs) (λ c. search needs) (λ c. search needs) returns-8)

@@ -1,13 +1,9 @@
 -- `notation::bytes::put_word` meets its contract: a half after a half.
--- Assumes nothing.
-use Prim.Native.Nat.{_/_}
-use mathlib.Core.Path.{refl}
+use Rattle.learning.proofs.Words.{_/_, refl, needs, arith}
 use Rattle.model.specs.TableFile.{half}
 use Rattle.notation.proofs.Puts.{put-then}
-use borrow.Author.Needs.{needs}
-use native.Mathlib.Omega.{arith}
-use Rattle.notation.proofs.bytes.put_word.Statement.{statement}
-use Rattle.notation.proofs.bytes.put_word.Tie as tie
+use Rattle.notation.proofs.bytes.put_word as f
+use f.Tie as tie
 
 returns : tie.Need-returns
 returns c =
@@ -15,6 +11,5 @@ returns c =
     let a = high .before .before .before .args in
     put-then (a .at) _ (half (a .n / 65536)) (half (a .n)) _ _ _ (high .put-half .ensures) (c .before .before .put-half2 .ensures) refl (omega arith)
 
-pub put-word-spec : {M : Type 1} → statement M
-put-word-spec =
-    tie.close (tie.spec (λ c κs. search needs) (λ c. search needs) (λ c κs. search needs) (λ c. search needs) returns)
+pub put-word-spec : {M : Type 1} → f.Statement.statement M
+put-word-spec = tie.close (tie.spec (λ c κs. search needs) (λ c. search needs) (λ c κs. search needs) (λ c. search needs) returns)

@@ -1,14 +1,8 @@
 -- `notation::digits::read` meets its contract. The loop's invariant: `Reading`, what is left to read makes the same run.
--- Assumes nothing.
-use Prim.Native.Nat.{_-_}
-use mathlib.Core.Path.{sym, _∙_}
-use borrow.Author.Needs.{needs}
-use borrow.Author.Tests.{not-true, not-false}
-use native.Mathlib.Omega.{arith}
-use lib.ListN.{length}
+use Rattle.learning.proofs.Words.{_-_, sym, _∙_, needs, not-true, not-false, arith, length}
 use Rattle.notation.proofs.Runs.{Reading, reading, reading-end, reading-stop, reading-more}
-use Rattle.notation.proofs.digits.read.Statement.{statement}
-use Rattle.notation.proofs.digits.read.Tie as tie
+use Rattle.notation.proofs.digits.read as f
+use f.Tie as tie
 
 abbrev Inv-loop : tie.InvT-loop
 Inv-loop text at most value₀ i₀ value i = Reading most text at value i
@@ -31,18 +25,7 @@ loop-again c =
     let b = c .before .before .is-digit in
     reading-more _ _ _ (c .before .before .before .before .before .loop .inv) (sym (b .ensures) ∙ not-false (b .result) (c .before .if1 .left)) _ (c .with-digit .ensures)
 
-pub read-spec : {M : Type 1} → statement M
+pub read-spec : {M : Type 1} → f.Statement.statement M
 read-spec =
-    tie.close
-    (tie.spec
-    Inv-loop
-    μ-loop
-    (λ c. reading _ _ _)
-    (λ c. omega arith)
-    (λ c κs. search needs)
-    returns
-    with-digit-requires
-    (λ c. omega arith)
-    (λ c. omega arith)
-    loop-again
+    tie.close (tie.spec Inv-loop μ-loop (λ c. reading _ _ _) (λ c. omega arith) (λ c κs. search needs) returns with-digit-requires (λ c. omega arith) (λ c. omega arith) loop-again
     (λ c. reading-end _ _ _ (c .before .loop .inv) (omega arith)))

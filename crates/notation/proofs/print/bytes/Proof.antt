@@ -1,13 +1,8 @@
 -- `notation::print::bytes` meets its contract. The loop's invariant: the first i bytes are written, and nothing else has changed.
--- Assumes nothing.
-use Prim.Native.Nat.{_+_, _-_, _≤_}
-use mathlib.Core.Path.{_≡_, refl, _∙_}
-use native.Mathlib.Omega.{arith}
-use lib.ListN.{length, getD, take, length-set}
-use lib.Seq.{sets}
+use Rattle.learning.proofs.Words.{_+_, _-_, _≤_, _≡_, refl, _∙_, arith, length, getD, take, length-set, sets}
 use Rattle.notation.proofs.Decimals.{bytes-more, bytes-all}
-use Rattle.notation.proofs.print.bytes.Statement.{statement}
-use Rattle.notation.proofs.print.bytes.Tie as tie
+use Rattle.notation.proofs.print.bytes as f
+use f.Tie as tie
 
 abbrev Inv-loop : tie.InvT-loop
 Inv-loop out₀ at s i₀ out i = (i ≤ length s) × (length out ≡ length out₀) × (out ≡ sets out₀ at (take i s))
@@ -27,19 +22,7 @@ returns c =
     let l = c .before .loop in
     bytes-all (a .out .now) (a .s .now) (l .out) (a .at) (l .i) (omega arith) (omega arith) (l .inv .2)
 
-pub bytes-spec : {M : Type 1} → statement M
+pub bytes-spec : {M : Type 1} → f.Statement.statement M
 bytes-spec =
-    tie.close
-    (tie.spec
-    Inv-loop
-    μ-loop
-    (λ c. (omega arith, refl, refl))
-    (λ c. omega arith)
-    (λ c. omega arith)
-    (λ c. omega arith)
-    (λ c. omega arith)
-    (λ c. omega arith)
-    loop-again
-    (λ c. omega arith)
-    (λ c. omega arith)
-    returns)
+    tie.close (tie.spec Inv-loop μ-loop (λ c. (omega arith, refl, refl)) (λ c. omega arith) (λ c. omega arith) (λ c. omega arith) (λ c. omega arith) (λ c. omega arith) loop-again
+    (λ c. omega arith) (λ c. omega arith) returns)

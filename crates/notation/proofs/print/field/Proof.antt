@@ -1,18 +1,9 @@
 -- `notation::print::field` meets its contract: a space, and the number after it.
--- Assumes nothing.
-use mathlib.Core.Path.{ap, _∙_}
-use native.Mathlib.Numerals.{add-one}
-use native.Mathlib.Omega.{arith}
-use lib.ListN.{length-set, set}
-use lib.Seq.{sets}
+use Rattle.learning.proofs.Words.{ap, _∙_, add-one, arith, length-set, set, sets, needs}
 use Rattle.model.specs.Line.{decimal}
 use Rattle.notation.proofs.Decimals.{digits-few}
-use borrow.Author.Needs.{needs}
-use Rattle.notation.proofs.print.field.Statement.{statement}
-use Rattle.notation.proofs.print.field.Tie as tie
-
-decimal-requires : tie.Need-decimal-requires
-decimal-requires c κs = let a = c .before .before in simp length-set (omega (arith, a .pre, digits-few (a .args .n)))
+use Rattle.notation.proofs.print.field as f
+use f.Tie as tie
 
 same-length : tie.Need-same-length
 same-length c =
@@ -27,5 +18,6 @@ returns c =
       omega (arith, e .next, digits-few (a .n)),
     )
 
-pub field-spec : {M : Type 1} → statement M
-field-spec = tie.close (tie.spec (λ c. search needs) (λ c. search needs) decimal-requires same-length returns)
+pub field-spec : {M : Type 1} → f.Statement.statement M
+field-spec =
+    tie.close (tie.spec (λ c. search needs) (λ c. search needs) (λ c κs. let a = c .before .before in simp length-set (omega (arith, a .pre, digits-few (a .args .n)))) same-length returns)

@@ -1,12 +1,9 @@
 -- `numbers::print::fields64` meets its contract. The loop's invariant: `Fields`, the first i entries are printed.
--- The same loop as for every width, by the laws of `Fields`. Assumes nothing.
-use Prim.Native.Nat.{_-_}
-use native.Mathlib.Omega.{arith}
-use lib.ListN.{length}
-use borrow.Author.Needs.{needs}
+-- The same loop as for every width, by the laws of `Fields`.
+use Rattle.learning.proofs.Words.{_-_, arith, length, needs}
 use Rattle.numbers.proofs.Fields.{Fields, fields, fields-more, fields-all}
-use Rattle.numbers.proofs.print.fields64.Statement.{statement}
-use Rattle.numbers.proofs.print.fields64.Tie as tie
+use Rattle.numbers.proofs.print.fields64 as f
+use f.Tie as tie
 
 abbrev Inv-loop : tie.InvT-loop
 Inv-loop out₀ at list end₀ i₀ out end i = Fields out₀ at list out end i
@@ -21,19 +18,7 @@ loop-again c =
     let turn = c .before .before .before .before .before .before in
     fields-more _ _ _ (turn .before .loop .inv) (w .result) (omega arith) (w .ensures) (f .kept .0) (f .ensures)
 
-pub fields64-spec : {M : Type 1} → statement M
+pub fields64-spec : {M : Type 1} → f.Statement.statement M
 fields64-spec =
-    tie.close
-    (tie.spec
-    Inv-loop
-    μ-loop
-    (λ c. fields _ _ _)
-    (λ c. omega arith)
-    (λ c. omega arith)
-    (λ c κs. search needs)
-    (λ c κs. omega arith)
-    (λ c. omega arith)
-    (λ c. omega arith)
-    loop-again
-    (λ c. omega arith)
-    (λ c. fields-all _ _ _ (c .before .loop .inv) (omega arith)))
+    tie.close (tie.spec Inv-loop μ-loop (λ c. fields _ _ _) (λ c. omega arith) (λ c. omega arith) (λ c κs. search needs) (λ c κs. omega arith) (λ c. omega arith) (λ c. omega arith)
+    loop-again (λ c. omega arith) (λ c. fields-all _ _ _ (c .before .loop .inv) (omega arith)))

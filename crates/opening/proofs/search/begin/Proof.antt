@@ -1,15 +1,10 @@
 -- `opening::search::begin` meets its contract. The invariant is `Lining`: the first i goals have been entered.
--- Assumes nothing.
-use Prim.Native.Nat.{ℕ, _-_, _<_}
-use mathlib.Core.Path.{_≡_, ap, ap₂, _∙_}
-use native.Mathlib.Omega.{arith}
-use lib.ListN.{length, getD, set}
-use borrow.Author.Needs.{needs}
+use Rattle.learning.proofs.Words.{ℕ, _-_, _<_, _≡_, ap, ap₂, _∙_, arith, length, getD, set, needs}
 use Rattle.model.specs.Floor.{goalsOf}
 use Rattle.opening.proofs.Chain.{lined-long, Lining, lining-one, lining-more}
 use Rattle.opening.specs.Chain.{lined}
-use Rattle.opening.proofs.search.begin.Statement.{statement}
-use Rattle.opening.proofs.search.begin.Tie as tie
+use Rattle.opening.proofs.search.begin as f
+use f.Tie as tie
 
 abbrev Inv-loop : tie.InvT-loop
 Inv-loop goals list₀ n last₀ i₀ list last i = Lining list₀ (goalsOf goals) list last i
@@ -60,22 +55,9 @@ returns c =
     let all : l .loop .i ≡ length (goalsOf (begun l .args .goals)) = omega (arith, l .loop .inv .upto, c .loop-test .left, l .before .before .before .goals-in .ensures) in
     listed l ∙ ap (lined _ _) all
 
-pub begin-spec : {M : Type 1} → statement M
+pub begin-spec : {M : Type 1} → f.Statement.statement M
 begin-spec =
-    tie.close
-    (tie.spec
-    Inv-loop
-    μ-loop
-    (λ c κs. search needs)
-    (λ c κs. c .before .before .pre .0 .one)
-    (λ c κs. search needs)
+    tie.close (tie.spec Inv-loop μ-loop (λ c κs. search needs) (λ c κs. c .before .before .pre .0 .one) (λ c κs. search needs)
     (λ c. let s = start c in record { fits = omega (arith, on s _ 0 (s .pre .0 .one) (c .before .goal-at .ensures), s .pre .1) })
-    (λ c. let s = start c in on s _ 0 (s .pre .0 .one) (c .before .goal-at .ensures))
-    (λ c. lining-one _ _ (start c .pre .0 .one) (c .before .goal-at .ensures))
-    (λ c κs. more c)
-    enter-requires
-    (λ c. search needs)
-    (λ c. omega arith)
-    loop-again
-    (λ c. long (c .before))
-    returns)
+    (λ c. let s = start c in on s _ 0 (s .pre .0 .one) (c .before .goal-at .ensures)) (λ c. lining-one _ _ (start c .pre .0 .one) (c .before .goal-at .ensures)) (λ c κs. more c)
+    enter-requires (λ c. search needs) (λ c. omega arith) loop-again (λ c. long (c .before)) returns)

@@ -1,13 +1,9 @@
 -- `opening::search::catch_up` meets its contract. The invariant: the places before k are caught up, the others as they were.
--- Assumes nothing.
-use Prim.Native.Nat.{_-_, _<_}
+use Rattle.learning.proofs.Words.{_-_, _<_, needs, length, arith}
 use Rattle.opening.proofs.Fill.{Changed, changed-none, changed-more, changed-all}
 use Rattle.opening.specs.Chain.{caught}
-use borrow.Author.Needs.{needs}
-use lib.ListN.{length}
-use native.Mathlib.Omega.{arith}
-use Rattle.opening.proofs.search.catch_up.Statement.{statement}
-use Rattle.opening.proofs.search.catch_up.Tie as tie
+use Rattle.opening.proofs.search.catch_up as f
+use f.Tie as tie
 
 abbrev Inv-loop : tie.InvT-loop
 Inv-loop places₀ next k₀ places k = Changed (caught next) places₀ k places
@@ -19,23 +15,9 @@ abbrev μ-loop : tie.MeasureT-loop
 on : (c : tie.In-loop Inv-loop μ-loop) → c .before .loop .k < length (c .before .loop .places)
 on c = omega (arith, c .loop-test .taken, c .before .loop .inv .long)
 
-loop-again : tie.Need-loop-again Inv-loop μ-loop
-loop-again c = changed-more _ _ _ _ _ (c .before .before .before .loop .inv) (omega arith) (c .caught .ensures)
-
-pub catch-up-spec : {M : Type 1} → statement M
+pub catch-up-spec : {M : Type 1} → f.Statement.statement M
 catch-up-spec =
-    tie.close
-    (tie.spec
-    Inv-loop
-    μ-loop
-    (λ c. changed-none _ _)
-    (λ c. let h = on c in search needs)
-    (λ c. on (c .before))
-    (λ c κs. search needs)
-    (λ c. let h = on (c .before .before) in search needs)
-    (λ c. on (c .before .before))
-    (λ c. let h = on (c .before .before) in search needs)
-    (λ c. omega (arith, on (c .before .before)))
-    loop-again
-    (λ c. c .before .loop .inv .long)
+    tie.close (tie.spec Inv-loop μ-loop (λ c. changed-none _ _) (λ c. let h = on c in search needs) (λ c. on (c .before)) (λ c κs. search needs)
+    (λ c. let h = on (c .before .before) in search needs) (λ c. on (c .before .before)) (λ c. let h = on (c .before .before) in search needs) (λ c. omega (arith, on (c .before .before)))
+    (λ c. changed-more _ _ _ _ _ (c .before .before .before .loop .inv) (omega arith) (c .caught .ensures)) (λ c. c .before .loop .inv .long)
     (λ c. changed-all _ _ _ _ (c .before .loop .inv) (omega arith)))

@@ -1,6 +1,5 @@
 -- `opening::search::explore` meets its contract: there are as many places as the floor's moves have costs, each at the first goal.
--- Assumes nothing.
-use Prim.Native.Nat.{ℕ, _*_}
+use Rattle.learning.proofs.Words.{ℕ, _*_, needs, length, replicate, _≡_, refl, sym, ap, _∙_, subst, arith}
 use Rattle.learning.proofs.Spread.{list-length}
 use Rattle.model.specs.Floor.{goalsOf}
 use Rattle.model.specs.Checks.{Benched}
@@ -9,12 +8,8 @@ use Rattle.floor.specs.Moves.{flat, allKinds}
 use Rattle.floor.proofs.Steps.{kinds-between, kinds-fewer}
 use Rattle.opening.proofs.Held.{held-start}
 use Rattle.opening.specs.Chain.{blank, lastOf, Held}
-use borrow.Author.Needs.{needs}
-use lib.ListN.{length, replicate}
-use mathlib.Core.Path.{_≡_, refl, sym, ap, _∙_, subst}
-use native.Mathlib.Omega.{arith}
-use Rattle.opening.proofs.search.explore.Statement.{statement}
-use Rattle.opening.proofs.search.explore.Tie as tie
+use Rattle.opening.proofs.search.explore as f
+use f.Tie as tie
 
 begin-requires : tie.Need-begin-requires
 begin-requires c κs =
@@ -48,21 +43,8 @@ spread-slow-requires c κs =
     let s = at-start (lined-up n) in
     (begun n allKinds (omega (arith, n .kinds-on .ensures, c .before .before .if1 .left, kinds-between (s .args .floor .now) .1)), s .pre .1 .one)
 
-pub explore-spec : {M : Type 1} → statement M
+pub explore-spec : {M : Type 1} → f.Statement.statement M
 explore-spec =
-    tie.close
-    (tie.spec
-    begin-requires
-    (λ c κs. search needs)
-    (λ c. search needs)
-    (λ c κs. search needs)
-    (λ c. search needs)
-    (λ c. search needs)
-    spread-requires
-    (λ c. search needs)
-    (λ c. search needs)
-    (λ c. let h = sized-cells (at-start (lined-up (c .before)) .pre .0) in record { fits = omega arith })
-    (λ c. search needs)
-    spread-slow-requires
-    (λ c. search needs)
+    tie.close (tie.spec begin-requires (λ c κs. search needs) (λ c. search needs) (λ c κs. search needs) (λ c. search needs) (λ c. search needs) spread-requires (λ c. search needs)
+    (λ c. search needs) (λ c. let h = sized-cells (at-start (lined-up (c .before)) .pre .0) in record { fits = omega arith }) (λ c. search needs) spread-slow-requires (λ c. search needs)
     (λ c. search needs))

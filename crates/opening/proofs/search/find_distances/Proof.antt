@@ -1,12 +1,10 @@
 -- `opening::search::find_distances` meets its contract: where every place is at the queue's end, the search has found the true distances.
--- Assumes nothing.
+use Rattle.learning.proofs.Words.{ap, _∙_, needs}
 use Rattle.learning.specs.Ground.{listOf}
 use Rattle.opening.proofs.Held.{certified-distances}
 use Rattle.opening.specs.Chain.{blank}
-use mathlib.Core.Path.{ap, _∙_}
-use borrow.Author.Needs.{needs}
-use Rattle.opening.proofs.search.find_distances.Statement.{statement}
-use Rattle.opening.proofs.search.find_distances.Tie as tie
+use Rattle.opening.proofs.search.find_distances as f
+use f.Tie as tie
 
 abbrev at-start : tie.After-clear → tie.Start
 at-start c = c .before .before .before .before
@@ -24,5 +22,5 @@ returns c =
     let p = at-start e .pre in
     certified-distances _ (p .0) (s .explore .kept .1 .1 .1 .1 .0 ∙ e .clear .kept .0 ∙ p .1) (s .explore .ensures) (c .before .before .unpack .ensures)
 
-pub find-distances-spec : {M : Type 1} → statement M
+pub find-distances-spec : {M : Type 1} → f.Statement.statement M
 find-distances-spec = tie.close (tie.spec (λ c κs. search needs) explore-requires (λ c κs. search needs) (λ c. search needs) returns)

@@ -1,15 +1,10 @@
 -- `opening::search::follow_slow` meets its contract. The invariant: the first m moves have been followed. No move leads from a blocked cell.
--- Assumes nothing.
-use Prim.Native.Nat.{_-_, _≤_}
+use Rattle.learning.proofs.Words.{_-_, _≤_, not-true, not-false, needs, sym, _∙_, arith}
 use Rattle.floor.specs.Moves.{flat, cost}
 use Rattle.opening.proofs.Chain.{follows-none, follows-blocked, follows-more, follows-all}
 use Rattle.opening.specs.Chain.{Follows}
-use borrow.Author.Tests.{not-true, not-false}
-use borrow.Author.Needs.{needs}
-use mathlib.Core.Path.{sym, _∙_}
-use native.Mathlib.Omega.{arith}
-use Rattle.opening.proofs.search.follow_slow.Statement.{statement}
-use Rattle.opening.proofs.search.follow_slow.Tie as tie
+use Rattle.opening.proofs.search.follow_slow as f
+use f.Tie as tie
 
 abbrev Inv-loop : tie.InvT-loop
 Inv-loop width height floor cell k v list₀ last spot end₀ m₀ list end m = (m ≤ 8) × Follows (flat width height floor) cell (cost k) v m list₀ last list end
@@ -32,19 +27,11 @@ loop-again c =
     let l = c .before .before .before .before .before in
     (omega arith, follows-more (at-start (l .before) .pre .0 .0) (l .loop .inv .1) (c .before .before .pass .ensures))
 
-pub follow-slow-spec : {M : Type 1} → statement M
+pub follow-slow-spec : {M : Type 1} → f.Statement.statement M
 follow-slow-spec =
-    tie.close
-    (tie.spec
-    Inv-loop
-    μ-loop
-    (λ c κs. search needs)
+    tie.close (tie.spec Inv-loop μ-loop (λ c κs. search needs)
     (λ c. let p = c .before .before .before .before .pre in follows-blocked (p .0 .0) (sym (c .before .is-free .ensures) ∙ not-true _ (c .if1 .taken)) (p .1 .0) (p .1 .1))
     (λ c κs. (c .before .before .before .before .pre .0 .0, sym (c .before .is-free .ensures) ∙ not-false _ (c .if1 .left)))
-    (λ c. let p = at-start c .pre in (omega arith, follows-none (p .0 .0) (p .1 .0) (p .1 .1)))
-    pass-requires
-    (λ c. omega arith)
-    (λ c. omega arith)
-    loop-again
+    (λ c. let p = at-start c .pre in (omega arith, follows-none (p .0 .0) (p .1 .0) (p .1 .1))) pass-requires (λ c. omega arith) (λ c. omega arith) loop-again
     (λ c. c .before .loop .inv .1 .long ∙ sym (at-start (c .before .before) .pre .1 .0))
     (λ c. let l = c .before .loop in follows-all (at-start (c .before .before) .pre .0 .0) (l .inv .0) (omega (arith, c .loop-test .left)) (l .inv .1)))

@@ -1,22 +1,15 @@
 -- `opening::search::least` meets its contract. The invariant: the least offer of the first k costs.
--- Assumes nothing.
-use Prim.Native.Nat.{_-_, _≤_}
+use Rattle.learning.proofs.Words.{_-_, _≤_, length, _≡_, subst, arith}
 use Rattle.opening.proofs.Offers.{least-first}
 use Rattle.opening.specs.Chain.{Least}
-use lib.ListN.{length}
-use mathlib.Core.Path.{_≡_, subst}
-use native.Mathlib.Omega.{arith}
-use Rattle.opening.proofs.search.least.Statement.{statement}
-use Rattle.opening.proofs.search.least.Tie as tie
+use Rattle.opening.proofs.search.least as f
+use f.Tie as tie
 
 abbrev Inv-loop : tie.InvT-loop
 Inv-loop list places best₀ k₀ best k = (k ≤ length places) × Least list places k best
 
 abbrev μ-loop : tie.MeasureT-loop
 μ-loop list places best₀ k₀ best k = length places - k
-
-lesser-requires : tie.Need-lesser-requires Inv-loop μ-loop
-lesser-requires c κs = (c .before .before .before .before .pre, (omega arith, c .before .loop .inv .1))
 
 returns : tie.Need-returns Inv-loop μ-loop
 returns c =
@@ -25,7 +18,7 @@ returns c =
     let e : l .k ≡ length (a .places .now) = omega arith in
     subst (λ k. Least (a .list .now) (a .places .now) k (l .best)) e (l .inv .1)
 
-pub least-spec : {M : Type 1} → statement M
+pub least-spec : {M : Type 1} → f.Statement.statement M
 least-spec =
-    tie.close
-    (tie.spec Inv-loop μ-loop (λ c. let p = c .before .before .pre in (p .some, least-first _ _ (p .some))) lesser-requires (λ c. omega arith) (λ c. omega arith) (λ c. (omega arith, c .lesser .ensures)) returns)
+    tie.close (tie.spec Inv-loop μ-loop (λ c. let p = c .before .before .pre in (p .some, least-first _ _ (p .some)))
+    (λ c κs. (c .before .before .before .before .pre, (omega arith, c .before .loop .inv .1))) (λ c. omega arith) (λ c. omega arith) (λ c. (omega arith, c .lesser .ensures)) returns)

@@ -1,24 +1,15 @@
 -- `opening::search::offer` meets its contract, by whether the place is at the queue's end.
--- Assumes nothing.
+use Rattle.learning.proofs.Words.{eq-eqb, ne-eqb, needs, arith}
 use Rattle.opening.specs.Chain.{end}
-use borrow.Author.Tests.{eq-eqb, ne-eqb}
-use borrow.Author.Needs.{needs}
-use native.Mathlib.Omega.{arith}
-use Rattle.opening.proofs.search.offer.Statement.{statement}
-use Rattle.opening.proofs.search.offer.Tie as tie
+use Rattle.opening.proofs.search.offer as f
+use f.Tie as tie
 
 returns-2 : tie.Need-returns-2
 returns-2 c =
     let s = c .before .before in
     rw (ne-eqb (s .before .before .args .place) end (s .if1 .left)) (omega (arith, c .before .dist-at .ensures .0, c .cost-at .ensures .0))
 
-pub offer-spec : {M : Type 1} → statement M
+pub offer-spec : {M : Type 1} → f.Statement.statement M
 offer-spec =
-    tie.close
-    (tie.spec
-    (λ c. rw (eq-eqb (c .before .before .args .place) end (c .if1 .taken)))
-    (λ c κs. c .before .before .pre .0 (c .if1 .left))
-    (λ c κs. search needs)
-    (λ c. search needs)
-    (λ c. search needs)
-    returns-2)
+    tie.close (tie.spec (λ c. rw (eq-eqb (c .before .before .args .place) end (c .if1 .taken))) (λ c κs. c .before .before .pre .0 (c .if1 .left)) (λ c κs. search needs) (λ c. search needs)
+    (λ c. search needs) returns-2)

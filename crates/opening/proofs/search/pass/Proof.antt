@@ -1,12 +1,9 @@
 -- `opening::search::pass` meets its contract, by whether the move can have the cost.
--- Assumes nothing.
+use Rattle.learning.proofs.Words.{needs, not-true, sym, _∙_, subst₂}
 use Rattle.opening.proofs.Chain.{enterable, passed-over}
 use Rattle.opening.specs.Chain.{Entered}
-use borrow.Author.Needs.{needs}
-use borrow.Author.Tests.{not-true}
-use mathlib.Core.Path.{sym, _∙_, subst₂}
-use Rattle.opening.proofs.search.pass.Statement.{statement}
-use Rattle.opening.proofs.search.pass.Tie as tie
+use Rattle.opening.proofs.search.pass as f
+use f.Tie as tie
 
 returns : tie.Need-returns
 returns c =
@@ -26,14 +23,5 @@ returns-2 c =
     let a = s .before .before .before .before .before .before .args in
     subst₂ (λ u w. Entered u w (a .v) (a .list .now) (a .last) (r .last .1 .1 .1 .0) (r .result)) (s .before .step-from .ensures) (s .cost-at .ensures .0) (r .ensures)
 
-pub pass-spec : {M : Type 1} → statement M
-pass-spec =
-    tie.close
-    (tie.spec
-    (λ c κs. search needs)
-    returns
-    (λ c κs. search needs)
-    (λ c κs. search needs)
-    reach-requires
-    (λ c. search needs)
-    returns-2)
+pub pass-spec : {M : Type 1} → f.Statement.statement M
+pass-spec = tie.close (tie.spec (λ c κs. search needs) returns (λ c κs. search needs) (λ c κs. search needs) reach-requires (λ c. search needs) returns-2)

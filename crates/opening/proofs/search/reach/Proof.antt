@@ -1,15 +1,10 @@
 -- `opening::search::reach` meets its contract, by what the step is, its cost, and whether the cell has a distance.
--- Assumes nothing.
-use Prim.Native.Nat.{_<_}
+use Rattle.learning.proofs.Words.{_<_, needs, length, _≡_, sym, ap, _∙_, subst, arith}
 use Rattle.floor.proofs.Steps.{wall≢to, same-to}
 use Rattle.floor.specs.declared.Step.the-variants.{To}
 use Rattle.opening.specs.Chain.{links, distAt, Entered, stays, enters}
-use borrow.Author.Needs.{needs}
-use lib.ListN.{length}
-use mathlib.Core.Path.{_≡_, sym, ap, _∙_, subst}
-use native.Mathlib.Omega.{arith}
-use Rattle.opening.proofs.search.reach.Statement.{statement}
-use Rattle.opening.proofs.search.reach.Tie as tie
+use Rattle.opening.proofs.search.reach as f
+use f.Tie as tie
 
 abbrev at-start : tie.After-step → tie.Start
 at-start c = c .before .before .before
@@ -39,17 +34,8 @@ returns-4 c =
     subst (λ l. Entered (a .step) (a .cost) (a .v) (a .list .now) (a .last) l cell) (sym (c .before .before .enter .ensures))
     (enters cell (t .step .given .1 ∙ ap (To cell) same) (omega (arith, d .dist-at .ensures .0)))
 
-pub reach-spec : {M : Type 1} → statement M
+pub reach-spec : {M : Type 1} → f.Statement.statement M
 reach-spec =
-    tie.close
-    (tie.spec
-    (λ c. search needs)
-    (λ c. search needs)
-    (λ c. stays (λ b t. absurd (wall≢to b _ (sym (c .enum-told .given .1) ∙ t))))
-    (λ c. stays (λ b t. absurd (omega (arith, same-to (sym (c .before .before .step .given .1) ∙ t) .1))))
-    (λ c κs. inside (c .before .before .before) .0)
-    (λ c. search needs)
-    returns-3
-    enter-requires
-    (λ c. search needs)
-    returns-4)
+    tie.close (tie.spec (λ c. search needs) (λ c. search needs) (λ c. stays (λ b t. absurd (wall≢to b _ (sym (c .enum-told .given .1) ∙ t))))
+    (λ c. stays (λ b t. absurd (omega (arith, same-to (sym (c .before .before .step .given .1) ∙ t) .1)))) (λ c κs. inside (c .before .before .before) .0) (λ c. search needs) returns-3
+    enter-requires (λ c. search needs) returns-4)

@@ -1,7 +1,5 @@
 -- `opening::search::spread` meets its contract. The invariant is `Held`, of whatever goals it began with; the places pass each cell once, which bounds the steps.
--- Assumes nothing.
-use mathlib.Core.List.{List}
-use Prim.Native.Nat.{ℕ}
+use Rattle.learning.proofs.Words.{List, ℕ, length, needs, _≡_, sym, _∙_, subst, arith}
 use Rattle.model.specs.Floor.{goalsOf}
 use Rattle.floor.specs.Moves.{flat}
 use Rattle.floor.proofs.Steps.{kind-fits}
@@ -9,12 +7,8 @@ use Rattle.opening.proofs.Held.{held-same, held-readable, held-offered,
 use Rattle.opening.specs.Search.{Next}
 use Rattle.opening.specs.Chain.{distAt, Least, Held}
 use Rattle.opening.proofs.Offers.{least-first}
-use lib.ListN.{length}
-use borrow.Author.Needs.{needs}
-use mathlib.Core.Path.{_≡_, sym, _∙_, subst}
-use native.Mathlib.Omega.{arith}
-use Rattle.opening.proofs.search.spread.Statement.{statement}
-use Rattle.opening.proofs.search.spread.Tie as tie
+use Rattle.opening.proofs.search.spread as f
+use f.Tie as tie
 
 abbrev Inv-loop : tie.InvT-loop
 Inv-loop width height floor steps places₀ list₀ last₀ left₀ places list last left =
@@ -67,26 +61,14 @@ loop-again c gs begun =
     let H = looping (asked o) .loop .inv gs begun in
     held-step H (chosen o H) (g .follow .ensures) (m .move-on .ensures)
 
-pub spread-spec : {M : Type 1} → statement M
+pub spread-spec : {M : Type 1} → f.Statement.statement M
 spread-spec =
-    tie.close
-    (tie.spec
-    Inv-loop
-    μ-loop
-    (λ c κs. c .before .before .before .pre .2)
-    (λ c gs begun. begun)
+    tie.close (tie.spec Inv-loop μ-loop (λ c κs. c .before .before .before .pre .2) (λ c gs begun. begun)
     (λ c κs. let l = c .before .before .before in let H = held-offered (held l) in (H, (omega (arith, two l), least-first _ _ (H .some))))
-    (λ c. let H = held (looping c) in record { fits = omega (arith, c .lesser .ensures .one, held-offered H .few) })
-    (λ c. c .before .lesser .ensures .one)
-    (λ c. let l = looping (c .before .before) in held l .whole ∙ sym (at-start l .pre .0 .whole))
-    (λ c. let l = looping (c .before .before) in held l .long ∙ sym (at-start l .pre .0 .long))
+    (λ c. let H = held (looping c) in record { fits = omega (arith, c .lesser .ensures .one, held-offered H .few) }) (λ c. c .before .lesser .ensures .one)
+    (λ c. let l = looping (c .before .before) in held l .whole ∙ sym (at-start l .pre .0 .whole)) (λ c. let l = looping (c .before .before) in held l .long ∙ sym (at-start l .pre .0 .long))
     (λ c. let s = c .before .before in held-none (held (looping s)) (least s) (c .if1 .taken))
     (λ c κs. let s = c .before .before .before in let H = held (looping s) in let h = held-one H (least s) in (held-readable H _ h, kind-fits _ _ h))
-    (λ c κs. let o = c .before in let H = held (looping (asked o)) in step-follow H (chosen o H))
-    move-on-requires
-    (λ c. search needs)
-    (λ c. omega arith)
-    loop-again
-    (λ c. held (c .before) .whole ∙ sym (at-start (c .before) .pre .0 .whole))
-    (λ c. held (c .before) .long ∙ sym (at-start (c .before) .pre .0 .long))
+    (λ c κs. let o = c .before in let H = held (looping (asked o)) in step-follow H (chosen o H)) move-on-requires (λ c. search needs) (λ c. omega arith) loop-again
+    (λ c. held (c .before) .whole ∙ sym (at-start (c .before) .pre .0 .whole)) (λ c. held (c .before) .long ∙ sym (at-start (c .before) .pre .0 .long))
     (λ c. held-done (held (c .before)) (c .loop-test .left)))

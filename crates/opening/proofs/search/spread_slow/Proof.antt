@@ -1,18 +1,13 @@
 -- `opening::search::spread_slow` meets its contract. The invariant is `Held`, of whatever goals it began with; the places pass each cell once, which bounds the steps.
--- Assumes nothing.
-use mathlib.Core.List.{List}
-use Prim.Native.Nat.{ℕ}
+use Rattle.learning.proofs.Words.{List, ℕ, needs, sym, _∙_, arith}
 use Rattle.model.specs.Floor.{goalsOf}
 use Rattle.floor.specs.Moves.{flat}
 use Rattle.floor.proofs.Steps.{kind-fits}
 use Rattle.opening.proofs.Held.{held-same, held-readable, held-offered, held-one, held-none, held-next, step-follow, step-move, held-step, held-done}
 use Rattle.opening.specs.Search.{Next}
 use Rattle.opening.specs.Chain.{distAt, Held}
-use borrow.Author.Needs.{needs}
-use mathlib.Core.Path.{sym, _∙_}
-use native.Mathlib.Omega.{arith}
-use Rattle.opening.proofs.search.spread_slow.Statement.{statement}
-use Rattle.opening.proofs.search.spread_slow.Tie as tie
+use Rattle.opening.proofs.search.spread_slow as f
+use f.Tie as tie
 
 abbrev Inv-loop : tie.InvT-loop
 Inv-loop width height floor steps places₀ list₀ last₀ left₀ places list last left =
@@ -58,26 +53,13 @@ loop-again c gs begun =
     let H = looping (asked o) .loop .inv gs begun in
     held-step H (chosen o H) (g .follow-slow .ensures) (m .move-on .ensures)
 
-pub spread-slow-spec : {M : Type 1} → statement M
+pub spread-slow-spec : {M : Type 1} → f.Statement.statement M
 spread-slow-spec =
-    tie.close
-    (tie.spec
-    Inv-loop
-    μ-loop
-    (λ c κs. c .before .before .before .pre .1)
-    (λ c gs begun. begun)
-    (λ c κs. held-offered (held (c .before .before .before)))
-    (λ c. let H = held (looping c) in record { fits = omega (arith, c .least .ensures .one, held-offered H .few) })
-    (λ c. c .before .least .ensures .one)
-    (λ c. let l = looping (c .before .before) in held l .whole ∙ sym (at-start l .pre .0 .whole))
-    (λ c. let l = looping (c .before .before) in held l .long ∙ sym (at-start l .pre .0 .long))
+    tie.close (tie.spec Inv-loop μ-loop (λ c κs. c .before .before .before .pre .1) (λ c gs begun. begun) (λ c κs. held-offered (held (c .before .before .before)))
+    (λ c. let H = held (looping c) in record { fits = omega (arith, c .least .ensures .one, held-offered H .few) }) (λ c. c .before .least .ensures .one)
+    (λ c. let l = looping (c .before .before) in held l .whole ∙ sym (at-start l .pre .0 .whole)) (λ c. let l = looping (c .before .before) in held l .long ∙ sym (at-start l .pre .0 .long))
     (λ c. let s = c .before .before in held-none (held (looping s)) (s .least .ensures) (c .if1 .taken))
     (λ c κs. let s = c .before .before .before in let H = held (looping s) in let h = held-one H (s .least .ensures) in (held-readable H _ h, kind-fits _ _ h))
-    (λ c κs. let o = c .before in let H = held (looping (asked o)) in step-follow H (chosen o H))
-    move-on-requires
-    (λ c. search needs)
-    (λ c. omega arith)
-    loop-again
-    (λ c. held (c .before) .whole ∙ sym (at-start (c .before) .pre .0 .whole))
-    (λ c. held (c .before) .long ∙ sym (at-start (c .before) .pre .0 .long))
+    (λ c κs. let o = c .before in let H = held (looping (asked o)) in step-follow H (chosen o H)) move-on-requires (λ c. search needs) (λ c. omega arith) loop-again
+    (λ c. held (c .before) .whole ∙ sym (at-start (c .before) .pre .0 .whole)) (λ c. held (c .before) .long ∙ sym (at-start (c .before) .pre .0 .long))
     (λ c. held-done (held (c .before)) (c .loop-test .left)))

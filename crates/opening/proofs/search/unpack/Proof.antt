@@ -1,14 +1,9 @@
 -- `opening::search::unpack` meets its contract. The invariant: the entries passed are distances, the others as they were.
--- Assumes nothing.
-use Prim.Native.Nat.{_-_, _/_, _<_}
+use Rattle.learning.proofs.Words.{_-_, _/_, _<_, needs, length, ap, _∙_, arith}
 use Rattle.opening.proofs.Fill.{Changed, changed-none, changed-more, changed-all}
 use Rattle.opening.specs.Chain.{links, distAt, plain}
-use borrow.Author.Needs.{needs}
-use lib.ListN.{length}
-use mathlib.Core.Path.{ap, _∙_}
-use native.Mathlib.Omega.{arith}
-use Rattle.opening.proofs.search.unpack.Statement.{statement}
-use Rattle.opening.proofs.search.unpack.Tie as tie
+use Rattle.opening.proofs.search.unpack as f
+use f.Tie as tie
 
 abbrev Inv-loop : tie.InvT-loop
 Inv-loop list₀ i₀ list i = Changed (λ w. plain (w / links)) list₀ i list
@@ -28,19 +23,8 @@ returns : tie.Need-returns Inv-loop μ-loop
 unfolding distAt
 returns c = changed-all _ _ _ _ (c .before .loop .inv) (omega arith)
 
-pub unpack-spec : {M : Type 1} → statement M
+pub unpack-spec : {M : Type 1} → f.Statement.statement M
 unpack-spec =
-    tie.close
-    (tie.spec
-    Inv-loop
-    μ-loop
-    (λ c. changed-none _ _)
-    (λ c κs. on (c .before))
-    (λ c κs. search needs)
-    (λ c. let h = on (c .before .before .before) in search needs)
-    (λ c. on (c .before .before .before))
-    (λ c. let h = on (c .before .before .before) in search needs)
-    (λ c. omega (arith, on (c .before .before .before)))
-    loop-again
-    (λ c. c .before .loop .inv .long)
-    returns)
+    tie.close (tie.spec Inv-loop μ-loop (λ c. changed-none _ _) (λ c κs. on (c .before)) (λ c κs. search needs) (λ c. let h = on (c .before .before .before) in search needs)
+    (λ c. on (c .before .before .before)) (λ c. let h = on (c .before .before .before) in search needs) (λ c. omega (arith, on (c .before .before .before))) loop-again
+    (λ c. c .before .loop .inv .long) returns)

@@ -1,9 +1,7 @@
 -- `picture::ground::of_all_shades` is safe and ends: it goes through the shades.
--- Assumes nothing.
-use Prim.Native.Nat.{_≤_, _-_}
-use borrow.Author.Needs.{needs}
-use Rattle.picture.proofs.ground.of_all_shades.Statement.{statement}
-use Rattle.picture.proofs.ground.of_all_shades.Tie as tie
+use Rattle.learning.proofs.Words.{_≤_, _-_, needs}
+use Rattle.picture.proofs.ground.of_all_shades as f
+use f.Tie as tie
 
 abbrev Inv-loop : tie.InvT-loop
 Inv-loop page₀ from columns shade at₀ which₀ page at which = which ≤ 8
@@ -11,7 +9,5 @@ Inv-loop page₀ from columns shade at₀ which₀ page at which = which ≤ 8
 abbrev μ-loop : tie.MeasureT-loop
 μ-loop page₀ from columns shade at₀ which₀ page at which = 8 - which
 
-pub of-all-shades-spec : {M : Type 1} → statement M
-of-all-shades-spec =
-    tie.close
-    (tie.spec Inv-loop μ-loop (λ c. search needs) (λ c κs. search needs) (λ c. search needs) (λ c. search needs) (λ c. search needs) (λ c. search needs))
+pub of-all-shades-spec : {M : Type 1} → f.Statement.statement M
+of-all-shades-spec = tie.close (tie.spec Inv-loop μ-loop (λ c. search needs) (λ c κs. search needs) (λ c. search needs) (λ c. search needs) (λ c. search needs) (λ c. search needs))

@@ -1,10 +1,7 @@
 -- `picture::ground::stretch_end` meets its contract: the loop goes on from the cell after x and stops at the end of the list at the latest.
--- Assumes nothing.
-use Prim.Native.Nat.{_≤_, _<_, _-_}
-use lib.ListN.{length}
-use borrow.Author.Needs.{needs}
-use Rattle.picture.proofs.ground.stretch_end.Statement.{statement}
-use Rattle.picture.proofs.ground.stretch_end.Tie as tie
+use Rattle.learning.proofs.Words.{_≤_, _<_, _-_, length, needs}
+use Rattle.picture.proofs.ground.stretch_end as f
+use f.Tie as tie
 
 abbrev Inv-loop : tie.InvT-loop
 Inv-loop kinds columns x row end₀ end = (x < end) × (end ≤ length kinds) × (1 ≤ row)
@@ -12,21 +9,7 @@ Inv-loop kinds columns x row end₀ end = (x < end) × (end ≤ length kinds) ×
 abbrev μ-loop : tie.MeasureT-loop
 μ-loop kinds columns x row end₀ end = length kinds - end
 
-pub stretch-end-spec : {M : Type 1} → statement M
+pub stretch-end-spec : {M : Type 1} → f.Statement.statement M
 stretch-end-spec =
-    tie.close
-    (tie.spec
-    Inv-loop
-    μ-loop
-    (λ c κs. search needs)
-    (λ c. search needs)
-    (λ c. search needs)
-    (λ c. search needs)
-    (λ c. search needs)
-    (λ c. search needs)
-    (λ c. search needs)
-    (λ c. search needs)
-    (λ c. search needs)
-    (λ c. search needs)
-    (λ c. search needs)
-    (λ c. search needs))
+    tie.close (tie.spec Inv-loop μ-loop (λ c κs. search needs) (λ c. search needs) (λ c. search needs) (λ c. search needs) (λ c. search needs) (λ c. search needs) (λ c. search needs)
+    (λ c. search needs) (λ c. search needs) (λ c. search needs) (λ c. search needs) (λ c. search needs))

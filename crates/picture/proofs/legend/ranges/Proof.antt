@@ -1,9 +1,7 @@
 -- `picture::legend::ranges` is safe and ends: it goes through the steps, and there are at most six.
--- Assumes nothing.
-use Prim.Native.Nat.{_≤_, _-_}
-use borrow.Author.Needs.{needs}
-use Rattle.picture.proofs.legend.ranges.Statement.{statement}
-use Rattle.picture.proofs.legend.ranges.Tie as tie
+use Rattle.learning.proofs.Words.{_≤_, _-_, needs}
+use Rattle.picture.proofs.legend.ranges as f
+use f.Tie as tie
 
 abbrev Inv-loop : tie.InvT-loop
 Inv-loop page₀ from x row most n at₀ k₀ page at k = (n ≤ 6) × (k ≤ n)
@@ -11,17 +9,7 @@ Inv-loop page₀ from x row most n at₀ k₀ page at k = (n ≤ 6) × (k ≤ n)
 abbrev μ-loop : tie.MeasureT-loop
 μ-loop page₀ from x row most n at₀ k₀ page at k = n - k
 
-pub ranges-spec : {M : Type 1} → statement M
+pub ranges-spec : {M : Type 1} → f.Statement.statement M
 ranges-spec =
-    tie.close
-    (tie.spec
-    Inv-loop
-    μ-loop
-    (λ c κs. search needs)
-    (λ c. search needs)
-    (λ c. search needs)
-    (λ c κs. search needs)
-    (λ c. search needs)
-    (λ c. search needs)
-    (λ c. search needs)
+    tie.close (tie.spec Inv-loop μ-loop (λ c κs. search needs) (λ c. search needs) (λ c. search needs) (λ c κs. search needs) (λ c. search needs) (λ c. search needs) (λ c. search needs)
     (λ c. search needs))

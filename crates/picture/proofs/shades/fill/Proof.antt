@@ -1,11 +1,7 @@
 -- `picture::shades::fill` is safe and ends: it goes through the cells.
--- Assumes nothing.
-use Prim.Native.Nat.{_≤_, _-_}
-use mathlib.Core.Path.{_≡_}
-use lib.ListN.{length}
-use borrow.Author.Needs.{needs}
-use Rattle.picture.proofs.shades.fill.Statement.{statement}
-use Rattle.picture.proofs.shades.fill.Tie as tie
+use Rattle.learning.proofs.Words.{_≤_, _-_, _≡_, length, needs}
+use Rattle.picture.proofs.shades.fill as f
+use f.Tie as tie
 
 abbrev Inv-loop : tie.InvT-loop
 Inv-loop floor table first most shades₀ x₀ shades x = (x ≤ length shades₀) × (length shades ≡ length shades₀)
@@ -13,17 +9,7 @@ Inv-loop floor table first most shades₀ x₀ shades x = (x ≤ length shades�
 abbrev μ-loop : tie.MeasureT-loop
 μ-loop floor table first most shades₀ x₀ shades x = length shades₀ - x
 
-pub fill-spec : {M : Type 1} → statement M
+pub fill-spec : {M : Type 1} → f.Statement.statement M
 fill-spec =
-    tie.close
-    (tie.spec
-    Inv-loop
-    μ-loop
-    (λ c. search needs)
-    (λ c κs. search needs)
-    (λ c. search needs)
-    (λ c. search needs)
-    (λ c. search needs)
-    (λ c. search needs)
-    (λ c. search needs)
+    tie.close (tie.spec Inv-loop μ-loop (λ c. search needs) (λ c κs. search needs) (λ c. search needs) (λ c. search needs) (λ c. search needs) (λ c. search needs) (λ c. search needs)
     (λ c. search needs))

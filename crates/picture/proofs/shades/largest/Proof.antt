@@ -1,10 +1,7 @@
 -- `picture::shades::largest` meets its contract: no rise is as large as 2 to the 32nd, so the largest is not.
--- Assumes nothing.
-use Prim.Native.Nat.{_≤_, _<_, _-_}
-use lib.ListN.{length}
-use borrow.Author.Needs.{needs}
-use Rattle.picture.proofs.shades.largest.Statement.{statement}
-use Rattle.picture.proofs.shades.largest.Tie as tie
+use Rattle.learning.proofs.Words.{_≤_, _<_, _-_, length, needs}
+use Rattle.picture.proofs.shades.largest as f
+use f.Tie as tie
 
 abbrev Inv-loop : tie.InvT-loop
 Inv-loop table first most₀ x₀ most x = (x ≤ length table) × (most < 4294967296)
@@ -12,16 +9,6 @@ Inv-loop table first most₀ x₀ most x = (x ≤ length table) × (most < 42949
 abbrev μ-loop : tie.MeasureT-loop
 μ-loop table first most₀ x₀ most x = length table - x
 
-pub largest-spec : {M : Type 1} → statement M
+pub largest-spec : {M : Type 1} → f.Statement.statement M
 largest-spec =
-    tie.close
-    (tie.spec
-    Inv-loop
-    μ-loop
-    (λ c. search needs)
-    (λ c κs. search needs)
-    (λ c κs. search needs)
-    (λ c. search needs)
-    (λ c. search needs)
-    (λ c. search needs)
-    (λ c. search needs))
+    tie.close (tie.spec Inv-loop μ-loop (λ c. search needs) (λ c κs. search needs) (λ c κs. search needs) (λ c. search needs) (λ c. search needs) (λ c. search needs) (λ c. search needs))

@@ -1,9 +1,7 @@
 -- `picture::shades::step_of` meets its contract: the loop goes through the steps but the last, and there are at most six.
--- Assumes nothing.
-use Prim.Native.Nat.{_≤_, _-_}
-use borrow.Author.Needs.{needs}
-use Rattle.picture.proofs.shades.step_of.Statement.{statement}
-use Rattle.picture.proofs.shades.step_of.Tie as tie
+use Rattle.learning.proofs.Words.{_≤_, _-_, needs}
+use Rattle.picture.proofs.shades.step_of as f
+use f.Tie as tie
 
 abbrev Inv-loop : tie.InvT-loop
 Inv-loop rise most n k₀ k = (n ≤ 6) × (k ≤ 6)
@@ -11,17 +9,7 @@ Inv-loop rise most n k₀ k = (n ≤ 6) × (k ≤ 6)
 abbrev μ-loop : tie.MeasureT-loop
 μ-loop rise most n k₀ k = n - k
 
-pub step-of-spec : {M : Type 1} → statement M
+pub step-of-spec : {M : Type 1} → f.Statement.statement M
 step-of-spec =
-    tie.close
-    (tie.spec
-    Inv-loop
-    μ-loop
-    (λ c κs. search needs)
-    (λ c. search needs)
-    (λ c κs. search needs)
-    (λ c. search needs)
-    (λ c. search needs)
-    (λ c. search needs)
-    (λ c. search needs)
+    tie.close (tie.spec Inv-loop μ-loop (λ c κs. search needs) (λ c. search needs) (λ c κs. search needs) (λ c. search needs) (λ c. search needs) (λ c. search needs) (λ c. search needs)
     (λ c. search needs))

@@ -1,17 +1,9 @@
 -- `picture::sheet::cells` meets its contract: a product is at most the product of what its factors are at most.
--- Assumes nothing.
-use native.Mathlib.Nat.{lt-of-le-of-lt, mul-le-mul}
-use lib.Dec.{lit<}
-use borrow.Author.Needs.{needs}
-use native.Mathlib.Omega.{arith}
-use Rattle.picture.proofs.sheet.cells.Statement.{statement}
-use Rattle.picture.proofs.sheet.cells.Tie as tie
+use Rattle.learning.proofs.Words.{lt-of-le-of-lt, mul-le-mul, lit<, needs, arith}
+use Rattle.picture.proofs.sheet.cells as f
+use f.Tie as tie
 
-mul-result : tie.Need-mul-result
-mul-result c = record { fits = lt-of-le-of-lt (mul-le-mul {n₂ = 64} {m₂ = 64} (omega arith) (omega arith)) (lit< tt) }
-
-returns-3 : tie.Need-returns-3
-returns-3 c = mul-le-mul {n₂ = 64} {m₂ = 64} (omega arith) (omega arith)
-
-pub cells-spec : {M : Type 1} → statement M
-cells-spec = tie.close (tie.spec (λ c. search needs) (λ c. search needs) mul-result returns-3)
+pub cells-spec : {M : Type 1} → f.Statement.statement M
+cells-spec =
+    tie.close (tie.spec (λ c. search needs) (λ c. search needs) (λ c. record { fits = lt-of-le-of-lt (mul-le-mul {n₂ = 64} {m₂ = 64} (omega arith) (omega arith)) (lit< tt) })
+    (λ c. mul-le-mul {n₂ = 64} {m₂ = 64} (omega arith) (omega arith)))

@@ -1,10 +1,8 @@
 -- `picture::ways::draw_leg` is safe and ends: a place has a byte for how many moves there are, and a byte for each.
--- Assumes nothing.
-use Prim.Native.Nat.{suc, _≤_, _+_, _*_, _-_}
-use borrow.Author.Needs.{needs}
+use Rattle.learning.proofs.Words.{suc, _≤_, _+_, _*_, _-_, needs}
 use Rattle.model.specs.Lookahead.{mostMoves}
-use Rattle.picture.proofs.ways.draw_leg.Statement.{statement}
-use Rattle.picture.proofs.ways.draw_leg.Tie as tie
+use Rattle.picture.proofs.ways.draw_leg as f
+use f.Tie as tie
 
 abbrev Inv-loop : tie.InvT-loop
 Inv-loop page₀ from legs place at₀ front n i₀ page at i = (i ≤ n) × (n ≤ mostMoves) × (front + suc mostMoves ≤ 4096 * suc mostMoves)
@@ -12,23 +10,7 @@ Inv-loop page₀ from legs place at₀ front n i₀ page at i = (i ≤ n) × (n 
 abbrev μ-loop : tie.MeasureT-loop
 μ-loop page₀ from legs place at₀ front n i₀ page at i = n - i
 
-pub draw-leg-spec : {M : Type 1} → statement M
+pub draw-leg-spec : {M : Type 1} → f.Statement.statement M
 draw-leg-spec =
-    tie.close
-    (tie.spec
-    Inv-loop
-    μ-loop
-    (λ c. search needs)
-    (λ c. search needs)
-    (λ c. search needs)
-    (λ c κs. search needs)
-    (λ c. search needs)
-    (λ c. search needs)
-    (λ c. search needs)
-    (λ c. search needs)
-    (λ c. search needs)
-    (λ c κs. search needs)
-    (λ c. search needs)
-    (λ c. search needs)
-    (λ c. search needs)
-    (λ c. search needs))
+    tie.close (tie.spec Inv-loop μ-loop (λ c. search needs) (λ c. search needs) (λ c. search needs) (λ c κs. search needs) (λ c. search needs) (λ c. search needs) (λ c. search needs)
+    (λ c. search needs) (λ c. search needs) (λ c κs. search needs) (λ c. search needs) (λ c. search needs) (λ c. search needs) (λ c. search needs))

@@ -1,9 +1,7 @@
 -- `picture::ways::draw_legs` is safe and ends: it goes through the places of the path.
--- Assumes nothing.
-use Prim.Native.Nat.{_≤_, _-_}
-use borrow.Author.Needs.{needs}
-use Rattle.picture.proofs.ways.draw_legs.Statement.{statement}
-use Rattle.picture.proofs.ways.draw_legs.Tie as tie
+use Rattle.learning.proofs.Words.{_≤_, _-_, needs}
+use Rattle.picture.proofs.ways.draw_legs as f
+use f.Tie as tie
 
 abbrev Inv-loop : tie.InvT-loop
 Inv-loop page₀ from legs length at₀ place₀ page at place = place ≤ length
@@ -11,7 +9,5 @@ Inv-loop page₀ from legs length at₀ place₀ page at place = place ≤ lengt
 abbrev μ-loop : tie.MeasureT-loop
 μ-loop page₀ from legs length at₀ place₀ page at place = length - place
 
-pub draw-legs-spec : {M : Type 1} → statement M
-draw-legs-spec =
-    tie.close
-    (tie.spec Inv-loop μ-loop (λ c. search needs) (λ c κs. search needs) (λ c. search needs) (λ c. search needs) (λ c. search needs) (λ c. search needs))
+pub draw-legs-spec : {M : Type 1} → f.Statement.statement M
+draw-legs-spec = tie.close (tie.spec Inv-loop μ-loop (λ c. search needs) (λ c κs. search needs) (λ c. search needs) (λ c. search needs) (λ c. search needs) (λ c. search needs))

@@ -1,10 +1,8 @@
 -- `picture::ways::draw_moves` is safe and ends: it goes through at most as many of 288 moves as a leg has.
--- Assumes nothing.
-use Prim.Native.Nat.{_≤_, _-_}
-use borrow.Author.Needs.{needs}
+use Rattle.learning.proofs.Words.{_≤_, _-_, needs}
 use Rattle.model.specs.Lookahead.{mostMoves}
-use Rattle.picture.proofs.ways.draw_moves.Statement.{statement}
-use Rattle.picture.proofs.ways.draw_moves.Tie as tie
+use Rattle.picture.proofs.ways.draw_moves as f
+use f.Tie as tie
 
 abbrev Inv-loop : tie.InvT-loop
 Inv-loop page₀ from moves n at₀ i₀ page at i = (i ≤ n) × (n ≤ mostMoves)
@@ -12,16 +10,6 @@ Inv-loop page₀ from moves n at₀ i₀ page at i = (i ≤ n) × (n ≤ mostMov
 abbrev μ-loop : tie.MeasureT-loop
 μ-loop page₀ from moves n at₀ i₀ page at i = n - i
 
-pub draw-moves-spec : {M : Type 1} → statement M
+pub draw-moves-spec : {M : Type 1} → f.Statement.statement M
 draw-moves-spec =
-    tie.close
-    (tie.spec
-    Inv-loop
-    μ-loop
-    (λ c. search needs)
-    (λ c. search needs)
-    (λ c κs. search needs)
-    (λ c. search needs)
-    (λ c. search needs)
-    (λ c. search needs)
-    (λ c. search needs))
+    tie.close (tie.spec Inv-loop μ-loop (λ c. search needs) (λ c. search needs) (λ c κs. search needs) (λ c. search needs) (λ c. search needs) (λ c. search needs) (λ c. search needs))

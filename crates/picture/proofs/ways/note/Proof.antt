@@ -1,10 +1,8 @@
 -- `picture::ways::note` is safe and ends: a place has a byte for how many moves there are, and a byte for each.
--- Assumes nothing.
-use Prim.Native.Nat.{suc, _≤_, _+_, _*_, _-_}
-use borrow.Author.Needs.{needs}
+use Rattle.learning.proofs.Words.{suc, _≤_, _+_, _*_, _-_, needs}
 use Rattle.model.specs.Lookahead.{mostMoves}
-use Rattle.picture.proofs.ways.note.Statement.{statement}
-use Rattle.picture.proofs.ways.note.Tie as tie
+use Rattle.picture.proofs.ways.note as f
+use f.Tie as tie
 
 abbrev Inv-loop : tie.InvT-loop
 Inv-loop legs₀ place moves n front i₀ legs i = (i ≤ n) × (n ≤ mostMoves) × (front + suc mostMoves ≤ 4096 * suc mostMoves)
@@ -12,22 +10,7 @@ Inv-loop legs₀ place moves n front i₀ legs i = (i ≤ n) × (n ≤ mostMoves
 abbrev μ-loop : tie.MeasureT-loop
 μ-loop legs₀ place moves n front i₀ legs i = n - i
 
-pub note-spec : {M : Type 1} → statement M
+pub note-spec : {M : Type 1} → f.Statement.statement M
 note-spec =
-    tie.close
-    (tie.spec
-    Inv-loop
-    μ-loop
-    (λ c. search needs)
-    (λ c. search needs)
-    (λ c. search needs)
-    (λ c. search needs)
-    (λ c. search needs)
-    (λ c. search needs)
-    (λ c. search needs)
-    (λ c. search needs)
-    (λ c. search needs)
-    (λ c. search needs)
-    (λ c. search needs)
-    (λ c. search needs)
-    (λ c. search needs))
+    tie.close (tie.spec Inv-loop μ-loop (λ c. search needs) (λ c. search needs) (λ c. search needs) (λ c. search needs) (λ c. search needs) (λ c. search needs) (λ c. search needs)
+    (λ c. search needs) (λ c. search needs) (λ c. search needs) (λ c. search needs) (λ c. search needs) (λ c. search needs))

@@ -1,11 +1,8 @@
 -- `renew::last::keep` meets its contract: after the `if` the list is `Roomy`, and what goes in is put behind what stays.
--- Assumes nothing.
-use mathlib.Core.Logic.{⊎-elim}
+use Rattle.learning.proofs.Words.{⊎-elim, needs, arith}
 use Rattle.renew.proofs.Keeping.{Roomy, roomy, roomy-moved, roomy-more}
-use borrow.Author.Needs.{needs}
-use native.Mathlib.Omega.{arith}
-use Rattle.renew.proofs.last.keep.Statement.{statement}
-use Rattle.renew.proofs.last.keep.Tie as tie
+use Rattle.renew.proofs.last.keep as f
+use f.Tie as tie
 
 -- after the `if`
 room : (c : tie.Joined1) → let a = c .before .before .before .args in Roomy (a .kept .now) (a .held) (a .more .now) (c .if1 .kept) (c .if1 .stay)
@@ -15,12 +12,8 @@ room c =
     (λ w. rw (w .1, w .2) (roomy _ _ _ (omega arith) (omega arith)))
     (c .if1 .came)
 
-same-length : tie.Need-same-length
-same-length c = let b = c .before .before in roomy-more (room (b .before .before)) (b .bytes .ensures) .1 .1
-
-returns : tie.Need-returns
-returns c = let b = c .before .before in roomy-more (room (b .before .before)) (b .bytes .ensures)
-
-pub keep-spec : {M : Type 1} → statement M
+pub keep-spec : {M : Type 1} → f.Statement.statement M
 keep-spec =
-    tie.close (tie.spec (λ c. search needs) (λ c. search needs) (λ c κs. search needs) (λ c κs. room (c .before) .room) same-length returns)
+    tie.close (tie.spec (λ c. search needs) (λ c. search needs) (λ c κs. search needs) (λ c κs. room (c .before) .room)
+    (λ c. let b = c .before .before in roomy-more (room (b .before .before)) (b .bytes .ensures) .1 .1)
+    (λ c. let b = c .before .before in roomy-more (room (b .before .before)) (b .bytes .ensures)))

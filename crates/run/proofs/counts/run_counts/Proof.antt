@@ -1,10 +1,8 @@
 -- `run::counts::run_counts` meets its contract: the records of the run are written as numbers, by `Counting.antt`.
--- Assumes nothing.
-use mathlib.Core.Path.{refl}
-use borrow.Author.Needs.{needs}
+use Rattle.learning.proofs.Words.{refl, needs}
 use Rattle.run.proofs.Counting.{counted}
-use Rattle.run.proofs.counts.run_counts.Statement.{statement}
-use Rattle.run.proofs.counts.run_counts.Tie as tie
+use Rattle.run.proofs.counts.run_counts as f
+use f.Tie as tie
 
 returns : tie.Need-returns
 returns c =
@@ -12,7 +10,5 @@ returns c =
     let filed = put .before .before .before .before .before .before in
     counted _ _ _ _ _ _ _ _ _ (filed .before .run-filed .ensures) refl (put .put-all .ensures)
 
-pub run-counts-spec : {M : Type 1} → statement M
-run-counts-spec =
-    tie.close
-    (tie.spec (λ c κs. search needs) (λ c κs. search needs) (λ c. search needs) (λ c. search needs) (λ c. search needs) returns)
+pub run-counts-spec : {M : Type 1} → f.Statement.statement M
+run-counts-spec = tie.close (tie.spec (λ c κs. search needs) (λ c κs. search needs) (λ c. search needs) (λ c. search needs) (λ c. search needs) returns)

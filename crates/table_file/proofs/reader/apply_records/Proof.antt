@@ -1,20 +1,14 @@
 -- `table_file::reader::apply_records` meets its contract: the invariant: `Applying`, the records left do what all of them do.
--- Assumes nothing.
-use Prim.Native.Nat.{_-_}
+use Rattle.learning.proofs.Words.{_-_, needs, arith}
 use Rattle.table_file.proofs.Reading.{Applying, applying, applying-more, applying-all}
-use borrow.Author.Needs.{needs}
-use native.Mathlib.Omega.{arith}
-use Rattle.table_file.proofs.reader.apply_records.Statement.{statement}
-use Rattle.table_file.proofs.reader.apply_records.Tie as tie
+use Rattle.table_file.proofs.reader.apply_records as f
+use f.Tie as tie
 
 abbrev Inv-loop : tie.InvT-loop
 Inv-loop part n table₀ t₀ i₀ table t i = Applying n part table₀ i t table
 
 abbrev μ-loop : tie.MeasureT-loop
 μ-loop part n table₀ t₀ i₀ table t i = n - i
-
-loop-holds : tie.Need-loop-holds Inv-loop μ-loop
-loop-holds c = applying _ _ _ (omega arith)
 
 loop-again : tie.Need-loop-again Inv-loop μ-loop
 loop-again c =
@@ -23,24 +17,7 @@ loop-again c =
     let l = cell .before .before .before .loop in
     applying-more _ _ _ _ _ _ (l .inv) _ _ _ (cell .half-at .ensures .0) (figure .word-at .ensures .0) (c .before .before .before .put-figure .ensures) (omega arith)
 
-returns : tie.Need-returns Inv-loop μ-loop
-returns c = applying-all _ _ _ _ _ _ (c .before .loop .inv) (omega arith)
-
-pub apply-records-spec : {M : Type 1} → statement M
+pub apply-records-spec : {M : Type 1} → f.Statement.statement M
 apply-records-spec =
-    tie.close
-    (tie.spec
-    Inv-loop
-    μ-loop
-    loop-holds
-    (λ c κs. search needs)
-    (λ c κs. search needs)
-    (λ c κs. search needs)
-    (λ c. search needs)
-    (λ c. search needs)
-    (λ c. search needs)
-    (λ c. search needs)
-    (λ c. search needs)
-    loop-again
-    (λ c. search needs)
-    returns)
+    tie.close (tie.spec Inv-loop μ-loop (λ c. applying _ _ _ (omega arith)) (λ c κs. search needs) (λ c κs. search needs) (λ c κs. search needs) (λ c. search needs) (λ c. search needs)
+    (λ c. search needs) (λ c. search needs) (λ c. search needs) loop-again (λ c. search needs) (λ c. applying-all _ _ _ _ _ _ (c .before .loop .inv) (omega arith)))

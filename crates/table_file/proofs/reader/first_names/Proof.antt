@@ -1,13 +1,10 @@
 -- `table_file::reader::first_names` meets its contract: each test is a field of `FirstSame`.
--- Assumes nothing.
-use mathlib.Core.Path.{refl, sym, _∙_}
-use native.Mathlib.Omega.{arith}
-use borrow.Author.Needs.{needs}
+use Rattle.learning.proofs.Words.{refl, sym, _∙_, arith, needs}
 use Rattle.model.proofs.Accepted.{eq-tells, refuted, same-told}
 use Rattle.model.proofs.Benches.{goal-at}
 use Rattle.model.proofs.Files.{first-names}
-use Rattle.table_file.proofs.reader.first_names.Statement.{statement}
-use Rattle.table_file.proofs.reader.first_names.Tie as tie
+use Rattle.table_file.proofs.reader.first_names as f
+use f.Tie as tie
 
 -- the places: once the height is this job's, and the width, and at the start
 abbrev at-height : tie.After-half-at → tie.Else2
@@ -44,17 +41,7 @@ returns-4 c bytes =
     })
     (λ s. half .half-at .ensures .0 ∙ (s .goal ∙ first))
 
-pub first-names-spec : {M : Type 1} → statement M
+pub first-names-spec : {M : Type 1} → f.Statement.statement M
 first-names-spec =
-    tie.close
-    (tie.spec
-    (λ c. search needs)
-    (λ c κs. search needs)
-    returns
-    (λ c. search needs)
-    (λ c κs. search needs)
-    returns-2
-    (λ c κs. search needs)
-    returns-3
-    (λ c κs. search needs)
+    tie.close (tie.spec (λ c. search needs) (λ c κs. search needs) returns (λ c. search needs) (λ c κs. search needs) returns-2 (λ c κs. search needs) returns-3 (λ c κs. search needs)
     returns-4)

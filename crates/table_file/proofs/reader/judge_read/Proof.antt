@@ -1,9 +1,6 @@
 -- `table_file::reader::judge_read` meets its contract: one check after another, and the first refusal stands.
--- Once checks are passed, an answer that is what the rest says is what they and the rest say: `past-..`. Assumes nothing.
-use mathlib.Core.Path.{_≡_, refl, sym, _∙_}
-use mathlib.Core.Bool.{true}
-use denote.Ref.{now}
-use borrow.Author.Tests.{not-true, not-false}
+-- Once checks are passed, an answer that is what the rest says is what they and the rest say: `past-..`.
+use Rattle.learning.proofs.Words.{_≡_, refl, sym, _∙_, true, now, not-true, not-false, needs, arith}
 use Rattle.answers.specs.declared.Verdict.{Verdict}
 use Rattle.model.specs.Basics.{then}
 use Rattle.model.specs.Opening.{openTable}
@@ -12,10 +9,8 @@ use Rattle.model.proofs.Accepted.{then-refused, then-stops, then-goes}
 use Rattle.model.proofs.Files.{ahead-judges}
 use Rattle.table_file.specs.Site.{floorAt}
 use Rattle.table_file.proofs.Reading.{opened, points, check-done, check-refused, records-long, judged-by}
-use borrow.Author.Needs.{needs}
-use native.Mathlib.Omega.{arith}
-use Rattle.table_file.proofs.reader.judge_read.Statement.{statement}
-use Rattle.table_file.proofs.reader.judge_read.Tie as tie
+use Rattle.table_file.proofs.reader.judge_read as f
+use f.Tie as tie
 
 -- the places: at the start, once the table is opened, once the trailer holds, and once nothing stands ahead
 abbrev at-start : tie.After-enum-told → tie.Start
@@ -84,25 +79,8 @@ returns-5 c =
     (then-goes _ (same .before .before .same-job .ensures (now (at-start (at-opened (at-trailer whole)) .args .floor))) (same .enum-told3 .given .1)
     (judged-by _ _ _ _ _ _ _ (c .judge-records .ensures) (c .before .before .count-in .ensures .0) (c .before .find-records .ensures .0)))
 
-pub judge-read-spec : {M : Type 1} → statement M
+pub judge-read-spec : {M : Type 1} → f.Statement.statement M
 judge-read-spec =
-    tie.close
-    (tie.spec
-    (λ c κs. search needs)
-    (λ c. search needs)
-    (λ c. search needs)
-    returns
-    (λ c κs. search needs)
-    (λ c κs. search needs)
-    returns-2
-    (λ c κs. omega (arith, points _ (holds c) .room))
-    (λ c κs. search needs)
-    returns-3
-    (λ c κs. holds (at-trailer c))
-    (λ c. search needs)
-    (λ c. search needs)
-    returns-4
-    (λ c κs. omega (arith, points _ (holds (at-trailer (at-whole c))) .room))
-    (λ c κs. search needs)
-    judge-records-requires
-    returns-5)
+    tie.close (tie.spec (λ c κs. search needs) (λ c. search needs) (λ c. search needs) returns (λ c κs. search needs) (λ c κs. search needs) returns-2
+    (λ c κs. omega (arith, points _ (holds c) .room)) (λ c κs. search needs) returns-3 (λ c κs. holds (at-trailer c)) (λ c. search needs) (λ c. search needs) returns-4
+    (λ c κs. omega (arith, points _ (holds (at-trailer (at-whole c))) .room)) (λ c κs. search needs) judge-records-requires returns-5)

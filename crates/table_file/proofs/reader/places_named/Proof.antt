@@ -1,17 +1,12 @@
 -- `table_file::reader::places_named` meets its contract. The invariant: the goal places passed are this job's.
--- Assumes nothing.
-use Prim.Native.Nat.{ℕ, _+_, _-_, _*_, _<_}
-use mathlib.Core.Path.{_≡_, sym, _∙_}
-use native.Mathlib.Omega.{arith}
-use borrow.Author.Needs.{needs}
-use borrow.Author.Count.{below-more}
+use Rattle.learning.proofs.Words.{ℕ, _+_, _-_, _*_, _<_, _≡_, sym, _∙_, arith, needs, below-more}
 use Rattle.model.specs.Checks.{mostGoals}
 use Rattle.model.specs.Floor.{goalsOf}
 use Rattle.model.specs.TableFile.{halfAt, goalPlace}
 use Rattle.model.proofs.Files.{places-named}
 use Rattle.model.proofs.Accepted.{refuted}
-use Rattle.table_file.proofs.reader.places_named.Statement.{statement}
-use Rattle.table_file.proofs.reader.places_named.Tie as tie
+use Rattle.table_file.proofs.reader.places_named as f
+use f.Tie as tie
 
 abbrev Inv-loop : tie.InvT-loop
 Inv-loop goals t i₀ i = (k : ℕ) → k < i → halfAt t (4 + 2 * k) ≡ goalPlace (goalsOf goals) k
@@ -30,22 +25,7 @@ loop-again c =
     let l = half .before .before .loop in
     below-more _ (l .i) (l .inv) (sym (half .half-at .ensures .0) ∙ (c .if1 .left ∙ c .before .goal-place .ensures))
 
-returns-2 : tie.Need-returns-2 Inv-loop μ-loop
-returns-2 c = sym (places-named _ _ .shown (λ k h. c .before .loop .inv k (omega arith)))
-
-pub places-named-spec : {M : Type 1} → statement M
+pub places-named-spec : {M : Type 1} → f.Statement.statement M
 places-named-spec =
-    tie.close
-    (tie.spec
-    Inv-loop
-    μ-loop
-    (λ c k h. absurd (omega arith))
-    (λ c. omega arith)
-    (λ c. omega arith)
-    (λ c κs. search needs)
-    (λ c κs. search needs)
-    returns
-    (λ c. omega arith)
-    (λ c. omega arith)
-    loop-again
-    returns-2)
+    tie.close (tie.spec Inv-loop μ-loop (λ c k h. absurd (omega arith)) (λ c. omega arith) (λ c. omega arith) (λ c κs. search needs) (λ c κs. search needs) returns (λ c. omega arith)
+    (λ c. omega arith) loop-again (λ c. sym (places-named _ _ .shown (λ k h. c .before .loop .inv k (omega arith)))))

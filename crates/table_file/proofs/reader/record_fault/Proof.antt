@@ -1,17 +1,11 @@
 -- `table_file::reader::record_fault` meets its contract: a record is `Faulty` by the test that it fails, and `Lawful` where it passes all.
--- Assumes nothing.
-use Prim.Native.Nat.{_<_}
-use mathlib.Core.Bool.{Bool, true}
-use mathlib.Core.Path.{_≡_, sym, ap, _∙_}
-use borrow.Author.Tests.{not-true, not-false}
+use Rattle.learning.proofs.Words.{_<_, Bool, true, _≡_, sym, ap, _∙_, not-true, not-false, needs, arith}
 use Rattle.model.specs.Floor.{free, opening}
 use Rattle.model.specs.TableFile.{cellIn, figureIn}
 use Rattle.model.proofs.Files.{no-fault, faulty-is, off-the-floor, blocked, not-above-before, not-above-opening, above-ceiling}
 use Rattle.table_file.specs.Site.{floorAt, goalsAt}
-use borrow.Author.Needs.{needs}
-use native.Mathlib.Omega.{arith}
-use Rattle.table_file.proofs.reader.record_fault.Statement.{statement}
-use Rattle.table_file.proofs.reader.record_fault.Tie as tie
+use Rattle.table_file.proofs.reader.record_fault as f
+use f.Tie as tie
 
 -- the call's start, from where the cell was looked at; and that place, from where the figure is compared
 abbrev to-start : tie.After-is-free → tie.Start
@@ -29,12 +23,6 @@ opens : (e : tie.After-opening) → let a = to-start (to-cell e) .args in openin
 opens e =
     let cell = to-cell e .before .before .before in
     ap (opening _ _ _) (sym (cell .half-at .ensures .0)) ∙ sym (e .opening .ensures (to-start (to-cell e) .args .floor .now))
-
-returns : tie.Need-returns
-returns c = sym (faulty-is _ _ _ _ _ (off-the-floor (omega arith)))
-
-returns-2 : tie.Need-returns-2
-returns-2 c = sym (faulty-is _ _ _ _ _ (blocked (omega arith) (open-cell (c .before) _ (not-true _ (c .if2 .taken)))))
 
 returns-3 : tie.Need-returns-3
 returns-3 c = sym (faulty-is _ _ _ _ _ (not-above-before (omega arith) (open-cell (c .before .before) _ (not-false _ (c .before .if2 .left))) (omega arith)))
@@ -61,18 +49,8 @@ returns-6 c =
     let e = c .before .before in
     sym (no-fault _ _ _ _ _ (record { inside = omega arith; open-cell = free-there e; rising = omega arith; above = higher e (omega arith); within = omega arith }))
 
-pub record-fault-spec : {M : Type 1} → statement M
+pub record-fault-spec : {M : Type 1} → f.Statement.statement M
 record-fault-spec =
-    tie.close
-    (tie.spec
-    (λ c κs. search needs)
-    (λ c. search needs)
-    returns
-    (λ c κs. search needs)
-    returns-2
-    returns-3
-    (λ c κs. search needs)
-    (λ c κs. search needs)
-    returns-4
-    returns-5
-    returns-6)
+    tie.close (tie.spec (λ c κs. search needs) (λ c. search needs) (λ c. sym (faulty-is _ _ _ _ _ (off-the-floor (omega arith)))) (λ c κs. search needs)
+    (λ c. sym (faulty-is _ _ _ _ _ (blocked (omega arith) (open-cell (c .before) _ (not-true _ (c .if2 .taken)))))) returns-3 (λ c κs. search needs) (λ c κs. search needs) returns-4
+    returns-5 returns-6)

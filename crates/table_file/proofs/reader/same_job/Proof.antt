@@ -1,15 +1,9 @@
 -- `table_file::reader::same_job` meets its contract: by what the trailer names, then by its q.
--- Assumes nothing.
-use mathlib.Core.Path.{_≡_, refl, sym, _∙_, ap}
-use native.Mathlib.Omega.{arith}
-use borrow.Author.Needs.{needs}
-use borrow.Author.Tests.{not-true, not-false, eq-eqb, ne-eqb}
-use denote.Ref.{now}
-use lib.ListN.{getD}
+use Rattle.learning.proofs.Words.{_≡_, refl, sym, _∙_, ap, arith, needs, not-true, not-false, eq-eqb, ne-eqb, now, getD}
 use Rattle.model.specs.TableFile.{scaleIn}
 use Rattle.table_file.proofs.Reading.{points, same-is}
-use Rattle.table_file.proofs.reader.same_job.Statement.{statement}
-use Rattle.table_file.proofs.reader.same_job.Tie as tie
+use Rattle.table_file.proofs.reader.same_job as f
+use f.Tie as tie
 
 -- the call's start, from where q is read; and that it is the trailer's
 abbrev at-named : tie.After-wide8 → tie.Else1
@@ -37,16 +31,7 @@ returns-3 c bytes =
     let n = at-named q in
     sym (same-is _ _ _ _ (sym (n .before .names .ensures bytes) ∙ not-false _ (n .if1 .left)) (eq-eqb _ _ (sym (scale-is q) ∙ c .if2 .left)))
 
-pub same-job-spec : {M : Type 1} → statement M
+pub same-job-spec : {M : Type 1} → f.Statement.statement M
 same-job-spec =
-    tie.close
-    (tie.spec
-    (λ c κs. search needs)
-    (λ c κs. search needs)
-    returns
-    (λ c κs. omega (arith, points _ (at-start c .pre) .room))
-    (λ c. search needs)
-    (λ c κs. search needs)
-    (λ c κs. search needs)
-    returns-2
-    returns-3)
+    tie.close (tie.spec (λ c κs. search needs) (λ c κs. search needs) returns (λ c κs. omega (arith, points _ (at-start c .pre) .room)) (λ c. search needs) (λ c κs. search needs)
+    (λ c κs. search needs) returns-2 returns-3)

@@ -1,11 +1,9 @@
 -- `table_file::reader::second_names` meets its contract: each test is a field of `SecondSame`.
--- Assumes nothing.
-use mathlib.Core.Path.{sym, _∙_}
-use borrow.Author.Needs.{needs}
+use Rattle.learning.proofs.Words.{sym, _∙_, needs}
 use Rattle.model.proofs.Files.{places-named, second-names}
 use Rattle.model.proofs.Accepted.{refuted, same-told}
-use Rattle.table_file.proofs.reader.second_names.Statement.{statement}
-use Rattle.table_file.proofs.reader.second_names.Tie as tie
+use Rattle.table_file.proofs.reader.second_names as f
+use f.Tie as tie
 
 -- the places: once the height is this job's, and the width
 abbrev at-height : tie.Else3 → tie.Else2
@@ -38,19 +36,7 @@ returns-4 c bytes =
     })
     (λ s. s .places)
 
-pub second-names-spec : {M : Type 1} → statement M
+pub second-names-spec : {M : Type 1} → f.Statement.statement M
 second-names-spec =
-    tie.close
-    (tie.spec
-    (λ c. search needs)
-    (λ c κs. search needs)
-    returns
-    (λ c. search needs)
-    (λ c κs. search needs)
-    returns-2
-    (λ c. search needs)
-    (λ c κs. search needs)
-    (λ c κs. search needs)
-    returns-3
-    (λ c κs. search needs)
-    returns-4)
+    tie.close (tie.spec (λ c. search needs) (λ c κs. search needs) returns (λ c. search needs) (λ c κs. search needs) returns-2 (λ c. search needs) (λ c κs. search needs)
+    (λ c κs. search needs) returns-3 (λ c κs. search needs) returns-4)

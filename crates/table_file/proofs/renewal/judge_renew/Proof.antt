@@ -1,18 +1,13 @@
--- `table_file::renewal::judge_renew` meets its contract: the trailer's check, then the room. Assumes nothing.
-use mathlib.Core.Path.{_≡_, sym, _∙_}
-use mathlib.Core.Bool.{true}
-use denote.Ref.{now}
-use borrow.Author.Tests.{not-true, not-false}
+-- `table_file::renewal::judge_renew` meets its contract: the trailer's check, then the room.
+use Rattle.learning.proofs.Words.{_≡_, sym, _∙_, true, now, not-true, not-false, needs, arith}
 use Rattle.model.specs.TableFile.{trailerHolds}
 use Rattle.model.specs.Renewal.{renewVerdict}
 use Rattle.model.proofs.Accepted.{then-refused, then-next}
 use Rattle.model.proofs.Writings.{room-judges}
 use Rattle.table_file.proofs.Reading.{points, check-done, check-refused}
 use Rattle.table_file.proofs.Renewing.{renewed-bytes}
-use borrow.Author.Needs.{needs}
-use native.Mathlib.Omega.{arith}
-use Rattle.table_file.proofs.renewal.judge_renew.Statement.{statement}
-use Rattle.table_file.proofs.renewal.judge_renew.Tie as tie
+use Rattle.table_file.proofs.renewal.judge_renew as f
+use f.Tie as tie
 
 holds : (e : tie.Else1) → trailerHolds (now (e .before .before .before .args .file)) ≡ true
 holds e = sym (e .before .trailer-holds .ensures) ∙ not-false _ (e .if1 .left)
@@ -36,16 +31,7 @@ returns-3 c =
     let held = holds (counted .before) in
     sym (then-next _ (check-done _ held) ∙ room-judges _ _ .done (omega (arith, renewed-bytes _ held, counted .count-in .ensures .0, c .if2 .left)))
 
-pub judge-renew-spec : {M : Type 1} → statement M
+pub judge-renew-spec : {M : Type 1} → f.Statement.statement M
 judge-renew-spec =
-    tie.close
-    (tie.spec
-    (λ c κs. search needs)
-    (λ c κs. search needs)
-    returns
-    (λ c κs. omega (arith, points _ (holds c) .room))
-    (λ c. search needs)
-    (λ c. search needs)
-    (λ c κs. search needs)
-    returns-2
-    returns-3)
+    tie.close (tie.spec (λ c κs. search needs) (λ c κs. search needs) returns (λ c κs. omega (arith, points _ (holds c) .room)) (λ c. search needs) (λ c. search needs) (λ c κs. search needs)
+    returns-2 returns-3)

@@ -1,16 +1,11 @@
--- `table_file::renewal::put_renewed` meets its contract: edition 1's job is put anew, edition 2's trailer copied. Assumes nothing.
-use Prim.Native.Nat.{ℕ}
-use mathlib.Core.Path.{_∙_, ap, sym}
-use mathlib.Core.List.{List}
-use denote.Ref.{now}
+-- `table_file::renewal::put_renewed` meets its contract: edition 1's job is put anew, edition 2's trailer copied.
+use Rattle.learning.proofs.Words.{ℕ, _∙_, ap, sym, List, now, needs, arith}
 use Rattle.notation.specs.Puts.{put}
 use Rattle.notation.proofs.Puts.{put-sets}
 use Rattle.table_file.proofs.Reading.{points, second-room}
 use Rattle.table_file.proofs.Renewing.{first-put, second-put}
-use borrow.Author.Needs.{needs}
-use native.Mathlib.Omega.{arith}
-use Rattle.table_file.proofs.renewal.put_renewed.Statement.{statement}
-use Rattle.table_file.proofs.renewal.put_renewed.Tie as tie
+use Rattle.table_file.proofs.renewal.put_renewed as f
+use f.Tie as tie
 
 returns : tie.Need-returns
 returns c =
@@ -37,17 +32,9 @@ returns-2 c =
     ∙ (put-sets (a .at) (now (trailer .trailer-of .result)) (now (a .out)) (omega (arith, start .pre .1, trailer .trailer-of .ensures .1))
     ∙ ap (λ (l : List ℕ). put (a .at) l (now (a .out))) (t ∙ second-put _ (start .pre .0) (λ one. other .if1 .left (other .before .edition-in .ensures ∙ one))))
 
-pub put-renewed-spec : {M : Type 1} → statement M
+pub put-renewed-spec : {M : Type 1} → f.Statement.statement M
 put-renewed-spec =
-    tie.close
-    (tie.spec
-    (λ c κs. omega (arith, points _ (c .before .before .pre .0) .room))
-    (λ c κs. omega (arith, points _ (c .before .before .before .before .before .pre .0) .room))
-    (λ c κs. omega (arith, points _ (c .before .before .before .before .before .before .pre .0) .room))
-    (λ c κs. search needs)
-    (λ c. search needs)
-    returns
-    (λ c κs. second-room _ (c .before .before .before .before .before .pre .0) (λ one. c .before .if1 .left (c .before .before .edition-in .ensures ∙ one)))
-    (λ c κs. search needs)
-    (λ c. search needs)
-    returns-2)
+    tie.close (tie.spec (λ c κs. omega (arith, points _ (c .before .before .pre .0) .room)) (λ c κs. omega (arith, points _ (c .before .before .before .before .before .pre .0) .room))
+    (λ c κs. omega (arith, points _ (c .before .before .before .before .before .before .pre .0) .room)) (λ c κs. search needs) (λ c. search needs) returns
+    (λ c κs. second-room _ (c .before .before .before .before .before .pre .0) (λ one. c .before .if1 .left (c .before .before .edition-in .ensures ∙ one))) (λ c κs. search needs)
+    (λ c. search needs) returns-2)

@@ -1,19 +1,12 @@
 -- `table_file::renewal::renew_file` meets its contract: a refusal leaves the buffer; else the records and edition 2's trailer are the renewed file.
--- Assumes nothing.
-use mathlib.Core.Path.{_≡_, sym, _∙_, ap}
-use mathlib.Core.Bool.{true}
-use Prim.Native.Nat.{_+_, _*_, _≤_}
-use denote.Ref.{now}
-use lib.ListN.{length}
+use Rattle.learning.proofs.Words.{_≡_, sym, _∙_, ap, true, _+_, _*_, _≤_, now, length, needs, arith}
 use Rattle.model.specs.TableFile.{secondLong, countIn, trailerHolds}
 use Rattle.model.specs.Renewal.{renewFile}
 use Rattle.model.proofs.Files.{trailer-tells, found-long}
 use Rattle.model.proofs.Writings.{writes-refused, writes-done}
 use Rattle.table_file.proofs.Renewing.{renew-gives, renewed-put}
-use borrow.Author.Needs.{needs}
-use native.Mathlib.Omega.{arith}
-use Rattle.table_file.proofs.renewal.renew_file.Statement.{statement}
-use Rattle.table_file.proofs.renewal.renew_file.Tie as tie
+use Rattle.table_file.proofs.renewal.renew_file as f
+use f.Tie as tie
 
 -- the places: at the start, once the checks are passed, and once the records are found
 abbrev at-start : tie.After-enum-told → tie.Start
@@ -28,9 +21,6 @@ passed e = renew-gives _ _ (sym (e .before .before .judge-renew .ensures) ∙ e 
 
 part-long : (e : tie.After-find-records) → length (now (e .find-records .result)) ≡ 6 * countIn (now (at-start (at-passed e) .args .file))
 part-long e = ap length (e .find-records .ensures .0) ∙ found-long _ (trailer-tells _ .holds (passed (at-passed e) .0))
-
-bytes-requires : tie.Need-bytes-requires
-bytes-requires c κs = omega (arith, part-long c, passed (at-passed c) .1)
 
 put-renewed-requires : tie.Need-put-renewed-requires
 put-renewed-requires c κs =
@@ -54,17 +44,7 @@ returns-2 c =
     let whole = renewed-put _ (p .0) _ _ _ _ _ (found .find-records .ensures .0) (omega (arith, part-long found, p .1)) (printed .bytes .ensures) (put .put-renewed .ensures) in
     writes-done _ _ (checked .before .before .judge-renew .ensures) _ _ (checked .enum-told .given .1) (whole .0) (whole .1)
 
-pub renew-file-spec : {M : Type 1} → statement M
+pub renew-file-spec : {M : Type 1} → f.Statement.statement M
 renew-file-spec =
-    tie.close
-    (tie.spec
-    (λ c κs. search needs)
-    (λ c. search needs)
-    (λ c. search needs)
-    (λ c κs. search needs)
-    bytes-requires
-    put-renewed-requires
-    (λ c. search needs)
-    returns
-    (λ c. search needs)
-    returns-2)
+    tie.close (tie.spec (λ c κs. search needs) (λ c. search needs) (λ c. search needs) (λ c κs. search needs) (λ c κs. omega (arith, part-long c, passed (at-passed c) .1))
+    put-renewed-requires (λ c. search needs) returns (λ c. search needs) returns-2)

@@ -1,13 +1,9 @@
--- `table_file::renewal::site_in` meets its contract: each field is a byte, or two, of the trailer. Assumes nothing.
-use Prim.Native.Nat.{ℕ}
-use mathlib.Core.Path.{_∙_, ap}
-use mathlib.Core.List.{List}
-use lib.ListN.{getD}
+-- `table_file::renewal::site_in` meets its contract: each field is a byte, or two, of the trailer.
+use Rattle.learning.proofs.Words.{ℕ, _∙_, ap, List, getD, needs}
 use Rattle.model.specs.Floor.{oneGoal}
 use Rattle.model.specs.TableFile.{halfAt}
-use borrow.Author.Needs.{needs}
-use Rattle.table_file.proofs.renewal.site_in.Statement.{statement}
-use Rattle.table_file.proofs.renewal.site_in.Tie as tie
+use Rattle.table_file.proofs.renewal.site_in as f
+use f.Tie as tie
 
 returns : tie.Need-returns
 returns c =
@@ -32,18 +28,7 @@ returns c =
       q .1,
     )
 
-pub site-in-spec : {M : Type 1} → statement M
+pub site-in-spec : {M : Type 1} → f.Statement.statement M
 site-in-spec =
-    tie.close
-    (tie.spec
-    (λ c κs. search needs)
-    (λ c κs. search needs)
-    (λ c. search needs)
-    (λ c κs. search needs)
-    (λ c. search needs)
-    (λ c κs. search needs)
-    (λ c κs. search needs)
-    (λ c κs. search needs)
-    (λ c. search needs)
-    (λ c κs. search needs)
-    returns)
+    tie.close (tie.spec (λ c κs. search needs) (λ c κs. search needs) (λ c. search needs) (λ c κs. search needs) (λ c. search needs) (λ c κs. search needs) (λ c κs. search needs)
+    (λ c κs. search needs) (λ c. search needs) (λ c κs. search needs) returns)

@@ -1,17 +1,13 @@
 -- `table_file::trailer::check_trailer` meets its contract: by its test.
--- Assumes nothing.
-use mathlib.Core.Path.{sym, _∙_, ap}
+use Rattle.learning.proofs.Words.{sym, _∙_, ap, needs}
 use Rattle.answers.specs.Says.{saysVerdict}
 use Rattle.table_file.proofs.Reading.{check-done, check-refused}
-use borrow.Author.Needs.{needs}
-use Rattle.table_file.proofs.trailer.check_trailer.Statement.{statement}
-use Rattle.table_file.proofs.trailer.check_trailer.Tie as tie
-
-returns : tie.Need-returns
-returns c = ap saysVerdict (sym (check-done _ (sym (c .before .trailer-holds .ensures) ∙ c .if1 .taken)))
+use Rattle.table_file.proofs.trailer.check_trailer as f
+use f.Tie as tie
 
 returns-2 : tie.Need-returns-2
 returns-2 c = ap saysVerdict (c .refuse .ensures ∙ sym (check-refused _ (sym (c .before .before .trailer-holds .ensures) ∙ c .before .if1 .left)))
 
-pub check-trailer-spec : {M : Type 1} → statement M
-check-trailer-spec = tie.close (tie.spec (λ c κs. search needs) returns (λ c κs. search needs) returns-2)
+pub check-trailer-spec : {M : Type 1} → f.Statement.statement M
+check-trailer-spec =
+    tie.close (tie.spec (λ c κs. search needs) (λ c. ap saysVerdict (sym (check-done _ (sym (c .before .trailer-holds .ensures) ∙ c .if1 .taken)))) (λ c κs. search needs) returns-2)

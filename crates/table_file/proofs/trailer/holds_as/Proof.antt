@@ -1,16 +1,10 @@
 -- `table_file::trailer::holds_as` meets its contract: each test is a field of `Trailer`.
--- Assumes nothing.
-use mathlib.Core.Path.{_≡_, sym, _∙_, ap}
-use borrow.Author.Tests.{not-true, not-false}
-use denote.Ref.{now}
-use lib.ListN.{length}
+use Rattle.learning.proofs.Words.{_≡_, sym, _∙_, ap, not-true, not-false, now, length, needs, arith}
 use Rattle.model.specs.TableFile.{ending, isLetters}
 use Rattle.model.proofs.Accepted.{never, le-tells, refuted, same-told}
 use Rattle.model.proofs.Files.{holds-tells}
-use borrow.Author.Needs.{needs}
-use native.Mathlib.Omega.{arith}
-use Rattle.table_file.proofs.trailer.holds_as.Statement.{statement}
-use Rattle.table_file.proofs.trailer.holds_as.Tie as tie
+use Rattle.table_file.proofs.trailer.holds_as as f
+use f.Tie as tie
 
 -- the call's start, from the letters' test, and what that asks
 abbrev at-start : tie.After-is-letters → tie.Start
@@ -18,18 +12,6 @@ at-start e = e .before .before .before .before
 
 letters-are : (e : tie.After-is-letters) → e .is-letters .result ≡ isLetters (ending (now (at-start e .args .file)))
 letters-are e = e .is-letters .ensures ∙ ap isLetters (e .before .ending-of .ensures .0)
-
-returns : tie.Need-returns
-returns c = refuted (holds-tells _ _ _) (λ t. omega (arith, t .room))
-
-returns-2 : tie.Need-returns-2
-returns-2 c = refuted (holds-tells _ _ _) (λ t. never (t .letters) (sym (letters-are (c .before)) ∙ not-true _ (c .if2 .taken)))
-
-returns-3 : tie.Need-returns-3
-returns-3 c = refuted (holds-tells _ _ _) (λ t. c .if3 .taken (c .before .edition-in .ensures ∙ t .edition-is))
-
-returns-4 : tie.Need-returns-4
-returns-4 c = refuted (holds-tells _ _ _) (λ t. omega (arith, t .even))
 
 returns-5 : tie.Need-returns-5
 returns-5 c =
@@ -45,19 +27,9 @@ returns-5 c =
     })
     (λ t. omega (arith, t .within))
 
-pub holds-as-spec : {M : Type 1} → statement M
+pub holds-as-spec : {M : Type 1} → f.Statement.statement M
 holds-as-spec =
-    tie.close
-    (tie.spec
-    returns
-    (λ c κs. search needs)
-    (λ c κs. search needs)
-    returns-2
-    (λ c κs. search needs)
-    returns-3
-    (λ c κs. search needs)
-    (λ c κs. search needs)
-    (λ c. search needs)
-    (λ c. search needs)
-    returns-4
-    returns-5)
+    tie.close (tie.spec (λ c. refuted (holds-tells _ _ _) (λ t. omega (arith, t .room))) (λ c κs. search needs) (λ c κs. search needs)
+    (λ c. refuted (holds-tells _ _ _) (λ t. never (t .letters) (sym (letters-are (c .before)) ∙ not-true _ (c .if2 .taken)))) (λ c κs. search needs)
+    (λ c. refuted (holds-tells _ _ _) (λ t. c .if3 .taken (c .before .edition-in .ensures ∙ t .edition-is))) (λ c κs. search needs) (λ c κs. search needs) (λ c. search needs)
+    (λ c. search needs) (λ c. refuted (holds-tells _ _ _) (λ t. omega (arith, t .even))) returns-5)

@@ -1,15 +1,10 @@
 -- `table_file::trailer::second_holds` meets its contract: each test is a part of `Second`.
--- Assumes nothing.
-use mathlib.Core.Path.{sym, _∙_, ap}
-use borrow.Author.Tests.{not-true, not-false}
-use denote.Ref.{now}
-use lib.ListN.{getD}
+use Rattle.learning.proofs.Words.{sym, _∙_, ap, not-true, not-false, now, getD, needs}
 use Rattle.model.specs.TableFile.{secondLong}
 use Rattle.model.proofs.Accepted.{never, eq-tells, refuted, same-told}
 use Rattle.model.proofs.Files.{Trailer, holds-tells, second-tells}
-use borrow.Author.Needs.{needs}
-use Rattle.table_file.proofs.trailer.second_holds.Statement.{statement}
-use Rattle.table_file.proofs.trailer.second_holds.Tie as tie
+use Rattle.table_file.proofs.trailer.second_holds as f
+use f.Tie as tie
 
 returns : tie.Need-returns
 returns c = refuted (second-tells _) (λ t. never (holds-tells _ 2 secondLong .shown (t .0)) (sym (c .before .holds-as .ensures) ∙ not-true _ (c .if1 .taken)))
@@ -23,5 +18,5 @@ returns-2 c =
     let byte = ap (λ l. getD l 3 0) (t .trailer-of .ensures .0) in
     same-told (eq-tells _ 0) (second-tells _) (λ z. (holds (t .before), sym byte ∙ z)) (λ s. byte ∙ s .1)
 
-pub second-holds-spec : {M : Type 1} → statement M
+pub second-holds-spec : {M : Type 1} → f.Statement.statement M
 second-holds-spec = tie.close (tie.spec (λ c κs. search needs) returns (λ c κs. holds c .room) (λ c. search needs) returns-2)

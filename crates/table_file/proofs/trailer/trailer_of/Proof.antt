@@ -1,13 +1,8 @@
 -- `table_file::trailer::trailer_of` meets its contract: so many bytes are left from there on.
--- Assumes nothing.
-use mathlib.Core.Path.{_∙_, ap}
-use lib.ListN.{length, length-drop}
-use Prim.Native.Nat.{_-_}
+use Rattle.learning.proofs.Words.{_∙_, ap, length, length-drop, _-_, needs, arith}
 use Rattle.model.proofs.Parts.{rest}
-use borrow.Author.Needs.{needs}
-use native.Mathlib.Omega.{arith}
-use Rattle.table_file.proofs.trailer.trailer_of.Statement.{statement}
-use Rattle.table_file.proofs.trailer.trailer_of.Tie as tie
+use Rattle.table_file.proofs.trailer.trailer_of as f
+use f.Tie as tie
 
 returns : tie.Need-returns
 returns c =
@@ -16,6 +11,5 @@ returns c =
     let from = length file - a .long in
     (rest from file, ap length (rest from file) ∙ (length-drop from file ∙ omega arith))
 
-pub trailer-of-spec : {M : Type 1} → statement M
-trailer-of-spec =
-    tie.close (tie.spec (λ c. search needs) (λ c. search needs) (λ c. search needs) (λ c. search needs) returns)
+pub trailer-of-spec : {M : Type 1} → f.Statement.statement M
+trailer-of-spec = tie.close (tie.spec (λ c. search needs) (λ c. search needs) (λ c. search needs) (λ c. search needs) returns)

@@ -1,25 +1,16 @@
 -- `table_file::writer::count_changed` meets its contract: the invariant: `Counting`, n of the cells passed differ.
--- Assumes nothing.
-use Prim.Native.Nat.{_-_, _*_}
-use mathlib.Core.Path.{sym, _∙_}
-use mathlib.Core.Logic.{⊎-elim}
-use lib.ListN.{length}
+use Rattle.learning.proofs.Words.{_-_, _*_, sym, _∙_, ⊎-elim, length, needs, arith}
 use Rattle.table_file.specs.Site.{floorAt, goalsAt}
 use Rattle.model.proofs.Cells.{cells-le}
 use Rattle.table_file.proofs.Writing.{Counting, counting, counting-same, counting-more, counting-all}
-use borrow.Author.Needs.{needs}
-use native.Mathlib.Omega.{arith}
-use Rattle.table_file.proofs.writer.count_changed.Statement.{statement}
-use Rattle.table_file.proofs.writer.count_changed.Tie as tie
+use Rattle.table_file.proofs.writer.count_changed as f
+use f.Tie as tie
 
 abbrev Inv-loop : tie.InvT-loop
 Inv-loop site floor table n₀ x₀ n x = Counting (floorAt site floor) (site .q) (goalsAt site) table (site .width * site .height) n x
 
 abbrev μ-loop : tie.MeasureT-loop
 μ-loop site floor table n₀ x₀ n x = length table - x
-
-loop-holds : tie.Need-loop-holds Inv-loop μ-loop
-loop-holds c = counting _ _ _ _ _
 
 loop-again : tie.Need-loop-again Inv-loop μ-loop
 loop-again c =
@@ -36,19 +27,7 @@ returns c =
     let z = c .before .before .before .before .pre .0 .sized in
     (counting-all _ _ _ _ _ _ _ (c .before .loop .inv) (omega arith), omega (arith, cells-le _ _ (z .narrow) (z .low)))
 
-pub count-changed-spec : {M : Type 1} → statement M
+pub count-changed-spec : {M : Type 1} → f.Statement.statement M
 count-changed-spec =
-    tie.close
-    (tie.spec
-    Inv-loop
-    μ-loop
-    loop-holds
-    (λ c. search needs)
-    (λ c. search needs)
-    (λ c κs. search needs)
-    (λ c κs. search needs)
-    (λ c. search needs)
-    (λ c. search needs)
-    (λ c. search needs)
-    loop-again
-    returns)
+    tie.close (tie.spec Inv-loop μ-loop (λ c. counting _ _ _ _ _) (λ c. search needs) (λ c. search needs) (λ c κs. search needs) (λ c κs. search needs) (λ c. search needs)
+    (λ c. search needs) (λ c. search needs) loop-again returns)

@@ -1,16 +1,10 @@
 -- `table_file::writer::judge_unlike` meets its contract: the invariant: no cell passed is unlike.
--- Assumes nothing.
-use Prim.Native.Nat.{_-_, _≤_}
-use mathlib.Core.Path.{sym, _∙_}
-use borrow.Author.Count.{below-more}
-use lib.ListN.{length}
+use Rattle.learning.proofs.Words.{_-_, _≤_, sym, _∙_, below-more, length, needs, arith}
 use Rattle.table_file.specs.Site.{floorAt, goalsAt}
 use Rattle.model.specs.TableFile.{unlike}
 use Rattle.model.proofs.Accepted.{NoneBelow, naming-names, naming-done}
-use borrow.Author.Needs.{needs}
-use native.Mathlib.Omega.{arith}
-use Rattle.table_file.proofs.writer.judge_unlike.Statement.{statement}
-use Rattle.table_file.proofs.writer.judge_unlike.Tie as tie
+use Rattle.table_file.proofs.writer.judge_unlike as f
+use f.Tie as tie
 
 abbrev Inv-loop : tie.InvT-loop
 Inv-loop site floor table x₀ x = (x ≤ length table) × NoneBelow (unlike (floorAt site floor) (site .q) (goalsAt site) table) x
@@ -18,31 +12,13 @@ Inv-loop site floor table x₀ x = (x ≤ length table) × NoneBelow (unlike (fl
 abbrev μ-loop : tie.MeasureT-loop
 μ-loop site floor table x₀ x = length table - x
 
-loop-holds : tie.Need-loop-holds Inv-loop μ-loop
-loop-holds c = (omega arith, λ k h. absurd (omega arith))
-
 returns : tie.Need-returns Inv-loop μ-loop
 returns c =
     let l = c .before .before .before .before .loop in
     c .refuse-at .ensures ∙ sym (naming-names _ _ 16 _ (omega arith) (l .inv .1) (sym (c .before .before .is-unlike .ensures) ∙ c .before .if1 .taken))
 
-loop-again : tie.Need-loop-again Inv-loop μ-loop
-loop-again c = (omega arith, below-more _ _ (c .before .before .before .loop .inv .1) (sym (c .before .is-unlike .ensures) ∙ c .if1 .left))
-
-returns-2 : tie.Need-returns-2 Inv-loop μ-loop
-returns-2 c = sym (naming-done _ _ 16 (λ k h. c .before .loop .inv .1 k (omega arith)))
-
-pub judge-unlike-spec : {M : Type 1} → statement M
+pub judge-unlike-spec : {M : Type 1} → f.Statement.statement M
 judge-unlike-spec =
-    tie.close
-    (tie.spec
-    Inv-loop
-    μ-loop
-    loop-holds
-    (λ c κs. search needs)
-    (λ c κs. search needs)
-    returns
-    (λ c. search needs)
-    (λ c. search needs)
-    loop-again
-    returns-2)
+    tie.close (tie.spec Inv-loop μ-loop (λ c. (omega arith, λ k h. absurd (omega arith))) (λ c κs. search needs) (λ c κs. search needs) returns (λ c. search needs) (λ c. search needs)
+    (λ c. (omega arith, below-more _ _ (c .before .before .before .loop .inv .1) (sym (c .before .is-unlike .ensures) ∙ c .if1 .left)))
+    (λ c. sym (naming-done _ _ 16 (λ k h. c .before .loop .inv .1 k (omega arith)))))

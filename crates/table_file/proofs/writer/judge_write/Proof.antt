@@ -1,8 +1,6 @@
 -- `table_file::writer::judge_write` meets its contract: one check after another, and the first refusal stands.
--- Once checks are passed, an answer that is what the rest says is what they and the rest say: `past-..`. Assumes nothing.
-use mathlib.Core.Path.{_≡_, sym, _∙_}
-use denote.Ref.{now}
-use lib.ListN.{length}
+-- Once checks are passed, an answer that is what the rest says is what they and the rest say: `past-..`.
+use Rattle.learning.proofs.Words.{_≡_, sym, _∙_, now, length, needs, arith}
 use Rattle.answers.specs.declared.Verdict.{Verdict}
 use Rattle.model.specs.Basics.{then, naming}
 use Rattle.model.specs.Floor.{size}
@@ -14,10 +12,8 @@ use Rattle.table_file.specs.Site.{floorAt, goalsAt}
 use Rattle.table_file.specs.Promises.{Opened}
 use Rattle.table_file.proofs.Reading.{opened}
 use Rattle.table_file.proofs.Writing.{no-room, roomy, ample}
-use borrow.Author.Needs.{needs}
-use native.Mathlib.Omega.{arith}
-use Rattle.table_file.proofs.writer.judge_write.Statement.{statement}
-use Rattle.table_file.proofs.writer.judge_write.Tie as tie
+use Rattle.table_file.proofs.writer.judge_write as f
+use f.Tie as tie
 
 -- the places: at the start, once the table is opened, its figures are within the ceiling, and none is unlike
 abbrev at-start : tie.After-enum-told → tie.Start
@@ -78,28 +74,8 @@ returns-6 : tie.Need-returns-6
 unfolding writeVerdict
 returns-6 c = let counted = c .before in past-unlike (counted .before .before) (sym (roomy _ _ _ _ _ _ (counted .count-changed .ensures .0) (omega arith)))
 
-pub judge-write-spec : {M : Type 1} → statement M
+pub judge-write-spec : {M : Type 1} → f.Statement.statement M
 judge-write-spec =
-    tie.close
-    (tie.spec
-    (λ c κs. search needs)
-    (λ c. search needs)
-    (λ c. search needs)
-    returns
-    (λ c κs. search needs)
-    (λ c. search needs)
-    (λ c. search needs)
-    returns-2
-    (λ c κs. open-table (at-opened c))
-    (λ c. search needs)
-    (λ c. search needs)
-    returns-3
-    (λ c. search needs)
-    (λ c. search needs)
-    returns-4
-    (λ c κs. open-table (at-opened (at-within (c .before))))
-    (λ c. search needs)
-    (λ c. search needs)
-    (λ c κs. search needs)
-    returns-5
-    returns-6)
+    tie.close (tie.spec (λ c κs. search needs) (λ c. search needs) (λ c. search needs) returns (λ c κs. search needs) (λ c. search needs) (λ c. search needs) returns-2
+    (λ c κs. open-table (at-opened c)) (λ c. search needs) (λ c. search needs) returns-3 (λ c. search needs) (λ c. search needs) returns-4
+    (λ c κs. open-table (at-opened (at-within (c .before)))) (λ c. search needs) (λ c. search needs) (λ c κs. search needs) returns-5 returns-6)

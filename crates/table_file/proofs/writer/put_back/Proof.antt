@@ -1,14 +1,9 @@
 -- `table_file::writer::put_back` meets its contract: a half, a word and two pairs, one after another.
--- Assumes nothing.
-use Prim.Native.Nat.{_+_, _*_}
-use mathlib.Core.Path.{refl}
-use mathlib.Core.List.{[], _∷_, _++_}
+use Rattle.learning.proofs.Words.{_+_, _*_, refl, [], _∷_, _++_, needs, arith}
 use Rattle.model.specs.TableFile.{secondLong, half, word}
 use Rattle.notation.proofs.Puts.{put-then}
-use borrow.Author.Needs.{needs}
-use native.Mathlib.Omega.{arith}
-use Rattle.table_file.proofs.writer.put_back.Statement.{statement}
-use Rattle.table_file.proofs.writer.put_back.Tie as tie
+use Rattle.table_file.proofs.writer.put_back as f
+use f.Tie as tie
 
 returns : tie.Need-returns
 returns c =
@@ -23,18 +18,7 @@ returns c =
     (letters .put-pair .ensures) refl (omega arith))
     (c .before .before .put-pair2 .ensures) refl (omega arith)
 
-pub put-back-spec : {M : Type 1} → statement M
+pub put-back-spec : {M : Type 1} → f.Statement.statement M
 put-back-spec =
-    tie.close
-    (tie.spec
-    (λ c κs. search needs)
-    (λ c. search needs)
-    (λ c. search needs)
-    (λ c. search needs)
-    (λ c κs. search needs)
-    (λ c. search needs)
-    (λ c κs. search needs)
-    (λ c. search needs)
-    (λ c κs. search needs)
-    (λ c. search needs)
-    returns)
+    tie.close (tie.spec (λ c κs. search needs) (λ c. search needs) (λ c. search needs) (λ c. search needs) (λ c κs. search needs) (λ c. search needs) (λ c κs. search needs)
+    (λ c. search needs) (λ c κs. search needs) (λ c. search needs) returns)

@@ -1,16 +1,10 @@
 -- `table_file::writer::put_job` meets its contract: two pairs of bytes, the goal places and a pair, one after another.
--- Assumes nothing.
-use Prim.Native.Nat.{_%_}
-use mathlib.Core.Path.{refl, _∙_}
-use mathlib.Core.List.{[], _∷_, _++_}
-use denote.Ref.{now}
+use Rattle.learning.proofs.Words.{_%_, refl, _∙_, [], _∷_, _++_, now, needs, arith}
 use Rattle.notation.specs.Puts.{put}
 use Rattle.notation.proofs.Puts.{put-then}
 use Rattle.table_file.specs.Site.{goalsAt, placesOf}
-use borrow.Author.Needs.{needs}
-use native.Mathlib.Omega.{arith}
-use Rattle.table_file.proofs.writer.put_job.Statement.{statement}
-use Rattle.table_file.proofs.writer.put_job.Tie as tie
+use Rattle.table_file.proofs.writer.put_job as f
+use f.Tie as tie
 
 returns : tie.Need-returns
 returns c =
@@ -28,17 +22,7 @@ returns c =
     (last .put-pair3 .ensures) refl (omega arith)
     ∙ λ i. put (a .at) (s .width % 256 ∷ s .height % 256 ∷ n .ensures i % 256 ∷ 0 ∷ (placesOf (goalsAt s) ++ (s .q % 256 ∷ 2 ∷ []))) (now (a .out))
 
-pub put-job-spec : {M : Type 1} → statement M
+pub put-job-spec : {M : Type 1} → f.Statement.statement M
 put-job-spec =
-    tie.close
-    (tie.spec
-    (λ c κs. search needs)
-    (λ c. search needs)
-    (λ c κs. search needs)
-    (λ c κs. search needs)
-    (λ c. search needs)
-    (λ c κs. search needs)
-    (λ c. search needs)
-    (λ c κs. search needs)
-    (λ c. search needs)
-    returns)
+    tie.close (tie.spec (λ c κs. search needs) (λ c. search needs) (λ c κs. search needs) (λ c κs. search needs) (λ c. search needs) (λ c κs. search needs) (λ c. search needs)
+    (λ c κs. search needs) (λ c. search needs) returns)

@@ -1,15 +1,10 @@
 -- `table_file::writer::put_places` meets its contract: four halves, one after another.
--- Assumes nothing.
-use mathlib.Core.Path.{refl, _∙_}
-use mathlib.Core.List.{_++_}
-use denote.Ref.{now}
+use Rattle.learning.proofs.Words.{refl, _∙_, _++_, now, needs, arith}
 use Rattle.model.specs.TableFile.{half}
 use Rattle.notation.specs.Puts.{put}
 use Rattle.notation.proofs.Puts.{put-then}
-use borrow.Author.Needs.{needs}
-use native.Mathlib.Omega.{arith}
-use Rattle.table_file.proofs.writer.put_places.Statement.{statement}
-use Rattle.table_file.proofs.writer.put_places.Tie as tie
+use Rattle.table_file.proofs.writer.put_places as f
+use f.Tie as tie
 
 -- the places where a half is put, each from the next
 abbrev at-third : tie.After-put-half4 → tie.After-put-half3
@@ -39,20 +34,7 @@ returns c =
     (fourth .put-half4 .ensures) refl (omega arith)
     ∙ λ i. put (a .at) (half (p₀ .ensures i) ++ (half (p₁ .ensures i) ++ (half (p₂ .ensures i) ++ half (p₃ .ensures i)))) (now (a .out))
 
-pub put-places-spec : {M : Type 1} → statement M
+pub put-places-spec : {M : Type 1} → f.Statement.statement M
 put-places-spec =
-    tie.close
-    (tie.spec
-    (λ c κs. search needs)
-    (λ c κs. search needs)
-    (λ c. search needs)
-    (λ c κs. search needs)
-    (λ c κs. search needs)
-    (λ c. search needs)
-    (λ c κs. search needs)
-    (λ c κs. search needs)
-    (λ c. search needs)
-    (λ c κs. search needs)
-    (λ c κs. search needs)
-    (λ c. search needs)
-    returns)
+    tie.close (tie.spec (λ c κs. search needs) (λ c κs. search needs) (λ c. search needs) (λ c κs. search needs) (λ c κs. search needs) (λ c. search needs) (λ c κs. search needs)
+    (λ c κs. search needs) (λ c. search needs) (λ c κs. search needs) (λ c κs. search needs) (λ c. search needs) returns)

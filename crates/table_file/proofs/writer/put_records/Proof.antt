@@ -1,24 +1,15 @@
 -- `table_file::writer::put_records` meets its contract: the invariant: `Putting`, n records of the cells passed are put.
--- Assumes nothing.
-use Prim.Native.Nat.{_-_, _*_}
-use mathlib.Core.Path.{sym, _∙_}
-use mathlib.Core.Logic.{⊎-elim}
-use lib.ListN.{length}
+use Rattle.learning.proofs.Words.{_-_, _*_, sym, _∙_, ⊎-elim, length, needs, arith}
 use Rattle.table_file.specs.Site.{floorAt, goalsAt}
 use Rattle.table_file.proofs.Writing.{Putting, putting, putting-same, putting-more, putting-all, room-left}
-use borrow.Author.Needs.{needs}
-use native.Mathlib.Omega.{arith}
-use Rattle.table_file.proofs.writer.put_records.Statement.{statement}
-use Rattle.table_file.proofs.writer.put_records.Tie as tie
+use Rattle.table_file.proofs.writer.put_records as f
+use f.Tie as tie
 
 abbrev Inv-loop : tie.InvT-loop
 Inv-loop site floor table out₀ n₀ x₀ out n x = Putting (floorAt site floor) (site .q) (goalsAt site) table out₀ (site .width * site .height) n x out
 
 abbrev μ-loop : tie.MeasureT-loop
 μ-loop site floor table out₀ n₀ x₀ out n x = length table - x
-
-loop-holds : tie.Need-loop-holds Inv-loop μ-loop
-loop-holds c = putting _ _ _ _ _ _ (c .before .before .before .pre .1 .1)
 
 put-record-requires : tie.Need-put-record-requires Inv-loop μ-loop
 put-record-requires c κs =
@@ -37,25 +28,8 @@ loop-again c =
     (λ w. rw (w .1, w .2) (putting-same _ _ _ _ _ _ _ _ _ (l .inv) (sym read ∙ (w .0 .left ∙ opens)) (omega arith)))
     (c .if1 .came)
 
-returns : tie.Need-returns Inv-loop μ-loop
-returns c = putting-all _ _ _ _ _ _ _ _ _ (c .before .loop .inv) (omega arith)
-
-pub put-records-spec : {M : Type 1} → statement M
+pub put-records-spec : {M : Type 1} → f.Statement.statement M
 put-records-spec =
-    tie.close
-    (tie.spec
-    Inv-loop
-    μ-loop
-    loop-holds
-    (λ c. search needs)
-    (λ c. search needs)
-    (λ c κs. search needs)
-    (λ c κs. search needs)
-    (λ c. search needs)
-    put-record-requires
-    (λ c. search needs)
-    (λ c. search needs)
-    (λ c. search needs)
-    loop-again
-    (λ c. search needs)
-    returns)
+    tie.close (tie.spec Inv-loop μ-loop (λ c. putting _ _ _ _ _ _ (c .before .before .before .pre .1 .1)) (λ c. search needs) (λ c. search needs) (λ c κs. search needs)
+    (λ c κs. search needs) (λ c. search needs) put-record-requires (λ c. search needs) (λ c. search needs) (λ c. search needs) loop-again (λ c. search needs)
+    (λ c. putting-all _ _ _ _ _ _ _ _ _ (c .before .loop .inv) (omega arith)))

@@ -1,12 +1,9 @@
 -- `table_file::writer::put_trailer` meets its contract: what names the job, and behind it what points back.
--- Assumes nothing.
-use mathlib.Core.Path.{refl}
+use Rattle.learning.proofs.Words.{refl, needs, arith}
 use Rattle.notation.proofs.Puts.{put-then}
 use Rattle.table_file.specs.Site.{jobOf, backOf}
-use borrow.Author.Needs.{needs}
-use native.Mathlib.Omega.{arith}
-use Rattle.table_file.proofs.writer.put_trailer.Statement.{statement}
-use Rattle.table_file.proofs.writer.put_trailer.Tie as tie
+use Rattle.table_file.proofs.writer.put_trailer as f
+use f.Tie as tie
 
 returns : tie.Need-returns
 returns c =
@@ -15,5 +12,5 @@ returns c =
     let a = job .before .before .before .args in
     put-then (a .at) _ (jobOf (a .site)) (backOf (a .count)) _ _ _ (job .put-job .ensures) (back .put-back .ensures) refl (omega arith)
 
-pub put-trailer-spec : {M : Type 1} → statement M
+pub put-trailer-spec : {M : Type 1} → f.Statement.statement M
 put-trailer-spec = tie.close (tie.spec (λ c κs. search needs) (λ c. search needs) (λ c κs. search needs) (λ c. search needs) returns)

@@ -1,19 +1,13 @@
 -- `table_file::writer::write_table` meets its contract: a refusal leaves the buffer; else the records and the trailer are the whole file.
--- Assumes nothing.
-use mathlib.Core.Path.{_≡_, sym, _∙_}
-use Prim.Native.Nat.{_+_, _*_, _≤_}
-use denote.Ref.{now}
-use lib.ListN.{length}
+use Rattle.learning.proofs.Words.{_≡_, sym, _∙_, _+_, _*_, _≤_, now, length, needs, arith}
 use Rattle.model.specs.Floor.{size, goalsOf}
 use Rattle.model.specs.TableFile.{secondLong, changed, writeTable}
 use Rattle.model.proofs.Writings.{writes-refused, writes-done}
 use Rattle.floor.specs.Moves.{flat}
 use Rattle.table_file.specs.Promises.{Opened}
 use Rattle.table_file.proofs.Writing.{write-open, file-long, whole}
-use borrow.Author.Needs.{needs}
-use native.Mathlib.Omega.{arith}
-use Rattle.table_file.proofs.writer.write_table.Statement.{statement}
-use Rattle.table_file.proofs.writer.write_table.Tie as tie
+use Rattle.table_file.proofs.writer.write_table as f
+use f.Tie as tie
 
 -- the places: once the checks are passed, and the records put
 abbrev at-passed : tie.After-put-records → tie.After-enum-told
@@ -30,9 +24,6 @@ passed : (e : tie.After-enum-told) →
     Opened f (a .q) (goalsOf (a .goals)) × (length (now (a .table)) ≡ size f) × (secondLong + 6 * n ≤ length (now (a .buffer))) × (n ≤ 4096)
 passed e = write-open _ _ _ _ _ (sym (e .before .before .judge-write .ensures) ∙ e .enum-told .given .1)
 
-put-records-requires : tie.Need-put-records-requires
-put-records-requires c κs = let p = passed (c .before) in (p .0, (p .1, omega arith))
-
 returns : tie.Need-returns
 unfolding writeTable
 returns c = writes-refused _ _ (c .before .before .before .judge-write .ensures) (c .before .v .given .0 .0) (c .before .v .given .1)
@@ -47,18 +38,8 @@ returns-2 c =
     writes-done _ _ (checked .before .before .judge-write .ensures) _ _ (checked .enum-told .given .1) (file-long _ _ _ _ (n .0))
     (whole _ _ _ _ _ _ _ (n .0) (n .1) (trailer .put-trailer .ensures) (passed checked .0))
 
-pub write-table-spec : {M : Type 1} → statement M
+pub write-table-spec : {M : Type 1} → f.Statement.statement M
 write-table-spec =
-    tie.close
-    (tie.spec
-    (λ c κs. search needs)
-    (λ c. search needs)
-    (λ c. search needs)
-    put-records-requires
-    (λ c. omega (arith, passed (at-passed (c .before .before .before))))
-    (λ c κs. omega (arith, passed (at-passed (c .before .before .before))))
-    (λ c. omega (arith, passed (at-passed (at-records (c .before .before)))))
-    (λ c. omega (arith, passed (at-passed (at-records (c .before .before)))))
-    returns
-    (λ c. search needs)
-    returns-2)
+    tie.close (tie.spec (λ c κs. search needs) (λ c. search needs) (λ c. search needs) (λ c κs. let p = passed (c .before) in (p .0, (p .1, omega arith)))
+    (λ c. omega (arith, passed (at-passed (c .before .before .before)))) (λ c κs. omega (arith, passed (at-passed (c .before .before .before))))
+    (λ c. omega (arith, passed (at-passed (at-records (c .before .before))))) (λ c. omega (arith, passed (at-passed (at-records (c .before .before))))) returns (λ c. search needs) returns-2)
