@@ -165,7 +165,8 @@ course-keeps j bytes start (suc k) table path A = by (eqb (r .learned) 0) refl (
 pub run-keeps : (j : Job) (bytes : List ℕ) (start trials : ℕ) (table path : List ℕ) (lent : List Report) (n : ℕ) (settled : Bool) (t p : List ℕ) (reports : List Report)
     → IsRun (run j bytes start trials table path lent) (Rn.Made n settled) t p reports → RunKept j bytes start n table t lent reports
 run-keeps j bytes start trials table path lent n settled t p reports h =
-    let (accepted, count, told) = made-run-is-accepted j bytes start trials table path lent n settled (sym (ran-one (Rn.Made n settled) (run j bytes start trials table path lent .answer) (h .answer-is))) in
+    let (accepted, count, told) = made-run-is-accepted j bytes start trials table path lent n settled
+    (sym (ran-one (Rn.Made n settled) (run j bytes start trials table path lent .answer) (h .answer-is))) in
     let c = courseFrom j bytes start trials table path in
     let rs = map (report j bytes) (c .rides) in
     let long : length rs ≡ n = length-map (c .rides) (report j bytes) ∙ count in

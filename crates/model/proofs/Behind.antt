@@ -10,7 +10,8 @@ use lib.Dec.{eqb}
 use lib.ListN.{length, getD, take, drop, length-drop}
 use Rattle.model.specs.Basics.{choose, atEnd, unless}
 use Rattle.model.specs.Floor.{Floor}
-use Rattle.model.specs.TableFile.{halfAt, wordAt, isLetters, trailerOf, firstLong, secondLong, trailer, ending, editionIn, countIn, backIn, holdsAs, secondHolds, trailerHolds, checkTrailer, findRecords, firstNames, secondNames, sameJob}
+use Rattle.model.specs.TableFile.{halfAt, wordAt, isLetters, trailerOf, firstLong, secondLong, trailer, ending, editionIn, countIn, backIn, holdsAs, secondHolds, trailerHolds}
+use Rattle.model.specs.TableFile.{checkTrailer, findRecords, firstNames, secondNames, sameJob}
 use Rattle.model.specs.Renewal.{renewedTrailer, renewed}
 use Rattle.model.proofs.Accepted.{same-told}
 use Rattle.model.proofs.Parts.{end-behind}

@@ -1,8 +1,8 @@
 -- Document 02 on the default depth: "a converted line must print what it printed before. Lines that give a depth are copied byte for byte."
 -- The numbers of a line do not hang on the text after it, and the old depth ahead of its LF is one number more; so the two ways ask for the same. Assumes nothing.
-use Prim.Native.Nat.{ℕ, zero, suc, _+_, _-_, _*_, _≤_}
+use Prim.Native.Nat.{ℕ, zero, suc, _+_, _-_, _≤_}
 use mathlib.Core.Path.{_≡_, refl, sym, ap, _∙_}
-use mathlib.Core.Bool.{Bool, true, false, _&&_}
+use mathlib.Core.Bool.{Bool, true, false}
 use mathlib.Core.Option.{Option, none, some}
 use mathlib.Core.List.{List, [], _∷_, _++_, append-assoc}
 use native.Mathlib.Omega.{arith}
@@ -14,11 +14,11 @@ use Rattle.answers.specs.declared.Place.the-variants as P
 use Rattle.answers.specs.declared.Settings.{Settings}
 use Rattle.answers.specs.declared.Verdict.the-variants as Vd
 use Rattle.model.specs.Basics.{choose}
-use Rattle.model.specs.FloorText.{LF, isDigit}
+use Rattle.model.specs.FloorText.{LF}
 use Rattle.model.specs.Line.{numbersIn, afterLine, settingsBy, settingsOf, readLineBy, defaultDepth, decimalIn, field, refusalLine, judgeAisle, printed, aisleBy, aisle}
 use Rattle.model.specs.KeepDepth.{oldDepth, isAsked, givenOf, numbersFirst, numbersGiven, lineForm, withOldDepth, Unended}
 use Rattle.model.proofs.Cut.{joined, asksOf}
-use Rattle.model.proofs.LineForm.{unended-tail, unended-append, head-is, Ended, ended, line-reads, line-leaves, given-is, form-judges, formed-ended}
+use Rattle.model.proofs.LineForm.{numbers-by-end, unended-append, Ended, ended, line-reads, line-leaves, given-is, form-judges, formed-ended}
 
 -- ---- one number more
 
@@ -31,23 +31,13 @@ more-joined n v none = refl
 more-joined n v (some ns) = refl
 
 -- the old depth ahead of the LF is one number more
-numbers-with-depth : (body : List ℕ) (d v : ℕ) → Unended body → numbersIn d v (body ++ (field oldDepth ++ (LF ∷ []))) ≡ more oldDepth (numbersIn d v (body ++ LF ∷ []))
+numbers-with-depth : (body : List ℕ) → Unended body → numbersIn 0 0 (body ++ (field oldDepth ++ (LF ∷ []))) ≡ more oldDepth (numbersIn 0 0 (body ++ LF ∷ []))
 unfolding numbersIn decimalIn
-numbers-with-depth [] d v u = by (leb 1 d) refl
+numbers-with-depth body u = numbers-by-end (more oldDepth) refl (more-joined oldDepth) (field oldDepth ++ (LF ∷ [])) (LF ∷ []) (λ d v. by d v (leb 1 d) refl) body 0 0 u
   where
-    by : (one : Bool) → leb 1 d ≡ one → numbersIn d v (field oldDepth ++ (LF ∷ [])) ≡ more oldDepth (numbersIn d v (LF ∷ []))
-    by true e = rw (e, numbersIn)
-    by false e = rw (e, numbersIn)
-numbers-with-depth (b ∷ bs) d v u =
-    by (isDigit b && leb d 6) (eqb b 32 && leb 1 d) refl refl (numbers-with-depth bs (suc d) (10 * v + (b - 48)) (unended-tail b bs u)) (numbers-with-depth bs 0 0 (unended-tail b bs u))
-  where
-    by : (digit space : Bool) → (isDigit b && leb d 6) ≡ digit → (eqb b 32 && leb 1 d) ≡ space
-        → numbersIn (suc d) (10 * v + (b - 48)) (bs ++ (field oldDepth ++ (LF ∷ []))) ≡ more oldDepth (numbersIn (suc d) (10 * v + (b - 48)) (bs ++ LF ∷ []))
-        → numbersIn 0 0 (bs ++ (field oldDepth ++ (LF ∷ []))) ≡ more oldDepth (numbersIn 0 0 (bs ++ LF ∷ []))
-        → numbersIn d v (b ∷ (bs ++ (field oldDepth ++ (LF ∷ [])))) ≡ more oldDepth (numbersIn d v (b ∷ (bs ++ LF ∷ [])))
-    by true space f g on next = rw (head-is b bs u, f, numbersIn) on
-    by false true f g on next = rw (head-is b bs u, f, g, numbersIn) (ap (joined v) next ∙ sym (more-joined oldDepth v (numbersIn 0 0 (bs ++ LF ∷ []))))
-    by false false f g on next = rw (head-is b bs u, f, g, numbersIn)
+    by : (d v : ℕ) (one : Bool) → leb 1 d ≡ one → numbersIn d v (field oldDepth ++ (LF ∷ [])) ≡ more oldDepth (numbersIn d v (LF ∷ []))
+    by d v true e = rw (e, numbersIn)
+    by d v false e = rw (e, numbersIn)
 
 -- ---- a depth that is given
 
@@ -119,7 +109,7 @@ module _ (line : List ℕ) (l : Ended line) where
       by (some (s ∷ [])) e = itself (some (s ∷ [])) e refl (λ default. refl)
       by (some (s ∷ g ∷ [])) e =
           let numbers : numbersIn 0 0 ((l .body ++ field oldDepth) ++ LF ∷ []) ≡ some (s ∷ g ∷ oldDepth ∷ []) =
-          ap (numbersIn 0 0) (append-assoc (l .body) (field oldDepth) (LF ∷ [])) ∙ numbers-with-depth (l .body) 0 0 (l .unended) ∙ ap (more oldDepth) (ap (numbersIn 0 0) (sym (l .is)) ∙ e) in
+          ap (numbersIn 0 0) (append-assoc (l .body) (field oldDepth) (LF ∷ [])) ∙ numbers-with-depth (l .body) (l .unended) ∙ ap (more oldDepth) (ap (numbersIn 0 0) (sym (l .is)) ∙ e) in
           rw (becomes-three s g e) (record {
             new-line = ended (l .body ++ field oldDepth) (unended-append (l .body) (field oldDepth) (l .unended) depth-unended);
             again = given-depth-is-copied ((l .body ++ field oldDepth) ++ LF ∷ []) (s ∷ g ∷ oldDepth ∷ []) numbers (omega arith);

@@ -102,7 +102,8 @@ pub data Copies (first : ℕ) (ls : List (List ℕ)) (c : Copied) : Type 0 where
       → c .verdict ≡ refuseAt 3 (P.Line (first + length before)) → linesOf (c .written) ≡ map withOldDepth before → Copies first ls c
 
 -- a line of the form is copied: one line more is written
-lines-more : (first : ℕ) (l : List ℕ) (ls xs : List (List ℕ)) → lineForm l ≡ Vd.Done → linesOf (copyLines (suc first) ls .written) ≡ xs → linesOf (copyLines first (l ∷ ls) .written) ≡ withOldDepth l ∷ xs
+lines-more : (first : ℕ) (l : List ℕ) (ls xs : List (List ℕ)) → lineForm l ≡ Vd.Done → linesOf (copyLines (suc first) ls .written) ≡ xs
+    → linesOf (copyLines first (l ∷ ls) .written) ≡ withOldDepth l ∷ xs
 lines-more first l ls xs e w =
     ap (λ (c : Copied). linesOf (c .written)) (copy-goes first l ls e)
     ∙ lines-ended (withOldDepth l) (copyLines (suc first) ls .written) (converted-ended l (formed-ended l (form-judges l .gives e)))

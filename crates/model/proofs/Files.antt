@@ -17,7 +17,8 @@ use Rattle.model.specs.Basics.{choose, refuseAt, unless, naming}
 use Rattle.model.specs.Floor.{Floor, Sized, size, free, opening, goalsOf}
 use Rattle.model.specs.Checks.{mostGoals, ceiling, figures, Benched}
 use Rattle.model.specs.Opening.{openTable}
-use Rattle.model.specs.TableFile.{halfAt, firstLong, secondLong, trailer, ending, scaleIn, editionIn, countIn, backIn, isLetters, holdsAs, checkFirst, secondHolds, trailerHolds, checkTrailer, checkAhead}
+use Rattle.model.specs.TableFile.{halfAt, firstLong, secondLong, trailer, ending, scaleIn, editionIn, countIn, backIn, isLetters, holdsAs, checkFirst, secondHolds, trailerHolds}
+use Rattle.model.specs.TableFile.{checkTrailer, checkAhead}
 use Rattle.model.specs.TableFile.{findRecords, goalPlace, firstNames, placesNamed, secondNames, sameJob, cellIn, figureIn, recordFault, judgeRecords, changed}
 use Rattle.model.specs.TableFile.{readVerdict, recordsOf, trailerOf, fileOf, unlike, writeVerdict}
 use Rattle.model.specs.Writing.{fileRoom}

@@ -10,8 +10,9 @@ use borrow.Author.Tests.{not-true}
 use lib.Dec.{eqb}
 use lib.ListN.{length, getD, take}
 use lib.Seq.{length-take-le, getD-take}
-use Rattle.learning.specs.Path.{All, end, also, Distinct, alone, apart}
+use Rattle.learning.specs.Path.{also, Distinct, alone, apart}
 use Rattle.learning.proofs.Count.{distinct-length}
+use Rattle.learning.proofs.Paths.{all-of}
 use Rattle.answers.specs.declared.Job.{Job}
 use Rattle.answers.specs.declared.State.{State}
 use Rattle.model.specs.Basics.{member}
@@ -99,10 +100,6 @@ module _ (j : Job) (bytes : List ℕ) where
             )
 
 -- ---- room for the current cell
-
-all-of : {P : ℕ → Type 0} (xs : List ℕ) → ((k : ℕ) → k < length xs → P (getD xs k 0)) → All P xs
-all-of [] h = end
-all-of (x ∷ xs) h = also (h 0 (omega arith)) (all-of xs (λ k l. h (suc k) (omega arith)))
 
 distinct-of : (xs : List ℕ) → ((a b : ℕ) → a < b → b < length xs → getD xs a 0 ≡ getD xs b 0 → ⊥) → Distinct xs
 distinct-of [] h = alone

@@ -40,7 +40,8 @@ pub mod Settling
 pub mod Corners
 -- Document 02 on several benches: where one closes, learned tables stay sound.
 pub mod Closing
--- What all writers answer and leave. The table file: its checks and its records; what a refused record means; a file as it is laid down, and without what stands ahead of it; the round trip of demand 2.
+-- What all writers answer and leave. The table file: its checks and its records; what a refused record means; a file as it is laid down, and without what stands ahead of it;
+-- the round trip of demand 2.
 pub mod Writings
 pub mod Files
 pub mod Records

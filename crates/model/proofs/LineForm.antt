@@ -3,7 +3,7 @@ use Prim.Native.Nat.{ℕ, zero, suc, _+_, _-_, _*_, _≤_}
 use mathlib.Core.Path.{_≡_, refl, sym, ap, _∙_}
 use mathlib.Core.Bool.{Bool, true, false, _&&_}
 use mathlib.Core.Option.{Option, none, some}
-use mathlib.Core.List.{List, [], _∷_, _++_, append-assoc}
+use mathlib.Core.List.{List, [], _∷_, _++_, append-assoc, append-nil}
 use native.Mathlib.Omega.{arith}
 use borrow.Author.Tests.{ne-eqb, eqb-true, eqb-false}
 use lib.Dec.{leb, eqb}
@@ -35,20 +35,27 @@ head-is b bs u = ne-eqb b LF (u 0 (omega arith))
 
 -- ---- the numbers of a line, and what stands after it
 
+-- A line's front says the same whatever stands at the end: where two ends' numbers are alike under F, which keeps none and a number in front, so are those of two lines with one front.
+module _ (F : Option (List ℕ) → Option (List ℕ)) (keeps : F none ≡ none) (joins : (v : ℕ) (o : Option (List ℕ)) → F (joined v o) ≡ joined v (F o)) (end end′ : List ℕ)
+    (ends : (d v : ℕ) → numbersIn d v end ≡ F (numbersIn d v end′)) where
+  pub numbers-by-end : (body : List ℕ) (d v : ℕ) → Unended body → numbersIn d v (body ++ end) ≡ F (numbersIn d v (body ++ end′))
+  unfolding numbersIn
+  numbers-by-end [] d v u = ends d v
+  numbers-by-end (b ∷ bs) d v u =
+      let t = unended-tail b bs u in
+      by (isDigit b && leb d 6) (eqb b 32 && leb 1 d) refl refl (numbers-by-end bs (suc d) (10 * v + (b - 48)) t) (numbers-by-end bs 0 0 t)
+    where
+      by : (digit space : Bool) → (isDigit b && leb d 6) ≡ digit → (eqb b 32 && leb 1 d) ≡ space
+          → numbersIn (suc d) (10 * v + (b - 48)) (bs ++ end) ≡ F (numbersIn (suc d) (10 * v + (b - 48)) (bs ++ end′)) → numbersIn 0 0 (bs ++ end) ≡ F (numbersIn 0 0 (bs ++ end′))
+          → numbersIn d v (b ∷ (bs ++ end)) ≡ F (numbersIn d v (b ∷ (bs ++ end′)))
+      by true space f g on next = rw (head-is b bs u, f, numbersIn) on
+      by false true f g on next = rw (head-is b bs u, f, g, numbersIn) (ap (joined v) next ∙ sym (joins v (numbersIn 0 0 (bs ++ end′))))
+      by false false f g on next = rw (head-is b bs u, f, g, numbersIn) (sym keeps)
+
 -- the numbers of a line are the same whatever text stands after it
-numbers-of-line : (body text : List ℕ) (d v : ℕ) → numbersIn d v (body ++ LF ∷ text) ≡ numbersIn d v (body ++ LF ∷ [])
+numbers-of-line : (body text : List ℕ) → Unended body → numbersIn 0 0 (body ++ LF ∷ text) ≡ numbersIn 0 0 (body ++ LF ∷ [])
 unfolding numbersIn
-numbers-of-line [] text d v = refl
-numbers-of-line (b ∷ bs) text d v = by (eqb b LF) (isDigit b && leb d 6) (eqb b 32 && leb 1 d) refl refl refl (numbers-of-line bs text (suc d) (10 * v + (b - 48))) (numbers-of-line bs text 0 0)
-  where
-    by : (lf digit space : Bool) → eqb b LF ≡ lf → (isDigit b && leb d 6) ≡ digit → (eqb b 32 && leb 1 d) ≡ space
-        → numbersIn (suc d) (10 * v + (b - 48)) (bs ++ LF ∷ text) ≡ numbersIn (suc d) (10 * v + (b - 48)) (bs ++ LF ∷ [])
-        → numbersIn 0 0 (bs ++ LF ∷ text) ≡ numbersIn 0 0 (bs ++ LF ∷ [])
-        → numbersIn d v (b ∷ (bs ++ LF ∷ text)) ≡ numbersIn d v (b ∷ (bs ++ LF ∷ []))
-    by true digit space e f g on next = rw (e, numbersIn)
-    by false true space e f g on next = rw (e, f, numbersIn) on
-    by false false true e f g on next = rw (e, f, g, numbersIn) (ap (joined v) next)
-    by false false false e f g on next = rw (e, f, g, numbersIn)
+numbers-of-line body text u = numbers-by-end (λ o. o) refl (λ v o. refl) (LF ∷ text) (LF ∷ []) (λ d v. refl) body 0 0 u
 
 -- what stands after a line is the text after its LF
 pub after-line : (body text : List ℕ) → Unended body → afterLine (body ++ LF ∷ text) ≡ text
@@ -75,13 +82,13 @@ module _ (line : List ℕ) (l : Ended line) (text : List ℕ) where
   unfolding readLineBy
   line-reads default =
       ap (λ (x : List ℕ). asksOf default (numbersIn 0 0 x)) then-text
-      ∙ ap (asksOf default) (numbers-of-line (l .body) text 0 0)
+      ∙ ap (asksOf default) (numbers-of-line (l .body) text (l .unended))
       ∙ ap (λ (x : List ℕ). asksOf default (numbersIn 0 0 x)) (sym (l .is))
 
   -- so many numbers are given, whatever text stands after it
   pub line-first : numbersFirst (line ++ text) ≡ numbersFirst line
   unfolding numbersFirst
-  line-first = ap (λ (x : List ℕ). givenOf (numbersIn 0 0 x)) then-text ∙ ap givenOf (numbers-of-line (l .body) text 0 0) ∙ ap (λ (x : List ℕ). givenOf (numbersIn 0 0 x)) (sym (l .is))
+  line-first = ap (λ (x : List ℕ). givenOf (numbersIn 0 0 x)) then-text ∙ ap givenOf (numbers-of-line (l .body) text (l .unended)) ∙ ap (λ (x : List ℕ). givenOf (numbersIn 0 0 x)) (sym (l .is))
 
   pub line-leaves : afterLine (line ++ text) ≡ text
   line-leaves = ap afterLine then-text ∙ after-line (l .body) text (l .unended)
@@ -135,20 +142,13 @@ malformed : (line : List ℕ) → readLine line ≡ none → lineForm line ≡ r
 malformed line e = form-judges line .refused (λ h. omega (arith, given-none line (first-none line e)))
 
 -- without an LF there are no numbers
-numbers-unended : (bs : List ℕ) (d v : ℕ) → Unended bs → numbersIn d v bs ≡ none
+numbers-unended : (bs : List ℕ) → Unended bs → numbersIn 0 0 bs ≡ none
 unfolding numbersIn
-numbers-unended [] d v u = refl
-numbers-unended (b ∷ bs) d v u = by (isDigit b && leb d 6) (eqb b 32 && leb 1 d) refl refl (numbers-unended bs (suc d) (10 * v + (b - 48)) (unended-tail b bs u)) (numbers-unended bs 0 0 (unended-tail b bs u))
-  where
-    by : (digit space : Bool) → (isDigit b && leb d 6) ≡ digit → (eqb b 32 && leb 1 d) ≡ space → numbersIn (suc d) (10 * v + (b - 48)) bs ≡ none → numbersIn 0 0 bs ≡ none
-        → numbersIn d v (b ∷ bs) ≡ none
-    by true space f g on next = rw (head-is b bs u, f, numbersIn) on
-    by false true f g on next = rw (head-is b bs u, f, g, numbersIn) (ap (joined v) next)
-    by false false f g on next = rw (head-is b bs u, f, g, numbersIn)
+numbers-unended bs u = ap (numbersIn 0 0) (sym (append-nil bs)) ∙ numbers-by-end (λ o. none) refl (λ v o. refl) [] [] (λ d v. refl) bs 0 0 u
 
 reads-unended : (bs : List ℕ) → Unended bs → readLine bs ≡ none
 unfolding readLineBy
-reads-unended bs u = ap (asksOf defaultDepth) (numbers-unended bs 0 0 u)
+reads-unended bs u = ap (asksOf defaultDepth) (numbers-unended bs u)
 
 pub first-unended : (bs : List ℕ) → Unended bs → numbersFirst bs ≡ 0
 first-unended bs u = first-none bs (reads-unended bs u)

@@ -13,7 +13,8 @@ use borrow.Author.Tests.{leb-true, eqb-true, le-leb, eq-eqb}
 use Rattle.learning.specs.Ground.{pick}
 use Rattle.learning.specs.Look.{lowest}
 use Rattle.learning.proofs.Look.{lowest-low, lowest-met}
-use Rattle.model.specs.Floor.{Floor, Sized, size, column, row, free, apart, doubled, slowly, tariff, fare, corner, clear, price, east, south, ahead, inside, allowed, heading, opposite, straight, diagonal}
+use Rattle.model.specs.Floor.{Floor, Sized, size, column, row, free, apart, doubled, slowly, tariff, fare, corner, clear, price, east, south, ahead, inside, allowed, heading, opposite}
+use Rattle.model.specs.Floor.{straight, diagonal}
 use Rattle.model.specs.Grounds.{clear-same, clear-corner, fareBetween, price-same, price-clear, price-free, free-inside}
 use Rattle.model.proofs.Cells.{cell-lt, cells-le, row-lt, col-at, row-at, cell-at}
 

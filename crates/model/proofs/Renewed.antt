@@ -17,13 +17,15 @@ use Rattle.answers.specs.declared.Verdict.the-variants as Vd
 use Rattle.model.specs.Basics.{choose, atEnd, then, refuseAt, unless}
 use Rattle.model.specs.Floor.{Floor, goalsOf, openingTable}
 use Rattle.model.specs.Opening.{openTable}
-use Rattle.model.specs.TableFile.{halfAt, trailerOf, firstLong, secondLong, trailer, ending, scaleIn, editionIn, countIn, backIn, checkTrailer, findRecords, goalPlace, firstNames, secondNames, named, sameJob, judgeRecords}
+use Rattle.model.specs.TableFile.{halfAt, trailerOf, firstLong, secondLong, trailer, ending, scaleIn, editionIn, countIn, backIn, checkTrailer, findRecords, goalPlace, firstNames}
+use Rattle.model.specs.TableFile.{secondNames, named, sameJob, judgeRecords}
 use Rattle.model.specs.TableFile.{applied, judgeTable, readVerdict, readOf, readTable}
 use Rattle.model.specs.Renewal.{secondOf, renewedTrailer, renewed, renewVerdict, renewFile, longest}
 use Rattle.model.specs.Writing.{fileRoom, writeOf}
 use Rattle.model.proofs.Accepted.{then-next, then-refused, then-done, same-told}
 use Rattle.model.proofs.Parts.{end-behind}
-use Rattle.model.proofs.Files.{Trailer, Second, Ended, second-ended, second-tells, trailer-judges, ahead-judges, found, found-long, FirstSame, SecondSame, first-names, second-names, length-trailer, Readable}
+use Rattle.model.proofs.Files.{Trailer, Second, Ended, second-ended, second-tells, trailer-judges, ahead-judges, found, found-long, FirstSame, SecondSame, first-names, second-names}
+use Rattle.model.proofs.Files.{length-trailer, Readable}
 use Rattle.model.proofs.Records.{Bytes, bytes-drop, half-small}
 use Rattle.model.proofs.Writings.{room-judges}
 use Rattle.model.proofs.Laid.{place-small, Laid, laid-down}

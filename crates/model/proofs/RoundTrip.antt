@@ -19,7 +19,8 @@ use Rattle.answers.specs.declared.Verdict.the-variants as Vd
 use Rattle.model.specs.Floor.{Floor, size, opening, openingTable, goalsOf}
 use Rattle.model.specs.Checks.{mostGoals, ceiling}
 use Rattle.model.specs.Opening.{openTable}
-use Rattle.model.specs.TableFile.{half, word, halfAt, firstLong, secondLong, trailer, ending, editionIn, countIn, backIn, isLetters, goalPlace, findRecords, judgeRecords, applied, readVerdict, readOf, readTable, changed, recordsOf}
+use Rattle.model.specs.TableFile.{half, word, halfAt, firstLong, secondLong, trailer, ending, editionIn, countIn, backIn, isLetters, goalPlace, findRecords, judgeRecords, applied}
+use Rattle.model.specs.TableFile.{readVerdict, readOf, readTable, changed, recordsOf}
 use Rattle.model.specs.TableFile.{trailerOf, fileOf, unlike, writeVerdict}
 use Rattle.model.specs.Renewal.{secondOf, renewedTrailer, renewed}
 use Rattle.model.specs.Writing.{fileRoom}
@@ -27,7 +28,8 @@ use Rattle.model.proofs.Cells.{cells-le}
 use Rattle.model.proofs.Moves.{both}
 use Rattle.model.proofs.Accepted.{then-next, figures-done, figures-accepted, naming-done, naming-none}
 use Rattle.model.proofs.OpeningSound.{opening-within}
-use Rattle.model.proofs.Files.{Openable, openable, Trailer, Second, Ended, trailer-judges, ahead-judges, found, found-long, FirstSame, SecondSame, Names, Same, same-judges, changed-few, length-records, length-file}
+use Rattle.model.proofs.Files.{Openable, openable, Trailer, Second, Ended, trailer-judges, ahead-judges, found, found-long, FirstSame, SecondSame, Names, Same, same-judges}
+use Rattle.model.proofs.Files.{changed-few, length-records, length-file}
 use Rattle.model.proofs.Files.{Readable, read-gives, write-gives}
 use Rattle.model.proofs.Records.{half-written, word-written, Bytes, bytes-drop, half-small, bytes-take, Fine, written-judged, written-applied, applied-length, Again}
 use Rattle.model.proofs.Records.{again, fine-opening, applied-fine}

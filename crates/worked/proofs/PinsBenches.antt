@@ -118,8 +118,10 @@ pub record PinsBenches : Type 0 where
   pub nearest-ring : decide (record { width = 3; height = 3; goals = two 0 8; depth = 8; p = 1; q = 1; quota = 1000 }) hall (state 6 0 0) (replicate 9 0) fresh buffer 0 .answer ≡ A.Forward 8 20 2
   -- 8: any goal on the path; 9: no goal is in a ring before the empty one
   pub path-second : decide (toward (two 0 8)) hall (state 6 0 2) figures (7 ∷ 8 ∷ replicate 7 77) buffer 0 .answer ≡ refuses 8 P.Nowhere
-  pub empty-after : decide (record { width = 3; height = 1; goals = two 0 1; depth = 3; p = 1; q = 1; quota = 1000 }) (0 ∷ 0 ∷ 0 ∷ []) (state 2 0 0) (0 ∷ 0 ∷ 0 ∷ []) fresh buffer 0 .answer ≡ A.Forward 1 10 1
-  pub empty-neither : decide (record { width = 5; height = 1; goals = two 3 4; depth = 3; p = 1; q = 1; quota = 1000 }) (0 ∷ 0 ∷ 1 ∷ 0 ∷ 0 ∷ []) (state 0 0 0) (replicate 5 0) fresh buffer 0 .answer ≡ refuses 9 P.Nowhere
+  pub empty-after : decide (record { width = 3; height = 1; goals = two 0 1; depth = 3; p = 1; q = 1; quota = 1000 }) (0 ∷ 0 ∷ 0 ∷ []) (state 2 0 0) (0 ∷ 0 ∷ 0 ∷ []) fresh buffer 0 .answer
+      ≡ A.Forward 1 10 1
+  pub empty-neither : decide (record { width = 5; height = 1; goals = two 3 4; depth = 3; p = 1; q = 1; quota = 1000 }) (0 ∷ 0 ∷ 1 ∷ 0 ∷ 0 ∷ []) (state 0 0 0) (replicate 5 0) fresh buffer 0 .answer
+      ≡ refuses 9 P.Nowhere
   -- the worked yard: the cart comes to prefer bench 12, which is 34 away, to bench 3, which seems 20 away and is 80
   pub yard-opening : openingTable (floorOf (inYard both) yard) 1 (goalsOf both) ≡ yardOpening
   pub yard-run : run (inYard both) yard 11 3 yardOpening (replicate 16 77) (blank ∷ blank ∷ blank ∷ [])

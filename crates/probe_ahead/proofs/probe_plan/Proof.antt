@@ -19,7 +19,8 @@ window : (c : tie.After-last) →
     let lists = look .before .before .before .before in
     let a = lists .before .before .before .before .before .before .args in
     let z = look .look .last .1 .1 .1 .1 in
-    Window (plain (a .width) (a .height) (a .count) (a .goal) (a .other) (a .depth) (a .p)) (a .floor .now) (a .s) (a .base) (z .0) (z .1 .0) (z .1 .1 .0) (c .last .given .0 .1 .0) (c .last .given .0 .0)
+    Window (plain (a .width) (a .height) (a .count) (a .goal) (a .other) (a .depth) (a .p)) (a .floor .now) (a .s) (a .base)
+    (z .0) (z .1 .0) (z .1 .1 .0) (c .last .given .0 .1 .0) (c .last .given .0 .0)
 window c =
     let matched = c .before .before .before .before in
     rw (c .last .given .1) at (matched .before .before .before .before .look .ensures)
