@@ -80,6 +80,31 @@ module _ {J : Job} (L : Lawful J) where
       let (nothing, to, same) = follow s k heads quiet in
       omega (arith, nothing, follows bs r (keeps-step L s k) (sym to) there (subst (λ t. Linked (λ a b. Heads J t a b × Quiet J t a) bs c) (sym same) more))
 
+  -- ---- at depth 1
+
+  quiet-near : {x y : ℕ} {table : List ℕ} → J .depth ≡ 1 → CanReach J x → Heads J table x y → Quiet J table x
+  quiet-near {x} {y} shallow r heads new t A =
+      let W = L .windows x (heads .aside) r in
+      let (k, some, last, is) = A .greatest .met in
+      let one : k ≡ J .last x = omega (arith, W .some, W .depth) in
+      omega (arith, A .bests k some last .low _ (y, heads .on-last ∙ sym one, refl), heads .paid)
+
+  -- ---- with weight 1/1
+
+  -- a path that is paid for all the way has true figures
+  paid-along : {table : List ℕ} {xs : List ℕ} {c : ℕ} → Linked (Heads J table) xs c → J .p * legs (J .leg) xs c + figure table c ≤ figure table (first xs c)
+  paid-along loose = omega arith
+  paid-along (link h k) = omega (arith, h .paid, paid-along k)
+
+  quiet-true : {table : List ℕ} → J .p ≡ J .q → Sound J table → (xs : List ℕ) {c : ℕ} → All (CanReach J) (xs ++ c ∷ []) → J .Goal c → Linked (Heads J table) xs c
+      → Linked (λ a b. Heads J table a b × Quiet J table a) xs c
+  quiet-true same S [] reach there led = loose
+  quiet-true {table} same S (x ∷ xs) {c} (also r reach) there (link h k) =
+      let way = path-walk L (x ∷ xs) c (also r reach) (linked-map (λ a b ra rb e. (e .aside, e .on-last)) (x ∷ xs) (also r reach) (link h k)) in
+      let near : J .dist x ≤ legs (J .leg) (x ∷ xs) c = L .true-dist x r .low _ (c, there, way) in
+      let high : truth J x ≤ figure table x = omega (arith, mul-le-mul-left (J .q) near, ap (λ (w : ℕ). w * legs (J .leg) (x ∷ xs) c) same, paid-along (link h k)) in
+      link (h, λ new t A. omega (arith, new-low L S r (h .aside) A, high)) (quiet-true same S xs reach there k)
+
   -- ---- the path that a trial leaves
 
   -- along the path so far each cell heads for the next
@@ -99,31 +124,6 @@ module _ {J : Job} (L : Lawful J) where
     headed-trial : {start n l d : ℕ} {x y : State} → Trial J x n l d y → Keeps J start x → Headed x → Headed y
     headed-trial none k led = led
     headed-trial (next s r) k led = headed-trial r (keeps-step L s k) (headed-step s k led)
-
-    -- ---- at depth 1
-
-    quiet-near : {x y : ℕ} {table : List ℕ} → J .depth ≡ 1 → CanReach J x → Heads J table x y → Quiet J table x
-    quiet-near {x} {y} shallow r heads new t A =
-        let W = L .windows x (heads .aside) r in
-        let (k, some, last, is) = A .greatest .met in
-        let one : k ≡ J .last x = omega (arith, W .some, W .depth) in
-        omega (arith, A .bests k some last .low _ (y, heads .on-last ∙ sym one, refl), heads .paid)
-
-    -- ---- with weight 1/1
-
-    -- a path that is paid for all the way has true figures
-    paid-along : {table : List ℕ} {xs : List ℕ} {c : ℕ} → Linked (Heads J table) xs c → J .p * legs (J .leg) xs c + figure table c ≤ figure table (first xs c)
-    paid-along loose = omega arith
-    paid-along (link h k) = omega (arith, h .paid, paid-along k)
-
-    quiet-true : {table : List ℕ} → J .p ≡ J .q → Sound J table → (xs : List ℕ) {c : ℕ} → All (CanReach J) (xs ++ c ∷ []) → J .Goal c → Linked (Heads J table) xs c
-        → Linked (λ a b. Heads J table a b × Quiet J table a) xs c
-    quiet-true same S [] reach there led = loose
-    quiet-true {table} same S (x ∷ xs) {c} (also r reach) there (link h k) =
-        let way = path-walk L (x ∷ xs) c (also r reach) (linked-map (λ a b ra rb e. (e .aside, e .on-last)) (x ∷ xs) (also r reach) (link h k)) in
-        let near : J .dist x ≤ legs (J .leg) (x ∷ xs) c = L .true-dist x r .low _ (c, there, way) in
-        let high : truth J x ≤ figure table x = omega (arith, mul-le-mul-left (J .q) near, ap (λ (w : ℕ). w * legs (J .leg) (x ∷ xs) c) same, paid-along (link h k)) in
-        link (h, λ new t A. omega (arith, new-low L S r (h .aside) A, high)) (quiet-true same S xs reach there k)
 
     -- ---- the second trial, which begins with the table that the first left
 
