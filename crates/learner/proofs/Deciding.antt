@@ -21,7 +21,7 @@ use Rattle.answers.proofs.One.{answer-one}
 use Rattle.model.specs.Basics.{member}
 use Rattle.model.specs.Floor.{size}
 use Rattle.model.specs.Checks.{floorOf, goals}
-use Rattle.model.specs.Decision.{atGoal, Deed, rise, forwardBy, backOutBy, stay, act, laid, outcomeOf, decide}
+use Rattle.model.specs.Decision.{atGoal, Deed, rise, forwardBy, backOutBy, stay, act, laid, outcomeOf, decide, leastRoom}
 use Rattle.model.specs.Ride.{Ride, begun, next, rideFrom, rideFromBy, learningJob, bound, ride, rideBy}
 use Rattle.model.proofs.Accepted.{fails}
 use Rattle.model.proofs.Openings.{Held, Ready}
@@ -101,7 +101,7 @@ module _ (j : Job) (bytes : List ℕ) (start : ℕ) (table path : List ℕ) (rea
   abbrev pub deed : Deed
   deed = act j bytes (here .state) (here .table) (here .path)
 
-  module _ {r : Decided} {t p m : List ℕ} (moves : List ℕ) (from : ℕ) (room : from + 288 ≤ length moves)
+  module _ {r : Decided} {t p m : List ℕ} (moves : List ℕ) (from : ℕ) (room : from + leastRoom ≤ length moves)
       (h : Decides (decide j bytes (here .state) (here .table) (here .path) moves from) r t p m) where
     -- the call is let through
     pub acts : Decides (outcomeOf Vd.Done deed (here .state) (here .table) (here .path) moves from) r t p m

@@ -25,7 +25,7 @@ use Rattle.answers.specs.declared.Ran.the-variants as Rn
 use Rattle.answers.proofs.One.{answer-one, tried-one, ran-one}
 use Rattle.model.specs.Basics.{member}
 use Rattle.model.specs.Checks.{floorOf, goals, sizes, pathRoom, settings}
-use Rattle.model.specs.Decision.{atGoal, act, decide}
+use Rattle.model.specs.Decision.{atGoal, act, decide, leastRoom}
 use Rattle.model.specs.Opening.{openJob, openTrial, openRun}
 use Rattle.model.specs.Ride.{Ride, begun, nextBy, rideFrom, rideFromBy, report, ride, trial, Course, courseFrom, courseFromBy, run}
 use Rattle.model.proofs.Accepted.{then-done, then-next, reports-judges, trials-judges}
@@ -215,7 +215,7 @@ module _ (j : Job) (bytes : List ℕ) (s : State) (table path moves : List ℕ) 
 pub data Decisions (j : Job) (bytes : List ℕ) (start : ℕ) (table path : List ℕ) : (n : ℕ) → (moved : List ℕ) → State → (t p : List ℕ) → Type 0 where
   none : Decisions j bytes start table path 0 [] (begun start table path .state) table path
   another : {n : ℕ} {s : State} {r : Decided} {moved t p t′ p′ m′ : List ℕ} → Decisions j bytes start table path n moved s t p
-      → (moves : List ℕ) (from : ℕ) → from + 288 ≤ length moves → Decides (decide j bytes s t p moves from) r t′ p′ m′ → (r .answer ≡ A.Arrived → ⊥)
+      → (moves : List ℕ) (from : ℕ) → from + leastRoom ≤ length moves → Decides (decide j bytes s t p moves from) r t′ p′ m′ → (r .answer ≡ A.Arrived → ⊥)
       → Decisions j bytes start table path (suc n) (moved ++ handed (r .answer) from m′) (r .state) t′ p′
 
 -- decisions that come to a bench are the trial's: their number, the lists left, and the moves, which drive the cart from the start to that bench at the trial's travel
@@ -249,7 +249,7 @@ pub record OnTheWay (j : Job) (bytes : List ℕ) (start : ℕ) (table path : Lis
   -- no figure fell or passed the truth
   pub figures : Figures j bytes table t
   -- and the next call goes on
-  pub goes-on : (moves : List ℕ) (from : ℕ) → from + 288 ≤ length moves → (r : Decided) (t′ p′ m′ : List ℕ) → Decides (decide j bytes s t p moves from) r t′ p′ m′
+  pub goes-on : (moves : List ℕ) (from : ℕ) → from + leastRoom ≤ length moves → (r : Decided) (t′ p′ m′ : List ℕ) → Decides (decide j bytes s t p moves from) r t′ p′ m′
       → GoesOn j bytes start table path n moved s r t′ p′
 
 -- a call made where the ride stands
@@ -260,7 +260,7 @@ module _ (j : Job) (bytes : List ℕ) (start : ℕ) (table path : List ℕ) (a :
   abbrev stands : ℕ → Ride
   stands n = after j bytes start table path n
 
-  call : (n : ℕ) → stands n .decisions ≡ n → (moves : List ℕ) (from : ℕ) → from + 288 ≤ length moves → {r : Decided} {t p m : List ℕ}
+  call : (n : ℕ) → stands n .decisions ≡ n → (moves : List ℕ) (from : ℕ) → from + leastRoom ≤ length moves → {r : Decided} {t p m : List ℕ}
       → Decides (decide j bytes (stands n .state) (stands n .table) (stands n .path) moves from) r t p m → GoesOn j bytes start table path n (stands n .moves) (stands n .state) r t p
   call n count moves from room {r} {t} {p} h = by (atGoal j bytes (stands n .state .current)) refl
     where

@@ -23,7 +23,7 @@ use Rattle.model.specs.Floor.{Floor, size, Sized, free, price, ahead, al
 use Rattle.model.specs.Grounds.{groundOf, price-same}
 use Rattle.model.specs.Checks.{ceiling, floorOf, goals, sizes, pathRoom, settings, places, goalsHold, figures}
 use Rattle.model.specs.Lookahead.{seen, ring, w, emptyRing, target, route, movesAlong, mostMoves}
-use Rattle.model.specs.Decision.{atGoal, movesRoom, judge, Deed, unchanged, refused, rise, forward, forwardBy, backOut, backOutBy, stay, goBack, act, laid, Outcome, decide}
+use Rattle.model.specs.Decision.{atGoal, movesRoom, judge, Deed, unchanged, refused, rise, forward, forwardBy, backOut, backOutBy, stay, goBack, act, laid, Outcome, decide, leastRoom}
 use Rattle.model.specs.Opening.{openTrial}
 use Rattle.model.specs.Ride.{Ride, begun, next, nextBy, rideFrom, rideFromBy, bound, ride, rideBy}
 use Rattle.model.proofs.Moves.{free-below, price-move, heading-is, opposite-lt, opposite-ahead, opposite-allowed}
@@ -86,7 +86,7 @@ drives-back f s {a} {b} {c} {ms} k = subst (Drives f b (map opposite (reverse ms
 record Passed (j : Job) (bytes : List ℕ) (s : State) (path : List ℕ) (places from : ℕ) : Type 0 where
   sized : Sized (floorOf j bytes)
   settings : Settings j
-  room : from + 288 ≤ places
+  room : from + leastRoom ≤ places
   here : free (floorOf j bytes) (s .current) ≡ true
   sound : Sound j bytes (s .current) path (s .length)
 
@@ -238,7 +238,7 @@ pub record Moved (f : Floor) (here target n cost from : ℕ) (lent moves : List 
   pub before : take from moves ≡ take from lent
   pub after : drop (from + n) moves ≡ drop (from + n) lent
 
-laid-moved : (f : Floor) {here target cost : ℕ} (n from : ℕ) (lent way : List ℕ) → from + 288 ≤ length lent → length way ≡ n → length way ≤ mostMoves → Drives f here way target cost
+laid-moved : (f : Floor) {here target cost : ℕ} (n from : ℕ) (lent way : List ℕ) → from + leastRoom ≤ length lent → length way ≡ n → length way ≤ mostMoves → Drives f here way target cost
     → Moved f here target n cost from lent (laid lent from way)
 laid-moved f {here} {target} {cost} n from lent way room e few k =
     let rest = drop (from + length way) lent in
@@ -300,7 +300,7 @@ module _ (j : Job) (bytes : List ℕ) (start : ℕ) (table path : List ℕ) (e :
           → Drove (rideFrom j bytes (suc n) r)
       by true a more = subst Drove (sym (ride-there j bytes (suc n) r a)) k
       by false a more =
-          let D = act-drives j bytes (r .state) (r .table) (r .path) 288 0 (judges j bytes start table path R g 288 0 (omega arith)) in
+          let D = act-drives j bytes (r .state) (r .table) (r .path) leastRoom 0 (judges j bytes start table path R g leastRoom 0 (omega arith)) in
           subst Drove (sym (ride-on j bytes n r a)) (more (next j bytes r) (riding-next j bytes start table path R g a) (drives-on k (D .drives)))
 
   -- after any number of its decisions; and a whole trial's moves drive the cart from the start to a bench, and its travel is what they cost

@@ -18,7 +18,7 @@ use Rattle.answers.specs.declared.State.{State}
 use Rattle.model.specs.Basics.{member}
 use Rattle.model.specs.Floor.{Floor, size, free}
 use Rattle.model.specs.Checks.{floorOf, goals}
-use Rattle.model.specs.Decision.{atGoal, onPath, movesRoom, stateHolds}
+use Rattle.model.specs.Decision.{atGoal, onPath, movesRoom, stateHolds, leastRoom}
 use Rattle.model.proofs.Moves.{free-below}
 use Rattle.model.proofs.Accepted.{Tells, Judges, le-tells, is-tells, and-tells, told, unless-judges}
 use Rattle.model.proofs.Lists.{ne-tells, every-tells, distinct-tells}
@@ -42,9 +42,9 @@ pub record Held (j : Job) (bytes : List ℕ) (s : State) (path : List ℕ) : Typ
 
 -- ---- 2, of the moves
 
-pub moves-judges : (room from : ℕ) → Judges (movesRoom room from) 2 (from + 288 ≤ room)
+pub moves-judges : (room from : ℕ) → Judges (movesRoom room from) 2 (from + leastRoom ≤ room)
 unfolding movesRoom
-moves-judges room from = unless-judges _ 2 (le-tells (from + 288) room)
+moves-judges room from = unless-judges _ 2 (le-tells (from + leastRoom) room)
 
 -- ---- the state's check
 

@@ -23,7 +23,7 @@ use Rattle.model.specs.Basics.{every, member, distinct, unless}
 use Rattle.model.specs.Floor.{size, free}
 use Rattle.model.specs.Grounds.{price-free}
 use Rattle.model.specs.Checks.{ceiling, floorOf, goals, groundIn, settings, places, figures}
-use Rattle.model.specs.Decision.{atGoal, onPath, movesRoom, stateHolds, judge}
+use Rattle.model.specs.Decision.{atGoal, onPath, movesRoom, stateHolds, judge, leastRoom}
 use Rattle.model.specs.Ride.{learningJob}
 use Rattle.model.proofs.Moves.{is-true}
 use Rattle.model.proofs.Accepted.{then-next, sizes-judges, path-judges, settings-judges, naming-done}
@@ -78,14 +78,14 @@ module _ (j : Job) (bytes : List ℕ) (H : Held j bytes) where
         (ap₂ _&&_ (ap₂ _&&_ (le-leb _ _ (k .within)) (le-leb (s .length) (size (floorOf j bytes)) (omega (arith, short j bytes H s table path k room)))) (all-every _ on-path))
         (distinct-true (distinct-init (onPath s path) (s .current) (k .distinct))))
 
-    pub judged : ((x : ℕ) → x < size (floorOf j bytes) → getD table x 0 ≤ ceiling) → (places from : ℕ) → from + 288 ≤ places
+    pub judged : ((x : ℕ) → x < size (floorOf j bytes) → getD table x 0 ≤ ceiling) → (places from : ℕ) → from + leastRoom ≤ places
         → judge j bytes s table path places from ≡ Vd.Done
     unfolding judge movesRoom figures
     judged fits places from more =
         let f = floorOf j bytes in
         then-next _ (sizes-judges f (length table) .done (H .sized, k .sound .size))
         ∙ then-next _ (path-judges f (length path) .done room)
-        ∙ then-next _ (ap (λ b. unless b 2) (le-leb (from + 288) places more))
+        ∙ then-next _ (ap (λ b. unless b 2) (le-leb (from + leastRoom) places more))
         ∙ then-next _ (settings-judges j .done (H .settings))
         ∙ then-next _ (places-judges f (s .current) (goals j) .done (reach-free (s .current) (here j bytes H s table path k room), H .benches))
         ∙ then-next _ (goals-judges (j .goals) .done (H .order))

@@ -22,7 +22,7 @@ use Rattle.answers.specs.declared.Job.{Job}
 use Rattle.answers.specs.declared.Verdict.the-variants as Vd
 use Rattle.model.specs.Floor.{size, leastPrice, dearestPrice}
 use Rattle.model.specs.Checks.{ceiling, floorOf, groundIn, farthest, finest, largestQuota}
-use Rattle.model.specs.Decision.{atGoal, judge, act}
+use Rattle.model.specs.Decision.{atGoal, judge, act, leastRoom}
 use Rattle.model.specs.Ride.{Ride, begun, next, nextBy, rideFrom, rideFromBy, learningJob, bound, ride, rideBy, kept, Course, courseFrom, courseFromBy}
 use Rattle.model.specs.Opening.{openTrial}
 use Rattle.model.proofs.Openings.{Held, Ready, accepted-trial}
@@ -92,7 +92,7 @@ module _ (j : Job) (bytes : List ℕ) (start : ℕ) (table path : List ℕ) (R :
     room = omega (arith, g .places, R .room)
 
     -- a decision call would be let through
-    pub judges : (places from : ℕ) → from + 288 ≤ places → judge j bytes (r .state) (r .table) (r .path) places from ≡ Vd.Done
+    pub judges : (places from : ℕ) → from + leastRoom ≤ places → judge j bytes (r .state) (r .table) (r .path) places from ≡ Vd.Done
     judges = judged j bytes H (r .state) (r .table) (r .path) keeps room (g .fits)
 
     module _ (aside : atGoal j bytes (r .state .current) ≡ false) where

@@ -27,9 +27,13 @@ atGoal j bytes x = isGoal (floorOf j bytes) (goals j) x
 abbrev pub onPath : State → List ℕ → List ℕ
 onPath s path = take (s .length) path
 
+-- how many places a decision asks for its moves
+abbrev pub leastRoom : ℕ
+leastRoom = 288
+
 -- 2: fewer than 288 places left for moves
 unfoldable pub movesRoom : ℕ → ℕ → Verdict
-movesRoom room from = unless (leb (from + 288) room) 2
+movesRoom room from = unless (leb (from + leastRoom) room) 2
 
 -- 8, its first part: u above q × T; path longer than width × height; a path cell off the floor, blocked, a goal, repeated or equal to the current one
 unfoldable pub stateHolds : Job → List ℕ → State → List ℕ → Verdict
