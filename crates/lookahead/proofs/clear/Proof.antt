@@ -13,7 +13,7 @@ abbrev μ-loop : tie.MeasureT-loop
 -- past the end of a list stands nothing
 past : (l : List ℕ) (x : ℕ) → Dec (x < length l) → (x < length l → getD l x 0 ≡ 0) → getD l x 0 ≡ 0
 past l x (yes h) f = f h
-past l x (no h) f = List·getD-eq-default l 0 (omega (arith, h))
+past l x (no h) f = List·getD-eq-default l 0 (omega arith)
 
 loop-again : tie.Need-loop-again Inv-loop μ-loop
 loop-again c =
@@ -21,7 +21,7 @@ loop-again c =
     let h : l .i < length (l .mark) = omega arith in (
       simp length-set (omega arith),
       simp length-set (l .inv .1),
-      λ x p. by-store (λ y. y ≡ 0) (l .mark) (l .i) 0 x h (λ e. refl) (λ n. l .inv .2 x (omega (arith, n))),
+      λ x p. by-store (λ y. y ≡ 0) (l .mark) (l .i) 0 x h (λ e. refl) (λ n. l .inv .2 x (omega arith)),
     )
 
 returns : tie.Need-returns Inv-loop μ-loop

@@ -19,7 +19,7 @@ returns c =
     let Q = a .pre .0 in
     let near = a .pre .1 .1 in
     let e = c .coarse .ensures ∙ ap (λ (n : ℕ). n / fineness) (a .pre .1 .0 .costs (a .args .x) near) in
-    (e ∙ near-coarse _ _ _ Q _ near, omega (arith, e, near-cost _ _ _ Q _ near))
+    (e ∙ near-coarse _ _ _ Q _ near, omega (arith, near-cost _ _ _ Q _ near))
 
 pub leg-spec : {M : Type 1} → f.Statement.statement M
 leg-spec = tie.close (tie.spec (λ c. omega (arith, few (c .before .before .before))) shared-slice-read-coarse (λ c κs. search needs) returns)

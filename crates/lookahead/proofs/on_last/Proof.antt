@@ -20,11 +20,11 @@ module _ (j : Job) (bytes : List ℕ) (s base : ℕ) (mark cost : List ℕ) (E :
   to-ring e = by (decLe (ring j bytes (seen j bytes s) x) (seen j bytes s .last))
     where
       by : Dec (Near j bytes s x) → ring j bytes (seen j bytes s) x ≡ seen j bytes s .last
-      by (yes h) = omega (arith, E .marks x h, e, l)
-      by (no h) = absurd (omega (arith, e, E .none x (omega (arith, h))))
+      by (yes h) = omega (arith, E .marks x h)
+      by (no h) = absurd (omega (arith, E .none x (omega arith)))
 
   to-mark : ring j bytes (seen j bytes s) x ≡ seen j bytes s .last → getD mark x 0 ≡ base + last
-  to-mark e = omega (arith, E .marks x (omega (arith, e)), e, l)
+  to-mark e = omega (arith, E .marks x (omega arith))
 
 returns : tie.Need-returns
 returns c =

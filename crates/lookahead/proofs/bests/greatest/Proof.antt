@@ -1,5 +1,5 @@
 -- `lookahead::bests::greatest` meets its contract. The loop's invariant: top is the greatest of the entries 1 to k - 1.
-use Rattle.learning.proofs.Words.{_+_, _-_, _≤_, _≡_, subst, arith, needs}
+use Rattle.learning.proofs.Words.{_+_, _-_, _≤_, _≡_, arith, needs}
 use Rattle.lookahead.proofs.Weighing.{topped-none, topped-more}
 use Rattle.lookahead.specs.Bests.{Topped}
 use Rattle.lookahead.proofs.bests.greatest as f
@@ -20,9 +20,9 @@ returns : tie.Need-returns Inv-loop μ-loop
 returns c =
     let l = c .before .loop in
     let e : l .k ≡ c .before .before .before .args .last + 1 = omega arith in
-    subst (λ k. Topped (c .before .before .before .args .best .now) k (l .top)) e (l .inv .2)
+    rw e at (l .inv .2)
 
 pub greatest-spec : {M : Type 1} → f.Statement.statement M
 greatest-spec =
     tie.close (tie.spec Inv-loop μ-loop (λ c. (omega arith, omega arith, topped-none (c .before .args .best .now))) (λ c. search needs)
-    (λ c. omega (arith, c .before .before .before .before .pre .0)) (λ c κs. tt) (λ c. omega arith) (λ c. omega arith) loop-again returns)
+    (λ c. omega arith) (λ c κs. tt) (λ c. omega arith) (λ c. omega arith) loop-again returns)

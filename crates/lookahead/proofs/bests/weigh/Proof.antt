@@ -30,7 +30,7 @@ enter-requires : tie.Need-enter-requires
 enter-requires c κs =
     let wide = c .before .before .before .before .before in
     let a = start wide in
-    omega (arith, wide .wide32 .ensures .0, a .pre .0 .top (a .args .c), a .pre .1 .1)
+    omega (arith, a .pre .0 .top (a .args .c))
 
 returns : tie.Need-returns
 returns c =
@@ -45,7 +45,7 @@ returns c =
 pub weigh-spec : {M : Type 1} → f.Statement.statement M
 weigh-spec =
     tie.close (tie.spec (λ c. omega (arith, places (c .before .before .before .before) .0))
-    (λ c. let a = c .before .before .before .before .before in omega (arith, places a .0, a .pre .0 .marks)) (λ c. search needs) (λ c κs. search needs)
-    (λ c. omega (arith, places (start c) .0)) (λ c. let a = start (c .before) in omega (arith, places a .0, a .pre .0 .costs)) (λ c κs. search needs) mul-v
+    (λ c. let a = c .before .before .before .before .before in omega (arith, places a .0)) (λ c. search needs) (λ c κs. search needs)
+    (λ c. omega (arith, places (start c) .0)) (λ c. let a = start (c .before) in omega (arith, places a .0)) (λ c κs. search needs) mul-v
     (λ c. omega (arith, places (start (c .before .before)) .0)) (λ c. places (start (c .before .before .before)) .1) (λ c κs. search needs) (λ c. omega (arith, small c))
     (λ c. omega (arith, small (c .before))) (λ c. omega (arith, small (c .before), places (start (c .before .before .before .before .before)) .0)) enter-requires (λ c. search needs) returns)

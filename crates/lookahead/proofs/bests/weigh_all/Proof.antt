@@ -1,5 +1,5 @@
 -- `lookahead::bests::weigh_all` meets its contract. The loop's invariant: the keys of the first i cells are entered.
-use Rattle.learning.proofs.Words.{_-_, _≤_, _≡_, sym, _∙_, subst, arith, needs}
+use Rattle.learning.proofs.Words.{_-_, _≤_, _≡_, sym, subst, arith, needs}
 use Rattle.lookahead.proofs.Weighing.{in-ring, bests-more}
 use Rattle.lookahead.specs.Bests.{Bests}
 use Rattle.model.specs.Checks.{deepest}
@@ -46,20 +46,13 @@ loop-again c =
       rw (c .before .before .weigh .ensures) (bests-more _ _ _ _ _ _ _ x _ (sym (after-wide16 .wide16 .ensures .0)) near (l .inv .1)),
     )
 
-same-length : tie.Need-same-length Inv-loop μ-loop
-same-length c =
-    let start = to-start (c .before) in
-    c .before .loop .inv .1 .size ∙ sym (start .pre .1 .1 .size)
-
 returns : tie.Need-returns Inv-loop μ-loop
 returns c =
-    let start = to-start (c .before) in
-    let a = start .args in
     let l = c .before .loop in
-    let e : l .i ≡ a .n = omega arith in
-    subst (λ z. Bests (a .base) (a .mark .now) (a .cost .now) (a .table .now) (a .p) (a .list .now) z (l .best)) e (l .inv .1)
+    let e : l .i ≡ to-start (c .before) .args .n = omega arith in
+    rw e at (l .inv .1)
 
 pub weigh-all-spec : {M : Type 1} → f.Statement.statement M
 weigh-all-spec =
     tie.close (tie.spec Inv-loop μ-loop (λ c. (omega arith, c .before .before .before .before .before .pre .1 .1)) (λ c. search needs) shared-slice-read-wide16 (λ c κs. tt) weigh-requires
-    (λ c. omega arith) (λ c. omega arith) loop-again same-length returns)
+    (λ c. omega arith) (λ c. omega arith) loop-again (λ c. search needs) returns)

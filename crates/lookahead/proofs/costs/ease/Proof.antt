@@ -40,12 +40,12 @@ from-fine c = c .before .before .before .before
 add-sum : tie.Need-add-sum
 add-sum c =
     let a = to-start (from-fine c) in
-    omega (arith, a .pre .1 .0 .small (a .args .c) (a .pre .1 .1 .0 .marked), a .pre .1 .1 .1 .1, at-cell (from-fine c) .most, c .fine .ensures)
+    omega (arith, a .pre .1 .0 .small (a .args .c) (a .pre .1 .1 .0 .marked), at-cell (from-fine c) .most)
 
 lower-requires : tie.Need-lower-requires
 lower-requires c κs =
     let after-cell = from-fine (c .before) in
-    omega (arith, at-cell after-cell .few, to-start after-cell .pre .1 .0 .costs)
+    omega (arith, at-cell after-cell .few)
 
 returns-2 : tie.Need-returns-2
 returns-2 c =
@@ -53,7 +53,7 @@ returns-2 c =
     let after-cell = from-fine after-fine in
     let a = to-start after-cell in
     eased _ _ _ _ _ _ _ (a .pre .1 .0) (a .pre .1 .1 .1 .1) (a .pre .0) _ _ (to-cell after-cell)
-    (a .pre .1 .1 .0 .marked) (omega (arith, after-fine .before .if1 .left)) _ _ _ (rw (sym (after-fine .fine .ensures)) (c .before .before .lower .ensures))
+    (a .pre .1 .1 .0 .marked) (omega arith) _ _ _ (rw (sym (after-fine .fine .ensures)) (c .before .before .lower .ensures))
 
 returns-3 : tie.Need-returns-3
 returns-3 c =

@@ -15,7 +15,7 @@ marked : (c : tie.After-wide16) → In (start c .args .base) (start c .args .mar
 marked c = subst (In (start c .args .base) (start c .args .mark .now)) (sym (c .wide16 .ensures .0)) (start c .pre .1 .1 .0 .2)
 
 slice-read-w : tie.Need-slice-read-w
-slice-read-w c = let a = start (c .before) in omega (arith, free-few _ _ (a .pre .0) (a .pre .1 .0 .free _ (marked (c .before))), a .pre .1 .0 .costs)
+slice-read-w c = let a = start (c .before) in omega (arith, free-few _ _ (a .pre .0) (a .pre .1 .0 .free _ (marked (c .before))))
 
 returns : tie.Need-returns
 returns c =
@@ -28,7 +28,7 @@ returns-2 c =
     let cell = c .before .before .before .before .before in
     let a = start cell in
     again-topped _ _ _ (a .pre .0) _ _ _ _ _ _ _ (a .pre .1 .0) (sym (cell .wide16 .ensures .0)) refl (a .pre .1 .1 .1 .0)
-    (omega (arith, c .if2 .taken, c .before .wide162 .ensures .0))
+    (omega arith)
 
 ease-cell-requires : tie.Need-ease-cell-requires
 ease-cell-requires c κs =
@@ -46,5 +46,5 @@ returns-3 c =
 pub ease-again-spec : {M : Type 1} → f.Statement.statement M
 ease-again-spec =
     tie.close (tie.spec (λ c. search needs) (λ c. search needs) (λ c κs. search needs) (λ c. search needs) slice-read-w (λ c. search needs) (λ c. search needs) (λ c. search needs) returns
-    (λ c. search needs) (λ c. search needs) (λ c. search needs) (λ c κs. search needs) (λ c. omega (arith, c .wide162 .ensures .1)) (λ c. search needs) returns-2 ease-cell-requires
+    (λ c. search needs) (λ c. search needs) (λ c. search needs) (λ c κs. search needs) (λ c. omega arith) (λ c. search needs) returns-2 ease-cell-requires
     (λ c. search needs) (λ c. search needs) returns-3)

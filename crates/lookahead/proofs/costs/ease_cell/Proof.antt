@@ -1,5 +1,5 @@
 -- `lookahead::costs::ease_cell` meets its contract. The loop's invariant: the first m moves have lowered what they can.
-use Rattle.learning.proofs.Words.{_-_, _≤_, _≡_, sym, _∙_, subst, arith}
+use Rattle.learning.proofs.Words.{_-_, _≤_, _≡_, arith}
 use Rattle.floor.specs.Moves.{flat}
 use Rattle.lookahead.proofs.Lowering.{lowered-none, eased-more}
 use Rattle.lookahead.specs.Costs.{Lowered, Easing}
@@ -32,14 +32,9 @@ loop-again c =
     (omega arith, eased-more _ _ _ _ _ _ _ _ _ _ _ _ (l .inv .1) (c .before .before .ease .ensures))
 
 returns : tie.Need-returns Inv-loop μ-loop
-returns c =
-    let a = c .before .before .before .before .before .before .args in
-    let l = c .before .loop in
-    let e : l .m ≡ 8 = omega arith in
-    let g = flat (a .width) (a .height) (a .floor .now) in
-    subst (λ z. Lowered g (a .base) (a .mark .now) (Easing g (a .base) (a .mark .now) (a .c) z (a .w)) (a .cost .now) (a .changed) (l .cost) (l .any)) e (l .inv .1)
+returns c = let e : c .before .loop .m ≡ 8 = omega arith in rw e at (c .before .loop .inv .1)
 
 pub ease-cell-spec : {M : Type 1} → f.Statement.statement M
 ease-cell-spec =
     tie.close (tie.spec Inv-loop μ-loop (λ c κs. let a = c .before .before .before in (a .pre .0, a .pre .1 .0 .free (a .args .c) (a .pre .1 .1 .0))) loop-holds ease-requires
-    (λ c. omega arith) (λ c. omega arith) loop-again (λ c. c .before .loop .inv .1 .costs .costs ∙ sym (c .before .before .before .before .before .before .pre .1 .0 .costs)) returns)
+    (λ c. omega arith) (λ c. omega arith) loop-again (λ c. omega arith) returns)

@@ -17,7 +17,7 @@ shared-slice-read-wide16-2 : tie.Need-shared-slice-read-wide16-2 Inv-loop μ-loo
 shared-slice-read-wide16-2 c =
     let at-loop = c .before .before .before .before in
     let a = start at-loop in
-    omega (arith, c .before .wide16 .ensures .0, a .pre .1 .1 _ (a .pre .0 .early (at-loop .loop .i) (omega arith)), a .pre .1 .0)
+    omega (arith, a .pre .1 .1 _ (a .pre .0 .early (at-loop .loop .i) (omega arith)))
 
 loop-again : tie.Need-loop-again Inv-loop μ-loop
 loop-again c =
@@ -28,8 +28,8 @@ loop-again c =
     let cell = c .before .before .before .wide16 .ensures .0 in
     let cost = c .before .wide162 .ensures .0 in (
       omega arith,
-      below-more (λ j. at (a .cost .now) (getD (a .list .now) j 0) ≤ c .larger .result) (l .i) (λ j h. omega (arith, l .inv .1 j h, e))
-          (omega (arith, e, cost, ap (at (a .cost .now)) cell)),
+      below-more (λ j. at (a .cost .now) (getD (a .list .now) j 0) ≤ c .larger .result) (l .i) (λ j h. omega (arith, l .inv .1 j h))
+          (omega (arith, ap (at (a .cost .now)) cell)),
     )
 
 returns : tie.Need-returns Inv-loop μ-loop
@@ -37,10 +37,10 @@ returns c x h =
     let l = c .before .loop in
     let a = start (c .before) in
     let k = a .pre .0 .listed x h in
-    omega (arith, l .inv .1 (k .0) (omega (arith, k .1)), ap (at (a .args .cost .now)) (k .2))
+    omega (arith, l .inv .1 (k .0) (omega arith), ap (at (a .args .cost .now)) (k .2))
 
 pub highest-spec : {M : Type 1} → f.Statement.statement M
 highest-spec =
-    tie.close (tie.spec Inv-loop μ-loop (λ c. (omega arith, λ j l. absurd (omega arith))) (λ c. omega (arith, start (c .before) .pre .0 .fits))
-    (λ c. let L = start (c .before .before) .pre .0 in omega (arith, L .fits, L .room)) (λ c κs. tt) (λ c. omega (arith, c .wide16 .ensures .1)) shared-slice-read-wide16-2 (λ c κs. tt)
+    tie.close (tie.spec Inv-loop μ-loop (λ c. (omega arith, λ j l. absurd (omega arith))) (λ c. omega arith)
+    (λ c. omega arith) (λ c κs. tt) (λ c. omega arith) shared-slice-read-wide16-2 (λ c κs. tt)
     (λ c κs. tt) (λ c. omega arith) (λ c. omega arith) loop-again returns)

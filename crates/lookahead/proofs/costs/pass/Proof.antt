@@ -1,5 +1,5 @@
 -- `lookahead::costs::pass` meets its contract. The loop's invariant: the moves of the first i cells are followed where they need to be.
-use Rattle.learning.proofs.Words.{_-_, _≤_, _≡_, sym, _∙_, subst, arith}
+use Rattle.learning.proofs.Words.{_-_, _≤_, _≡_, arith}
 use Rattle.floor.specs.Moves.{flat}
 use Rattle.lookahead.proofs.Lowering.{passed-none, passed-more}
 use Rattle.lookahead.specs.Costs.{Passed}
@@ -32,7 +32,7 @@ ease-again-requires c κs =
       (
         p .lowered .costs,
         (
-          (L .room, omega (arith, L .fits), L .early (l .i) (omega arith)),
+          (L .room, omega arith, L .early (l .i) (omega arith)),
           ((λ x h. omega (arith, a .pre .1 .1 .1 .1 x h, p .lowered .drop x)), p .lowered .so (l .i) (omega arith)),
         ),
       ),
@@ -47,13 +47,11 @@ loop-again c =
 
 returns : tie.Need-returns Inv-loop μ-loop
 returns c =
-    let a = c .before .before .before .before .before .before .args in
     let l = c .before .loop in
-    let e : l .i ≡ a .n = omega arith in
-    subst (λ z. Passed (flat (a .width) (a .height) (a .floor .now)) (a .base) (a .mark .now) (a .n) z (a .cost .now) (l .cost) (l .list) (l .any)) e (l .inv .1)
+    let e : l .i ≡ to-start (c .before) .args .n = omega arith in
+    rw e at (l .inv .1)
 
 pub pass-spec : {M : Type 1} → f.Statement.statement M
 pass-spec =
     tie.close (tie.spec Inv-loop μ-loop loop-holds ease-again-requires (λ c. omega arith) (λ c. omega arith) loop-again
-    (λ c. c .before .loop .inv .1 .lowered .costs .costs ∙ sym (c .before .before .before .before .before .before .pre .1 .0 .costs))
-    (λ c. c .before .loop .inv .1 .listing .room ∙ sym (c .before .before .before .before .before .before .pre .1 .1 .0 .room)) returns)
+    (λ c. omega arith) (λ c. omega arith) returns)

@@ -1,7 +1,7 @@
 -- `lookahead::costs::relax` meets its contract. The loop's invariant: the costs are still those of walks, none has risen, and the list says
 -- at which cost each cell's moves were followed.
 -- The measure is their sum.
-use Rattle.learning.proofs.Words.{ℕ, _≤_, sym, _∙_, arith}
+use Rattle.learning.proofs.Words.{ℕ, _≤_, arith}
 use Rattle.model.proofs.Moves.{free-few}
 use Rattle.floor.specs.Moves.{flat}
 use Rattle.lookahead.proofs.Lowering.{relaxed, turned}
@@ -51,18 +51,6 @@ loop-again c =
     let e = after-pass .pass .ensures .lowered in
     (e .costs, (λ s W. e .walked s (i .1 s W)), (λ x. omega (arith, e .drop x, i .2 x)), after-pass .pass .ensures .listing, e .so, λ x h. omega (arith, e .drop x, i .5 x h))
 
-same-length : tie.Need-same-length Inv-loop μ-loop
-same-length c =
-    let after-pass = c .before .before .before .before .before in
-    let start = to-start (after-pass .before .before .before) in
-    after-pass .pass .ensures .lowered .costs .costs ∙ sym (start .pre .1 .0 .costs)
-
-same-length-2 : tie.Need-same-length-2 Inv-loop μ-loop
-same-length-2 c =
-    let after-pass = c .before .before .before .before .before in
-    let start = to-start (after-pass .before .before .before) in
-    after-pass .pass .ensures .listing .room ∙ sym (start .pre .1 .1 .0 .room)
-
 returns : tie.Need-returns Inv-loop μ-loop
 returns c =
     let after-pass = c .before .before .before .before .before in
@@ -74,4 +62,4 @@ returns c =
 pub relax-spec : {M : Type 1} → f.Statement.statement M
 relax-spec =
     tie.close (tie.spec Inv-loop μ-loop highest-requires loop-holds (λ c κs. let i = c .before .before .loop .inv in (to-start (c .before .before) .pre .0, (i .0, (i .3, (i .4, i .5)))))
-    loop-less loop-again same-length same-length-2 returns)
+    loop-less loop-again (λ c. omega arith) (λ c. omega arith) returns)

@@ -33,15 +33,7 @@ add-sum : tie.Need-add-sum
 add-sum c =
     let a = to-start (from-fine c) in
     let l = a .pre .1 .1 .0 in
-    omega (
-      arith,
-      a .pre .1 .0 .cheap (a .args .c) (omega (arith, l .marked, l .ring .first)),
-      l .marked,
-      l .ring .last,
-      l .costs,
-      at-cell (from-fine c) .most,
-      c .fine .ensures,
-    )
+    omega (arith, a .pre .1 .0 .cheap (a .args .c) (omega arith), at-cell (from-fine c) .most)
 
 reach-requires : tie.Need-reach-requires
 reach-requires c κs =

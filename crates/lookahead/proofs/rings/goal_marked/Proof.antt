@@ -19,10 +19,10 @@ abbrev start : tie.At-loop Inv-loop μ-loop → tie.Start Inv-loop μ-loop
 start c = c .before .before .before
 
 inside : (c : tie.After-goal-at Inv-loop μ-loop) → asked c .loop .i < length (goalsOf (start (asked c) .args .goals))
-inside c = omega (arith, c .before .loop-test .taken, asked c .before .goals-in .ensures)
+inside c = omega arith
 
 has-mark : (c : tie.After-goal-at Inv-loop μ-loop) → c .goal-at .result < 4096
-has-mark c = omega (arith, c .goal-at .ensures, start (asked c) .pre .0 (asked c .loop .i) (inside c))
+has-mark c = omega (arith, start (asked c) .pre .0 (asked c .loop .i) (inside c))
 
 -- its mark, by the list of goals
 mark-is : (c : tie.After-goal-at Inv-loop μ-loop) → let a = start (asked c) .args in
@@ -33,18 +33,18 @@ returns : tie.Need-returns Inv-loop μ-loop
 returns c =
     let g = c .before .before in
     let a = start (asked g) .args in
-    let marked : a .base ≤ getD (a .mark .now) (getD (goalsOf (a .goals)) (asked g .loop .i) 0) 0 = omega (arith, c .if1 .taken, mark-is g) in
+    let marked : a .base ≤ getD (a .mark .now) (getD (goalsOf (a .goals)) (asked g .loop .i) 0) 0 = omega (arith, mark-is g) in
     sym (any-at (λ x. leb (a .base) (getD (a .mark .now) x 0)) _ (asked g .loop .i) (inside g) (le-leb _ _ marked))
 
 loop-again : tie.Need-loop-again Inv-loop μ-loop
 loop-again c =
     let g = c .before .before in
     let a = start (asked g) .args in
-    let fresh : getD (a .mark .now) (getD (goalsOf (a .goals)) (asked g .loop .i) 0) 0 < a .base = omega (arith, c .if1 .left, mark-is g) in
+    let fresh : getD (a .mark .now) (getD (goalsOf (a .goals)) (asked g .loop .i) 0) 0 < a .base = omega (arith, mark-is g) in
     below-more _ (asked g .loop .i) (asked g .loop .inv) (lt-leb _ _ fresh)
 
 pub goal-marked-spec : {M : Type 1} → f.Statement.statement M
 goal-marked-spec =
-    tie.close (tie.spec Inv-loop μ-loop (λ c κs. search needs) (λ c k h. absurd (omega arith)) (λ c κs. omega (arith, c .loop-test .taken, c .before .before .goals-in .ensures))
-    (λ c. record { fits = omega (arith, has-mark c) }) (λ c. let g = c .before in omega (arith, has-mark g, start (asked g) .pre .1)) returns (λ c. omega arith) (λ c. omega arith) loop-again
-    (λ c. sym (any-none _ _ (λ k h. c .before .loop .inv k (omega (arith, h, c .loop-test .left, c .before .before .goals-in .ensures))))))
+    tie.close (tie.spec Inv-loop μ-loop (λ c κs. search needs) (λ c k h. absurd (omega arith)) (λ c κs. omega arith)
+    (λ c. record { fits = omega (arith, has-mark c) }) (λ c. let g = c .before in omega (arith, has-mark g)) returns (λ c. omega arith) (λ c. omega arith) loop-again
+    (λ c. sym (any-none _ _ (λ k h. c .before .loop .inv k (omega arith)))))

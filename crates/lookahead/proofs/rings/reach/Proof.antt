@@ -8,7 +8,7 @@ slice-write-list-2 : tie.Need-slice-write-list-2
 slice-write-list-2 c =
     let a = c .before .before in
     let left = blanks-pos (a .args .base) (a .args .mark .now) (a .args .d) (search needs) (search needs) in
-    omega (arith, left, a .pre .0 .count, a .pre .0 .cells, length-set (a .args .list .now) (a .args .n) (a .args .d))
+    omega (arith, length-set (a .args .list .now) (a .args .n) (a .args .d))
 
 pub reach-spec : {M : Type 1} → f.Statement.statement M
 reach-spec =

@@ -85,14 +85,14 @@ spread-requires c κs =
     let a = start at-loop in
     let l = at-loop .loop in
     let p = a .pre .1 .1 .1 in
-    (a .pre .0, (l .inv .5 .room, level-segment _ (a .pre .0) _ _ _ _ _ (l .inv .5) (omega (arith, l .inv .3)) (omega (arith, l .inv .3, l .inv .0, p .0 .1)) (p .1 .marks .room)))
+    (a .pre .0, (l .inv .5 .room, level-segment _ (a .pre .0) _ _ _ _ _ (l .inv .5) (omega arith) (omega arith) (p .1 .marks .room)))
 
 add-k : tie.Need-add-k Inv-loop μ-loop
 add-k c =
     let at-loop = turn (marking (c .before)) in
     let l = at-loop .loop in
     let p = start at-loop .pre .1 .1 .1 in
-    omega (arith, l .inv .0, l .inv .3, p .0 .1, p .1 .marks .room)
+    omega arith
 
 returns : tie.Need-returns Inv-loop μ-loop
 returns c =
@@ -112,7 +112,7 @@ returns-2 c =
     let l = turn marked .loop in
     let (g, m, t) = any-some _ _ (sym (tested .goal-marked .ensures) ∙ c .if2 .taken) in
     next-framed _ (start (turn marked) .pre .0) _ _ _ _ _ _ _ _ (l .inv .5) (l .inv .3) (l .inv .2) (l .inv .4) _ (marked .spread .ensures) (omega arith)
-    (omega (arith, next marked .spread .upto, tested .before .before .if1 .left)) g m (leb-true _ _ t)
+    (omega (arith, next marked .spread .upto)) g m (leb-true _ _ t)
 
 loop-again : tie.Need-loop-again Inv-loop μ-loop
 loop-again c =
@@ -120,24 +120,14 @@ loop-again c =
     let marked = marking (tested .before .before .before .before) in
     let l = turn marked .loop in
     let n = next marked in
-    let h : l .to < marked .spread .result = omega (arith, n .spread .upto, tested .before .before .if1 .left) in (
+    let h : l .to < marked .spread .result = omega arith in (
       omega arith,
       h,
       λ g m. leb-false _ _ (any-fails _ _ (sym (tested .goal-marked .ensures) ∙ c .if2 .left) g m),
-      omega (arith, l .inv .3),
+      omega arith,
       full-next _ (start (turn marked) .pre .0) _ _ _ _ _ (l .inv .5) _ (marked .spread .ensures) h (l .inv .4),
       n,
     )
-
--- after the last turn the lists have their lengths still
-lengths : (c : tie.After-loop Inv-loop μ-loop) →
-    let a = start (c .before) .args in
-    let l = c .before .loop in
-    (length (l .mark) ≡ length (a .mark .now)) × (length (l .cost) ≡ length (a .cost .now)) × (length (l .list) ≡ length (a .list .now))
-lengths c =
-    let n = c .before .loop .inv .5 .room .sizes in
-    let p = start (c .before) .pre .1 .1 .1 .1 in
-    (n .marks ∙ sym (p .marks .size), n .costs ∙ sym (p .costs), n .cells ∙ sym (p .cells))
 
 returns-3 : tie.Need-returns-3 Inv-loop μ-loop
 returns-3 c =
@@ -150,4 +140,4 @@ rings-spec =
     tie.close (tie.spec Inv-loop μ-loop begin-requires loop-holds spread-requires (λ c. omega arith) add-k (λ c. kept (marking (c .before .before)) .0)
     (λ c. kept (marking (c .before .before)) .1) (λ c. kept (marking (c .before .before)) .2) returns goal-marked-requires
     (λ c. kept (marking (c .before .before .before .before .before)) .0) (λ c. kept (marking (c .before .before .before .before .before)) .1)
-    (λ c. kept (marking (c .before .before .before .before .before)) .2) returns-2 (λ c. omega arith) loop-again (λ c. lengths c .0) (λ c. lengths c .1) (λ c. lengths c .2) returns-3)
+    (λ c. kept (marking (c .before .before .before .before .before)) .2) returns-2 (λ c. omega arith) loop-again (λ c. omega arith) (λ c. omega arith) (λ c. omega arith) returns-3)

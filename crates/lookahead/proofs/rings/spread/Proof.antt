@@ -1,5 +1,5 @@
 -- `lookahead::rings::spread` meets its contract. The loop's invariant: the cells at the places from `from` to i are left.
-use Rattle.learning.proofs.Words.{_-_, _≤_, _≡_, refl, sym, _∙_, subst, arith, needs, length, getD}
+use Rattle.learning.proofs.Words.{_-_, _≤_, _≡_, refl, sym, _∙_, arith, needs, getD}
 use Rattle.model.proofs.Moves.{free-few}
 use Rattle.floor.specs.Moves.{flat}
 use Rattle.lookahead.proofs.Grow.{swept-none, swept-more}
@@ -29,18 +29,18 @@ marked : (c : tie.After-wide16 Inv-loop μ-loop) → let a = to-start (to-loop c
 marked c = let l = to-loop c .loop in rw (cell-eq c) at (to-start (to-loop c) .pre .1 .1 .marked (l .i) (l .inv .1) (omega arith))
 
 inside : (c : tie.After-wide16 Inv-loop μ-loop) → let a = to-start (to-loop c) .args in In (a .base) (a .mark .now) (c .wide16 .result)
-inside c = omega (arith, marked c, to-start (to-loop c) .pre .1 .1 .ring .first)
+inside c = omega (arith, marked c)
 
 slice-read-wide16 : tie.Need-slice-read-wide16 Inv-loop μ-loop
 slice-read-wide16 c =
     let at-loop = c .before .before in
-    omega (arith, at-loop .loop .inv .2 .grew .room .sizes .cells, to-start at-loop .pre .1 .0 .sizes .count)
+    omega arith
 
 slice-read-w : tie.Need-slice-read-w Inv-loop μ-loop
 slice-read-w c =
     let p = to-start (to-loop (c .before)) .pre in
     let few = free-few _ (c .before .wide16 .result) (p .0) (p .1 .0 .free _ (inside (c .before))) in
-    omega (arith, few, to-loop (c .before) .loop .inv .2 .grew .room .sizes .costs)
+    omega arith
 
 visit-requires : tie.Need-visit-requires Inv-loop μ-loop
 visit-requires c κs =
@@ -53,7 +53,7 @@ visit-requires c κs =
 
 -- no place is past the list, once a cell's moves are followed
 short : (c : tie.After-visit Inv-loop μ-loop) → let a = to-start (to-loop (c .before .before .before .before .before)) .args in a .to ≤ 4096
-short c = omega (arith, to-start (to-loop (c .before .before .before .before .before)) .pre .1 .0 .sizes .count)
+short c = omega arith
 
 loop-again : tie.Need-loop-again Inv-loop μ-loop
 loop-again c =
@@ -61,29 +61,16 @@ loop-again c =
     let cell = left .before .before .before .before .before in
     (omega arith, omega arith, swept-more _ _ _ _ _ _ _ _ _ _ (omega arith) (cell-eq cell) (to-loop cell .loop .inv .2) (left .visit .ensures))
 
--- the lists keep their lengths
-kept : (c : tie.After-loop Inv-loop μ-loop) →
-    let a = to-start (c .before) .args in
-    let l = c .before .loop in
-    (length (l .mark) ≡ length (a .mark .now)) × (length (l .cost) ≡ length (a .cost .now)) × (length (l .list) ≡ length (a .list .now))
-kept c =
-    let n = c .before .loop .inv .2 .grew .room .sizes in
-    let o = to-start (c .before) .pre .1 .0 .sizes in
-    (n .marks ∙ sym (o .marks), n .costs ∙ sym (o .costs), n .cells ∙ sym (o .cells))
-
 returns : tie.Need-returns Inv-loop μ-loop
 returns c =
-    let a = to-start (c .before) .args in
     let l = c .before .loop in
-    let e : l .i ≡ a .to = omega arith in
-    let from = state (a .mark .now) (a .cost .now) (a .list .now) (a .to) in
-    let to = state (l .mark) (l .cost) (l .list) (l .end) in
-    subst (λ z. Swept (flat (a .width) (a .height) (a .floor .now)) (a .base) (a .k) (a .from) z from to) e (l .inv .2)
+    let e : l .i ≡ to-start (c .before) .args .to = omega arith in
+    rw e at (l .inv .2)
 
 pub spread-spec : {M : Type 1} → f.Statement.statement M
 spread-spec =
     tie.close (tie.spec Inv-loop μ-loop (λ c. let a = c .before .before .before .before in (a .pre .1 .1 .order, omega arith, swept-none _ _ _ _ _ (a .pre .1 .0))) (λ c. search needs)
     slice-read-wide16 (λ c κs. tt) (λ c. search needs) slice-read-w visit-requires (λ c. omega (arith, short (c .before .before .before .before .before .before)))
     (λ c. omega (arith, short (c .before .before .before .before .before .before)))
-    (λ c. let left = c .before .before .before .before .before .before in omega (arith, short left, left .visit .ensures .grew .room .sizes .cells)) (λ c. omega arith) (λ c. omega arith)
-    loop-again (λ c. kept c .0) (λ c. kept c .1) (λ c. kept c .2) returns)
+    (λ c. let left = c .before .before .before .before .before .before in omega (arith, short left)) (λ c. omega arith) (λ c. omega arith)
+    loop-again (λ c. search needs) (λ c. search needs) (λ c. search needs) returns)

@@ -1,5 +1,5 @@
 -- `lookahead::rings::visit` meets its contract. The loop's invariant: the cell is left by each of the first m moves.
-use Rattle.learning.proofs.Words.{_-_, _≤_, _≡_, sym, _∙_, subst, arith, length}
+use Rattle.learning.proofs.Words.{_-_, _≤_, _≡_, _∙_, arith}
 use Rattle.floor.specs.Moves.{flat}
 use Rattle.lookahead.proofs.Grow.{left-none, left-more}
 use Rattle.lookahead.specs.Marks.{state, Left}
@@ -22,36 +22,20 @@ extend-requires c κs =
     let a = start at-loop in
     let o = a .pre .1 .1 in
     let L = at-loop .loop .inv .1 in
-    let k = L .grew .kept .marks (a .args .c) (omega (arith, o .marked, o .ring .first)) in
+    let k = L .grew .kept .marks (a .args .c) (omega arith) in
     (a .pre .0, (L .grew .room, (record { placed = at-loop .before .spot-of .ensures; ring = o .ring; marked = k ∙ o .marked; costs = L .stays }, omega arith)))
 
 loop-again : tie.Need-loop-again Inv-loop μ-loop
 loop-again c =
     let extended = c .before .before .before .before .before .before in
     let l = extended .before .before .before .before .before .loop in
-    (omega (arith, l .inv .0), left-more _ _ _ _ _ _ _ _ _ (l .inv .1) (extended .extend .ensures))
-
--- the lists keep their lengths
-kept : (c : tie.After-loop Inv-loop μ-loop) →
-    let a = start (c .before) .args in
-    let l = c .before .loop in
-    (length (l .mark) ≡ length (a .mark .now)) × (length (l .cost) ≡ length (a .cost .now)) × (length (l .list) ≡ length (a .list .now))
-kept c =
-    let n = c .before .loop .inv .1 .grew .room .sizes in
-    let o = start (c .before) .pre .1 .0 .sizes in
-    (n .marks ∙ sym (o .marks), n .costs ∙ sym (o .costs), n .cells ∙ sym (o .cells))
+    (omega arith, left-more _ _ _ _ _ _ _ _ _ (l .inv .1) (extended .extend .ensures))
 
 returns : tie.Need-returns Inv-loop μ-loop
-returns c =
-    let a = start (c .before) .args in
-    let l = c .before .loop in
-    let e : l .m ≡ 8 = omega arith in
-    let from = state (a .mark .now) (a .cost .now) (a .list .now) (a .n) in
-    let to = state (l .mark) (l .cost) (l .list) (l .end) in
-    subst (λ z. Left (flat (a .width) (a .height) (a .floor .now)) (a .base) (a .k) (a .c) z (a .w) from to) e (l .inv .1)
+returns c = let e : c .before .loop .m ≡ 8 = omega arith in rw e at (c .before .loop .inv .1)
 
 pub visit-spec : {M : Type 1} → f.Statement.statement M
 visit-spec =
     tie.close (tie.spec Inv-loop μ-loop (λ c κs. let a = c .before .before .before .before in (a .pre .0, a .pre .1 .1 .free))
     (λ c. let a = c .before .before .before .before .before in (omega arith, left-none _ _ _ _ _ _ (a .pre .1 .0) (a .pre .1 .1 .costs))) extend-requires (λ c. omega arith)
-    (λ c. omega arith) loop-again (λ c. kept c .0) (λ c. kept c .1) (λ c. kept c .2) returns)
+    (λ c. omega arith) loop-again (λ c. omega arith) (λ c. omega arith) (λ c. omega arith) returns)

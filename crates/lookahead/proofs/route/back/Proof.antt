@@ -17,7 +17,7 @@ led-requires : tie.Need-led-requires Inv-loop μ-loop
 led-requires c κs =
     let l = c .before .before in
     let p = l .before .before .before .before .before .pre in
-    (p .0, (p .1 .0, (record { marked = p .1 .1 .0; placed = l .before .spot-of .ensures }, omega (arith, c .rising .ensures, rising-lt (l .loop .k) (omega arith)))))
+    (p .0, (p .1 .0, (record { marked = p .1 .1 .0; placed = l .before .spot-of .ensures }, omega (arith, rising-lt (l .loop .k) (omega arith)))))
 
 -- the call's start, and what the k-th move leads to
 abbrev start : tie.After-led Inv-loop μ-loop → tie.Start Inv-loop μ-loop
@@ -40,7 +40,7 @@ loop-again : tie.Need-loop-again Inv-loop μ-loop
 loop-again c =
     let l = c .before .before in
     let at-loop = l .before .before .before in
-    unled-more _ (start l .pre .0) _ _ _ _ (at-loop .loop .k) (omega arith) (at-loop .loop .inv) _ (leads l) (omega (arith, c .if1 .left))
+    unled-more _ (start l .pre .0) _ _ _ _ (at-loop .loop .k) (omega arith) (at-loop .loop .inv) _ (leads l) (omega arith)
 
 returns-2 : tie.Need-returns-2 Inv-loop μ-loop
 returns-2 c =

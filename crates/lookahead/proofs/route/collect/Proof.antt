@@ -1,5 +1,5 @@
 -- `lookahead::route::collect` meets its contract. The loop's invariant: the moves from the cell on stand at the end. The measure is the cell's cost.
-use Rattle.learning.proofs.Words.{sym, _∙_, arith}
+use Rattle.learning.proofs.Words.{arith}
 use Rattle.lookahead.specs.Costs.{at}
 use Rattle.lookahead.specs.Way.{Collecting}
 use Rattle.lookahead.proofs.Tracing.{costs-of, in-of, some-prior, prior-cheap, collects-none, collects-more, collected}
@@ -59,6 +59,6 @@ returns c =
 
 pub collect-spec : {M : Type 1} → f.Statement.statement M
 collect-spec =
-    tie.close (tie.spec Inv-loop μ-loop loop-holds back-requires sub-k (λ c. omega (arith, c .before .back .ensures .from .one))
-    (λ c. let l = c .before .before .before .loop .inv in omega (arith, l .size, l .fits)) loop-less loop-again (λ c. c .before .loop .inv .size ∙ sym (start (c .before) .pre .1 .1 .1))
+    tie.close (tie.spec Inv-loop μ-loop loop-holds back-requires sub-k (λ c. omega arith)
+    (λ c. omega arith) loop-less loop-again (λ c. omega arith)
     returns)

@@ -1,5 +1,5 @@
 -- `lookahead::route::copy` meets its contract. The loop's invariant: the first i moves stand at the front.
-use Rattle.learning.proofs.Words.{_-_, _≤_, _≡_, refl, subst, _++_, length, take, drop, arith}
+use Rattle.learning.proofs.Words.{_-_, _≤_, _≡_, refl, _++_, length, take, drop, arith}
 use Rattle.model.proofs.Copying.{copied-room, copied-more}
 use Rattle.lookahead.proofs.route.copy as f
 use f.Tie as tie
@@ -26,12 +26,11 @@ loop-again c =
 
 returns : tie.Need-returns Inv-loop μ-loop
 returns c =
-    let a = c .before .before .args in
     let l = c .before .loop in
-    let e : l .i ≡ a .n = omega arith in
-    subst (λ i. l .out ≡ take i (drop (a .k) (a .way .now)) ++ drop i (a .out .now)) e (l .inv .1)
+    let e : l .i ≡ c .before .before .args .n = omega arith in
+    rw e at (l .inv .1)
 
 pub copy-spec : {M : Type 1} → f.Statement.statement M
 copy-spec =
-    tie.close (tie.spec Inv-loop μ-loop (λ c. (omega arith, refl)) (λ c. omega (arith, c .before .before .pre)) (λ c. omega (arith, c .before .before .before .pre))
-    (λ c. omega (arith, room (c .before .before), c .before .before .before .pre .2)) (λ c. omega arith) (λ c. omega arith) loop-again (λ c. room (c .before)) returns)
+    tie.close (tie.spec Inv-loop μ-loop (λ c. (omega arith, refl)) (λ c. omega arith) (λ c. omega arith)
+    (λ c. omega (arith, room (c .before .before))) (λ c. omega arith) (λ c. omega arith) loop-again (λ c. room (c .before)) returns)

@@ -48,12 +48,7 @@ add-sum : tie.Need-add-sum
 add-sum c =
     let after-cell = from-fine c in
     let a = to-start after-cell in
-    omega (
-      arith,
-      a .pre .1 .0 .small (after-cell .cell .given .0 .0) (omega (arith, c .before .before .if1 .left)),
-      at-cell after-cell .most,
-      c .fine .ensures,
-    )
+    omega (arith, a .pre .1 .0 .small (after-cell .cell .given .0 .0) (omega arith), at-cell after-cell .most)
 
 shared-slice-read-if2 : tie.Need-shared-slice-read-if2
 shared-slice-read-if2 c =
@@ -71,7 +66,7 @@ returns-3 c =
     let after-fine = c .before .before in
     let after-cell = from-fine after-fine in
     let a = to-start after-cell in
-    led-new _ (a .pre .0) _ _ _ _ _ _ _ (a .pre .1 .1 .1) (to-cell after-cell) (omega (arith, after-fine .before .before .if1 .left)) (rw (sym (after-fine .fine .ensures)) (c .if2 .left))
+    led-new _ (a .pre .0) _ _ _ _ _ _ _ (a .pre .1 .1 .1) (to-cell after-cell) (omega arith) (rw (sym (after-fine .fine .ensures)) (c .if2 .left))
     (at-cell after-cell .few)
 
 returns-4 : tie.Need-returns-4
