@@ -25,15 +25,15 @@ use Rattle.lookahead.proofs.Meaning.{start-on, not-goal, job-window, ne
 use Rattle.lookahead.proofs.Weighing.{weighed, weighed-high}
 
 -- no cell is entered
-pub bests-none : (base : ℕ) (mark cost table : List ℕ) (p : ℕ) (list : List ℕ) → Bests base mark cost table p list 0 (replicate mostRings unset)
-bests-none base mark cost table p list = record {
+pub bests-none : {base : ℕ} {mark cost table : List ℕ} {p : ℕ} {list : List ℕ} → Bests base mark cost table p list 0 (replicate mostRings unset)
+bests-none = record {
   size = length-replicate {A = ℕ} mostRings unset;
   low = λ i h. absurd (omega arith);
   met = λ k l h. absurd (omega (arith, h, getD-replicate {A = ℕ} mostRings k unset 0 (omega arith)));
 }
 
-module _ (j : Job) (bytes : List ℕ) (s : ℕ) (Q : Asked j bytes s) (table : List ℕ) (T : Figures j bytes table)
-    (base : ℕ) (mark cost list : List ℕ) (n last : ℕ) (W : contract.Window j bytes s base mark cost list n last)
+module _ {j : Job} {bytes : List ℕ} {s : ℕ} (Q : Asked j bytes s) {table : List ℕ} (T : Figures j bytes table)
+    {base : ℕ} {mark cost list : List ℕ} {n last : ℕ} (W : contract.Window j bytes s base mark cost list n last)
   where
     abbrev G : Ground
     G = groundIn j bytes
@@ -43,19 +43,19 @@ module _ (j : Job) (bytes : List ℕ) (s : ℕ) (Q : Asked j bytes s) (table : L
     last-eq = W .last-is
 
     Y : Window (netOf G) (Goal G) (j .depth) s last (ringAt base mark) (coarseAt cost)
-    Y = subst (λ m. Window (netOf G) (Goal G) (j .depth) s m (ringAt base mark) (coarseAt cost)) (sym last-eq) (seen-coarse j bytes s Q base mark cost (W .view))
+    Y = subst (λ m. Window (netOf G) (Goal G) (j .depth) s m (ringAt base mark) (coarseAt cost)) (sym last-eq) (seen-coarse Q (W .view))
 
     near : (x : ℕ) → In base mark x → Near j bytes s x
-    near = near-of j bytes s Q base mark cost (W .view)
+    near = near-of Q (W .view)
 
     pub scores : Scores base mark cost table (j .p)
     scores = record {
       weight = T .weight;
       marks = W .view .spent .size;
       costs = W .view .size;
-      inside = λ x i. (near-few j bytes s Q x (near x i), omega (arith, near-cell j bytes s Q x (near x i), T .size));
-      top = near-high j bytes s Q base mark cost (W .view);
-      small = λ x i. (omega (arith, W .view .costs x (near x i), near-cost j bytes s Q x (near x i)), T .small x);
+      inside = λ x i. (near-few Q x (near x i), omega (arith, near-cell Q x (near x i), T .size));
+      top = near-high Q (W .view);
+      small = λ x i. (omega (arith, W .view .costs x (near x i), near-cost Q x (near x i)), T .small x);
     }
 
     pub listing : Listing base mark list n
@@ -72,9 +72,9 @@ module _ (j : Job) (bytes : List ℕ) (s : ℕ) (Q : Asked j bytes s) (table : L
     full zero h = (s, omega (arith, ring-self Y))
     full (suc k) h =
         let (x, l, e) = empty-full j bytes (seen j bytes s) last (W .full) (suc k) (omega arith) h in
-        (x, ring-unique (job-window j bytes s Q) (seen-window j bytes s Q base mark cost (W .view)) x (omega (arith, e, h, last-eq)) ∙ e)
+        (x, ring-unique (job-window Q) (seen-window Q (W .view)) x (omega (arith, e, h, last-eq)) ∙ e)
 
-    module _ (best : List ℕ) (top : ℕ) (B : Bests base mark cost table (j .p) list n best) (M : Topped best (last + 1) top) where
+    module _ {best : List ℕ} {top : ℕ} (B : Bests base mark cost table (j .p) list n best) (M : Topped best (last + 1) top) where
       abbrev target : ℕ
       target = getD best last 0 % 4096
 
@@ -82,21 +82,21 @@ module _ (j : Job) (bytes : List ℕ) (s : ℕ) (Q : Asked j bytes s) (table : L
       deep = omega (arith, W .depth, Q .deep)
 
       A : Ahead (j .p) last (ringAt base mark) (coarseAt cost) (figure table) (top / 4096) target
-      A = weighed base mark cost table (j .p) list n last best scores listing B deep full (W .some) top M
+      A = weighed last scores listing B deep full (W .some) top M
 
       on-last : ringOf G (j .depth) s target ≡ lastOf G (j .depth) s
       on-last =
           let e = A .on-last in
-          ring-unique (seen-window j bytes s Q base mark cost (W .view)) (job-window j bytes s Q) target (omega (arith, e, last-eq)) ∙ e ∙ last-eq
+          ring-unique (seen-window Q (W .view)) (job-window Q) target (omega (arith, e, last-eq)) ∙ e ∙ last-eq
 
-      pub aimed : (leg : ℕ) → leg ≡ coarseAt cost (getD best last 0 % 4096)
+      pub aimed : {leg : ℕ} → leg ≡ coarseAt cost (getD best last 0 % 4096)
           → Aimed j bytes s table (record { figure = top / 4096; target = getD best last 0 % 4096; leg = leg })
       unfolding ringOf lastOf legOf
-      aimed leg e =
-          let F = found G (j .depth) (j .p) s table (Q .shallow) (start-on j bytes s Q) (not-goal j bytes s Q) Y A in record {
+      aimed e =
+          let F = found G (j .depth) (j .p) s table (Q .shallow) (start-on Q) (not-goal Q) Y A in record {
             figure = F .figure-is;
             target = F .target-is;
             leg = e ∙ F .cost-is;
             on-last = on-last;
-            high = weighed-high base mark cost table (j .p) list n last best scores listing B deep full (W .some) top M;
+            high = weighed-high last scores listing B deep full (W .some) top M;
           }

@@ -38,7 +38,7 @@ use Rattle.lookahead.specs.Bests.{ringAt, coarseAt}
 use Rattle.lookahead.proofs.Weighing.{ring-in, in-ring}
 use Rattle.lookahead.proofs.Seeing.{array-window}
 
-module _ (j : Job) (bytes : List ℕ) (s : ℕ) (Q : Asked j bytes s) where
+module _ {j : Job} {bytes : List ℕ} {s : ℕ} (Q : Asked j bytes s) where
   abbrev f : Floor
   f = floorOf j bytes
 
@@ -152,11 +152,11 @@ module _ (j : Job) (bytes : List ℕ) (s : ℕ) (Q : Asked j bytes s) where
             (x .0, inside (x .0) (omega (arith, back (x .0) l, l)), back (x .0) l ∙ e)
 
   -- the window that `look` leaves
-  module _ (base last n : ℕ) (mark cost list : List ℕ) (F : Framed (floorOf j bytes) s (goals j) (j .depth) base last (state mark cost list n)) (room : base ≤ lastBase)
-      (cost′ list′ : List ℕ) (R : Relaxed (floorOf j bytes) base mark n cost cost′ list′)
+  module _ {base last n : ℕ} {mark cost list : List ℕ} (F : Framed (floorOf j bytes) s (goals j) (j .depth) base last (state mark cost list n)) (room : base ≤ lastBase)
+      {cost′ list′ : List ℕ} (R : Relaxed (floorOf j bytes) base mark n cost cost′ list′)
     where
       W : Window (netOf (fineIn j bytes)) (Goal G) d s last (ringAt base mark) (at cost′)
-      W = array-window f s (goals j) d base last (state mark cost list n) F (Q .deep) (Q .sized) (Q .benches) cost′ list′ R
+      W = array-window F (Q .deep) (Q .sized) (Q .benches) R
 
       spent : Spent base mark
       spent = record { size = F .marked .room .sizes .marks; room = room; below = λ x. omega (arith, F .marked .top x, F .within, Q .deep) }
@@ -175,7 +175,7 @@ module _ (j : Job) (bytes : List ℕ) (s : ℕ) (Q : Asked j bytes s) where
       }
 
   -- number 9's case
-  module _ (base r n : ℕ) (mark cost list : List ℕ) (B : Blocked (floorOf j bytes) s (goals j) (j .depth) base r (state mark cost list n)) (room : base ≤ lastBase) where
+  module _ {base r n : ℕ} {mark cost list : List ℕ} (B : Blocked (floorOf j bytes) s (goals j) (j .depth) base r (state mark cost list n)) (room : base ≤ lastBase) where
     goal-far : (y : ℕ) → Goal G y → ringOf G d s y ≡ lastOf G d s → lastOf G d s ≤ r → ⊥
     goal-far y g e h =
         let (c, v) = job-window .attained y (omega (arith, e)) in
@@ -208,7 +208,7 @@ module _ (j : Job) (bytes : List ℕ) (s : ℕ) (Q : Asked j bytes s) where
         )
 
   -- from the model's window in the lists back to `learning`'s
-  module _ (base : ℕ) (mark cost : List ℕ) (E : Seen j bytes s base mark cost) where
+  module _ {base : ℕ} {mark cost : List ℕ} (E : Seen j bytes s base mark cost) where
     agree : (x : ℕ) → ringOf G d s x ≤ lastOf G d s → (ringAt base mark x ≡ ringOf G d s x) × (at cost x ≡ fineCost j bytes s x)
     unfolding ringOf lastOf legOf
     agree x h = (omega (arith, E .marks x h), E .costs x h)

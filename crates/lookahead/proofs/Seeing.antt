@@ -24,7 +24,7 @@ use Rattle.lookahead.specs.Bests.{ringAt}
 use Rattle.lookahead.proofs.Weighing.{ring-in, in-ring, ring-is}
 
 -- what the relaxation takes
-module _ (f : Floor) (s : ℕ) (gs : List ℕ) (depth base last : ℕ) (S : State) (F : Framed f s gs depth base last S) (deep : depth ≤ deepest) where
+module _ {f : Floor} {s : ℕ} {gs : List ℕ} {depth base last : ℕ} {S : State} (F : Framed f s gs depth base last S) (deep : depth ≤ deepest) where
   pub framed-costs : Costs f base (S .mark) (S .cost)
   framed-costs =
       let R = F .marked .room in record {
@@ -51,7 +51,7 @@ module _ (f : Floor) (s : ℕ) (gs : List ℕ) (depth base last : ℕ) (S : Stat
   start = let m = F .marked .fewest s 0 0 (stop tt) (omega arith) in omega (arith, F .marked .room .cheap s (m .0), m .1)
 
   -- the window
-  module _ (z : Sized f) (benches : Benched (size f) gs) (cost list : List ℕ) (R : Relaxed f base (S .mark) (S .n) (S .cost) cost list) where
+  module _ (z : Sized f) (benches : Benched (size f) gs) {cost list : List ℕ} (R : Relaxed f base (S .mark) (S .n) (S .cost) cost list) where
     abbrev ring : ℕ → ℕ
     ring = ringAt base (S .mark)
 

@@ -33,7 +33,7 @@ ahead way k m l =
     drop-cons (set way k m) k 0 (omega (arith, length-set way k m))
     ∙ ap₂ (λ a b. a ∷ b) (getD-set-same way k m 0 l) (drop-set-lt (suc k) way k m (omega arith))
 
-module _ (j : Job) (bytes : List ℕ) (s : ℕ) (Q : Asked j bytes s) (base : ℕ) (mark cost : List ℕ) (E : Seen j bytes s base mark cost) where
+module _ {j : Job} {bytes : List ℕ} {s : ℕ} (Q : Asked j bytes s) {base : ℕ} {mark cost : List ℕ} (E : Seen j bytes s base mark cost) where
   abbrev f : Floor
   f = floorOf j bytes
 
@@ -44,14 +44,14 @@ module _ (j : Job) (bytes : List ℕ) (s : ℕ) (Q : Asked j bytes s) (base : �
   d = j .depth
 
   near : (x : ℕ) → In base mark x → Near j bytes s x
-  near = near-of j bytes s Q base mark cost E
+  near = near-of Q E
 
   pub costs-of : Costs (floorOf j bytes) base mark cost
   costs-of = record {
     marks = E .spent .size;
     costs = E .size;
-    free = λ x i. near-free j bytes s Q x (near x i);
-    small = λ x i. omega (arith, E .costs x (near x i), near-cost j bytes s Q x (near x i));
+    free = λ x i. near-free Q x (near x i);
+    small = λ x i. omega (arith, E .costs x (near x i), near-cost Q x (near x i));
   }
 
   pub in-of : (x : ℕ) → Near j bytes s x → In base mark x
@@ -60,16 +60,16 @@ module _ (j : Job) (bytes : List ℕ) (s : ℕ) (Q : Asked j bytes s) (base : �
   -- the same cells are in the fine window
   into : (x : ℕ) → Near j bytes s x → ringOf (fineIn j bytes) d s x ≤ lastOf (fineIn j bytes) d s
   unfolding ringOf lastOf
-  into x h = into-fine G fineness d s (omega arith) (Q .shallow) (start-on j bytes s Q) (not-goal j bytes s Q) x h
+  into x h = into-fine G fineness d s (omega arith) (Q .shallow) (start-on Q) (not-goal Q) x h
 
   out-of : (x : ℕ) → ringOf (fineIn j bytes) d s x ≤ lastOf (fineIn j bytes) d s → Near j bytes s x
   unfolding ringOf lastOf
-  out-of x h = from-fine G fineness d s (omega arith) (Q .shallow) (start-on j bytes s Q) (not-goal j bytes s Q) x h
+  out-of x h = from-fine G fineness d s (omega arith) (Q .shallow) (start-on Q) (not-goal Q) x h
 
   -- every cell of the window but s has one before it
   pub some-prior : (x : ℕ) → Near j bytes s x → x ≢ s → (y : ℕ) × Before (floorOf j bytes) base mark cost x y
   some-prior x h o =
-      let p = prior-before (fineIn j bytes) d s (Q .shallow) (start-on j bytes s Q) (not-goal j bytes s Q) x (into x h) o in
+      let p = prior-before (fineIn j bytes) d s (Q .shallow) (start-on Q) (not-goal Q) x (into x h) o in
       let near = out-of (p .at) (p .near) in
       let some = stretched-some fineness 1 (price f (p .at) x) (omega (arith, p .edge .0, p .edge .1)) in
       let at-price = stretched-move fineness 1 (price f (p .at) x) some in
@@ -78,20 +78,20 @@ module _ (j : Job) (bytes : List ℕ) (s : ℕ) (Q : Asked j bytes s) (base : �
   -- no move leads from s to itself
   moves-none : movesTo j bytes s s ≡ []
   unfolding movesAlong route
-  moves-none = ap (movesAlong f s) (route-none (fineIn j bytes) d s (Q .shallow) (start-on j bytes s Q) (not-goal j bytes s Q))
+  moves-none = ap (movesAlong f s) (route-none (fineIn j bytes) d s (Q .shallow) (start-on Q) (not-goal Q))
 
-  pub collects-none : (x : ℕ) (way : List ℕ) → Near j bytes s x → length way ≡ mostMoves → Collecting j bytes s cost x mostMoves x way
-  collects-none x way h l = record {
+  pub collects-none : {x : ℕ} {way : List ℕ} → Near j bytes s x → length way ≡ mostMoves → Collecting j bytes s cost x mostMoves x way
+  collects-none {x} {way} h l = record {
     near = h;
     fits = omega arith;
     size = l;
-    room = omega (arith, E .costs x h, near-cost j bytes s Q x h);
+    room = omega (arith, E .costs x h, near-cost Q x h);
     moves = sym (ap (λ r. movesTo j bytes s x ++ r) (drop-of-length-le way {i = mostMoves} (omega (arith, l))) ∙ append-nil (movesTo j bytes s x));
     low = λ i p. rw (List·getD-eq-default way 0 {n = i} (omega (arith, l))) (omega arith);
   }
 
-  pub collected : (x k cell : ℕ) (way : List ℕ) → cell ≡ s → Collecting j bytes s cost x k cell way → Collected j bytes s x way k
-  collected x k cell way e c = record {
+  pub collected : {x k cell : ℕ} {way : List ℕ} → cell ≡ s → Collecting j bytes s cost x k cell way → Collected j bytes s x way k
+  collected {k = k} {way = way} e c = record {
     size = c .size;
     fits = c .fits;
     moves = c .moves ∙ ap (λ ms. ms ++ drop k way) (ap (λ y. movesTo j bytes s y) e ∙ moves-none);
@@ -99,8 +99,8 @@ module _ (j : Job) (bytes : List ℕ) (s : ℕ) (Q : Asked j bytes s) (base : �
   }
 
   -- copied to the front, they are the route
-  pub traced : (x k n : ℕ) (way out out′ : List ℕ) → Collected j bytes s x way k → n ≡ mostMoves - k → out′ ≡ take n (drop k way) ++ drop n out → Traced j bytes s x out out′ n
-  traced x k n way out out′ c e w =
+  pub traced : {x k n : ℕ} {way out out′ : List ℕ} → Collected j bytes s x way k → n ≡ mostMoves - k → out′ ≡ take n (drop k way) ++ drop n out → Traced j bytes s x out out′ n
+  traced {x} {k} {n} {way} {out} c e w =
       let count : n ≡ length (movesTo j bytes s x) = omega (arith, e, c .size, c .fits, ap length (c .moves), length-drop k way) in record {
         count = count;
         written = w ∙ ap (λ l. l ++ drop n out) (take-all n (drop k way) (omega (arith, count, ap length (c .moves))) ∙ sym (c .moves));
@@ -108,9 +108,9 @@ module _ (j : Job) (bytes : List ℕ) (s : ℕ) (Q : Asked j bytes s) (base : �
         moves = λ i. rw (c .moves, getD-drop k way i 0) (c .low (k + i) (omega arith));
       }
 
-  module _ (x : ℕ) (h : Near j bytes s x) (o : x ≢ s) (b : Link) (P : Prior (floorOf j bytes) base mark cost x b) where
+  module _ {x y k : ℕ} {way : List ℕ} (C : Collecting j bytes s cost y k x way) (o : x ≢ s) {b : Link} (P : Prior (floorOf j bytes) base mark cost x b) where
     -- the cell before x is in the window, and cheaper
-    pub prior-near : Near j bytes s (b .cell)
+    prior-near : Near j bytes s (b .cell)
     prior-near = near (b .cell) (P .from .before .inside)
 
     pub prior-cheap : at cost (b .cell) + fine leastPrice ≤ at cost x
@@ -120,38 +120,38 @@ module _ (j : Job) (bytes : List ℕ) (s : ℕ) (Q : Asked j bytes s) (base : �
     prior-same =
         let P′ = P .from .before in
         let at-price = stretched-move fineness 1 (price f (b .cell) x) (P′ .move) in
-        prior-is (fineIn j bytes) d s (Q .shallow) (start-on j bytes s Q) (not-goal j bytes s Q) x (b .cell) (into (b .cell) prior-near) (omega (arith, P′ .move, at-price))
-        (omega (arith, P′ .exact, E .costs (b .cell) prior-near, E .costs x h, at-price))
-        (λ y ny p e.
-        let some = stretched-some fineness 1 (price f y x) p in
-        P .lowest y (record { inside = in-of y (out-of y ny); move = some; exact = omega (arith, e, E .costs y (out-of y ny), E .costs x h, stretched-move fineness 1 (price f y x) some) }))
+        prior-is (fineIn j bytes) d s (Q .shallow) (start-on Q) (not-goal Q) x (b .cell) (into (b .cell) prior-near) (omega (arith, P′ .move, at-price))
+        (omega (arith, P′ .exact, E .costs (b .cell) prior-near, E .costs x (C .near), at-price))
+        (λ o no p e.
+        let some = stretched-some fineness 1 (price f o x) p in
+        P .lowest o (record { inside = in-of o (out-of o no); move = some; exact = omega (arith, e, E .costs o (out-of o no), E .costs x (C .near), stretched-move fineness 1 (price f o x) some) }))
 
     moves-same : movesTo j bytes s x ≡ movesTo j bytes s (b .cell) ++ b .m ∷ []
     unfolding route
     moves-same =
-        ap (movesAlong f s) (route-more (fineIn j bytes) d s (Q .shallow) (start-on j bytes s Q) (not-goal j bytes s Q) x (b .cell) (into x h) o prior-same)
-        ∙ moves-more f x (route-means j bytes s (Q .shallow) (start-on j bytes s Q) (is-false _ (not-goal j bytes s Q)) (Q .deep) (b .cell) prior-near .0)
+        ap (movesAlong f s) (route-more (fineIn j bytes) d s (Q .shallow) (start-on Q) (not-goal Q) x (b .cell) (into x (C .near)) o prior-same)
+        ∙ moves-more f x (route-means j bytes s (Q .shallow) (start-on Q) (is-false _ (not-goal Q)) (Q .deep) (b .cell) prior-near .0)
         ∙ ap (λ m. movesTo j bytes s (b .cell) ++ m ∷ []) (sym (P .from .heading))
 
     -- the move from it comes ahead of the moves that stand there
-    moves-ahead : (way : List ℕ) (k : ℕ) → k < length way → movesTo j bytes s x ++ drop (suc k) way ≡ movesTo j bytes s (b .cell) ++ drop k (set way k (b .m))
-    moves-ahead way k l =
-        ap (λ ms. ms ++ drop (suc k) way) moves-same
-        ∙ append-snoc (movesTo j bytes s (b .cell)) (b .m) (drop (suc k) way)
-        ∙ ap (λ r. movesTo j bytes s (b .cell) ++ r) (sym (ahead way k (b .m) l))
+    moves-ahead : (i : ℕ) → i < length way → movesTo j bytes s x ++ drop (suc i) way ≡ movesTo j bytes s (b .cell) ++ drop i (set way i (b .m))
+    moves-ahead i l =
+        ap (λ ms. ms ++ drop (suc i) way) moves-same
+        ∙ append-snoc (movesTo j bytes s (b .cell)) (b .m) (drop (suc i) way)
+        ∙ ap (λ r. movesTo j bytes s (b .cell) ++ r) (sym (ahead way i (b .m) l))
 
-    pub collects-more : (y k : ℕ) (way : List ℕ) → Collecting j bytes s cost y k x way → (1 ≤ k) × Collecting j bytes s cost y (k - 1) (b .cell) (set way (k - 1) (b .m))
-    collects-more y k way c =
-        let l : 1 ≤ k = omega (arith, c .room, prior-cheap) in
-        let t : k - 1 < length way = omega (arith, c .size, c .fits) in
+    pub collects-more : (1 ≤ k) × Collecting j bytes s cost y (k - 1) (b .cell) (set way (k - 1) (b .m))
+    collects-more =
+        let l : 1 ≤ k = omega (arith, C .room, prior-cheap) in
+        let t : k - 1 < length way = omega (arith, C .size, C .fits) in
         let e : suc (k - 1) ≡ k = omega arith in (
           l,
           record {
             near = prior-near;
-            fits = omega (arith, c .fits);
-            size = simp length-set (c .size);
-            room = omega (arith, c .room, prior-cheap);
-            moves = c .moves ∙ ap (λ i. movesTo j bytes s x ++ drop i way) (sym e) ∙ moves-ahead way (k - 1) t;
-            low = λ i p. by-store (λ v. v < 8) way (k - 1) (b .m) i t (λ q. P .from .one) (λ q. c .low i (omega (arith, q)));
+            fits = omega (arith, C .fits);
+            size = simp length-set (C .size);
+            room = omega (arith, C .room, prior-cheap);
+            moves = C .moves ∙ ap (λ i. movesTo j bytes s x ++ drop i way) (sym e) ∙ moves-ahead (k - 1) t;
+            low = λ i p. by-store (λ v. v < 8) way (k - 1) (b .m) i t (λ q. P .from .one) (λ q. C .low i (omega (arith, q)));
           },
         )

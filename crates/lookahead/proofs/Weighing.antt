@@ -48,122 +48,124 @@ topped-more best k v pos T = record { none = λ l. absurd (omega arith); met = �
     by (yes d) (no h) = let t = T .met d in (t .0, t .1, omega (arith, t .2), omega (arith, t .3, h))
     by (no d) (no h) = absurd (omega (arith, h, T .none (omega (arith, d))))
 
-module _ (base : ℕ) (mark cost table : List ℕ) (p : ℕ) where
-  abbrev ring : ℕ → ℕ
-  ring = ringAt base mark
+-- a value is small, and so is a key
+module _ {base : ℕ} {mark cost table : List ℕ} {p : ℕ} (S : Scores base mark cost table p) (x : ℕ) (i : In base mark x) where
+  pub value-lt : value cost table p x ≤ highestNew
+  value-lt = omega (arith, mul-le-mul {n₁ = p} {m₁ = coarseAt cost x} {n₂ = finest} {m₂ = dearestLeg} (S .weight) (omega (arith, S .small x i .0)), S .small x i .1)
 
-  -- a value is small, and so is a key
-  pub value-lt : (x : ℕ) → Scores base mark cost table p → In base mark x → value cost table p x ≤ highestNew
-  value-lt x S i = omega (arith, mul-le-mul {n₁ = p} {m₁ = coarseAt cost x} {n₂ = finest} {m₂ = dearestLeg} (S .weight) (omega (arith, S .small x i .0)), S .small x i .1)
+  pub key-lt : key cost table p x < unset
+  key-lt = omega (arith, value-lt, S .inside x i .0)
 
-  pub key-lt : (x : ℕ) → Scores base mark cost table p → In base mark x → key cost table p x < unset
-  key-lt x S i = omega (arith, value-lt x S i, S .inside x i .0)
-
-  -- one cell more is entered
-  module _ (list : List ℕ) (i c : ℕ) (best : List ℕ) (e : getD list i 0 ≡ c) (near : ring c ≤ deepest) (B : Bests base mark cost table p list i best) where
+-- one cell more is entered
+module _ {base : ℕ} {mark cost table : List ℕ} {p : ℕ} {list : List ℕ} {i c : ℕ} {best : List ℕ}
+    (e : getD list i 0 ≡ c) (near : ringAt base mark c ≤ deepest) (B : Bests base mark cost table p list i best)
+  where
     abbrev v : ℕ
-    v = min (key cost table p c) (getD best (ring c) 0)
+    v = min (key cost table p c) (getD best (ringAt base mark c) 0)
 
     abbrev best′ : List ℕ
-    best′ = set best (ring c) v
+    best′ = set best (ringAt base mark c) v
 
-    room : ring c < length best
+    room : ringAt base mark c < length best
     room = omega (arith, near, B .size)
 
-    old : (j : ℕ) → j < i → getD best′ (ring (getD list j 0)) 0 ≤ key cost table p (getD list j 0)
+    old : (j : ℕ) → j < i → getD best′ (ringAt base mark (getD list j 0)) 0 ≤ key cost table p (getD list j 0)
     old j l =
-        by-store (λ y. y ≤ key cost table p (getD list j 0)) best (ring c) v (ring (getD list j 0)) room
+        by-store (λ y. y ≤ key cost table p (getD list j 0)) best (ringAt base mark c) v (ringAt base mark (getD list j 0)) room
         (λ q. omega (arith, B .low j l, ap (λ k. getD best k 0) q)) (λ n. B .low j l)
 
-    new : getD best′ (ring (getD list i 0)) 0 ≤ key cost table p (getD list i 0)
-    new = rw (e, getD-set-same best (ring c) v 0 room) (omega arith)
+    new : getD best′ (ringAt base mark (getD list i 0)) 0 ≤ key cost table p (getD list i 0)
+    new = rw (e, getD-set-same best (ringAt base mark c) v 0 room) (omega arith)
 
-    met′ : (k : ℕ) → k ≤ deepest → getD best′ k 0 < unset → (x : ℕ) × (ring x ≡ k) × (key cost table p x ≡ getD best′ k 0)
+    met′ : (k : ℕ) → k ≤ deepest → getD best′ k 0 < unset → (x : ℕ) × (ringAt base mark x ≡ k) × (key cost table p x ≡ getD best′ k 0)
     met′ k l =
-        by-store (λ y. y < unset → (x : ℕ) × (ring x ≡ k) × (key cost table p x ≡ y)) best (ring c) v k room
-        (λ q h. by q h (decLe (key cost table p c) (getD best (ring c) 0))) (λ n h. B .met k l h)
+        by-store (λ y. y < unset → (x : ℕ) × (ringAt base mark x ≡ k) × (key cost table p x ≡ y)) best (ringAt base mark c) v k room
+        (λ q h. by q h (decLe (key cost table p c) (getD best (ringAt base mark c) 0))) (λ n h. B .met k l h)
       where
-        by : k ≡ ring c → v < unset → Dec (key cost table p c ≤ getD best (ring c) 0) → (x : ℕ) × (ring x ≡ k) × (key cost table p x ≡ v)
+        by : k ≡ ringAt base mark c → v < unset → Dec (key cost table p c ≤ getD best (ringAt base mark c) 0) → (x : ℕ) × (ringAt base mark x ≡ k) × (key cost table p x ≡ v)
         by q h (yes a) = (c, sym q, omega arith)
         by q h (no a) =
-            let m = B .met (ring c) near (omega (arith, h, a)) in
+            let m = B .met (ringAt base mark c) near (omega (arith, h, a)) in
             (m .0, m .1 ∙ sym q, omega (arith, m .2, a))
 
     pub bests-more : Bests base mark cost table p list (i + 1) (set best (ringAt base mark c) (min (key cost table p c) (getD best (ringAt base mark c) 0)))
     bests-more =
-        record { size = simp length-set (B .size); low = below-more (λ j. getD best′ (ring (getD list j 0)) 0 ≤ key cost table p (getD list j 0)) i old new; met = met′ }
+        record { size = simp length-set (B .size); low = below-more (λ j. getD best′ (ringAt base mark (getD list j 0)) 0 ≤ key cost table p (getD list j 0)) i old new; met = met′ }
 
-  -- the keys of every ring 1 to m, of which none is empty
-  module _
-      (list : List ℕ) (n m : ℕ) (best : List ℕ) (S : Scores base mark cost table p) (L : Listing base mark list n) (B : Bests base mark cost table p list n best)
-      (few : m ≤ deepest) (full : (k : ℕ) → k ≤ m → (x : ℕ) × (ring x ≡ k))
-    where
-      low : (x : ℕ) → ring x ≤ m → getD best (ring x) 0 ≤ key cost table p x
-      low x h =
-          let l = L .listed x (ring-in base mark x (omega (arith, h))) in
-          subst (λ y. getD best (ring y) 0 ≤ key cost table p y) (l .2) (B .low (l .0) (l .1))
+-- the keys of every ring 1 to m, of which none is empty
+module _ {base : ℕ} {mark cost table : List ℕ} {p : ℕ} {list : List ℕ} {n : ℕ} {best : List ℕ} (m : ℕ)
+    (S : Scores base mark cost table p) (L : Listing base mark list n) (B : Bests base mark cost table p list n best)
+    (few : m ≤ deepest) (full : (k : ℕ) → k ≤ m → (x : ℕ) × (ringAt base mark x ≡ k))
+  where
+    abbrev ring : ℕ → ℕ
+    ring = ringAt base mark
 
-      -- a ring's entry is the key of one of its cells
-      record Entry (k : ℕ) : Type 0 where
-        cell : ℕ
-        on : ring cell ≡ k
-        small : cell < 4096
-        is : value cost table p cell * 4096 + cell ≡ getD best k 0
+    low : (x : ℕ) → ring x ≤ m → getD best (ring x) 0 ≤ key cost table p x
+    low x h =
+        let l = L .listed x (ring-in base mark x (omega (arith, h))) in
+        subst (λ y. getD best (ring y) 0 ≤ key cost table p y) (l .2) (B .low (l .0) (l .1))
 
-      entry : (k : ℕ) → k ≤ m → Entry k
-      entry k h =
-          let x = full k h in
-          let i = ring-in base mark (x .0) (omega (arith, x .1)) in
-          let l = subst (λ j. getD best j 0 ≤ key cost table p (x .0)) (x .1) (low (x .0) (omega (arith, x .1))) in
-          let t = B .met k (omega arith) (omega (arith, l, key-lt (x .0) S i)) in
-          record { cell = t .0; on = t .1; small = S .inside (t .0) (ring-in base mark (t .0) (omega (arith, t .1))) .0; is = t .2 }
+    -- a ring's entry is the key of one of its cells
+    record Entry (k : ℕ) : Type 0 where
+      cell : ℕ
+      on : ring cell ≡ k
+      small : cell < 4096
+      is : value cost table p cell * 4096 + cell ≡ getD best k 0
 
-      entry-value : (k : ℕ) (h : k ≤ m) → getD best k 0 / 4096 ≡ value cost table p (entry k h .cell)
-      entry-value k h = let t = entry k h in ap (λ y. y / 4096) (sym (t .is)) ∙ row-at 4096 (t .cell) (value cost table p (t .cell)) (t .small)
+    entry : (k : ℕ) → k ≤ m → Entry k
+    entry k h =
+        let x = full k h in
+        let i = ring-in base mark (x .0) (omega (arith, x .1)) in
+        let l = subst (λ j. getD best j 0 ≤ key cost table p (x .0)) (x .1) (low (x .0) (omega (arith, x .1))) in
+        let t = B .met k (omega arith) (omega (arith, l, key-lt S (x .0) i)) in
+        record { cell = t .0; on = t .1; small = S .inside (t .0) (ring-in base mark (t .0) (omega (arith, t .1))) .0; is = t .2 }
 
-      entry-cell : (k : ℕ) (h : k ≤ m) → getD best k 0 % 4096 ≡ entry k h .cell
-      entry-cell k h = let t = entry k h in ap (λ y. y % 4096) (sym (t .is)) ∙ col-at 4096 (t .cell) (value cost table p (t .cell)) (t .small)
+    entry-value : (k : ℕ) (h : k ≤ m) → getD best k 0 / 4096 ≡ value cost table p (entry k h .cell)
+    entry-value k h = let t = entry k h in ap (λ y. y / 4096) (sym (t .is)) ∙ row-at 4096 (t .cell) (value cost table p (t .cell)) (t .small)
 
-      -- and no cell of the ring has a lower one
-      entry-low : (k : ℕ) (h : k ≤ m) (x : ℕ) → ring x ≡ k → getD best k 0 ≤ key cost table p x
-      entry-low k h x e = subst (λ j. getD best j 0 ≤ key cost table p x) e (low x (omega (arith, e)))
+    entry-cell : (k : ℕ) (h : k ≤ m) → getD best k 0 % 4096 ≡ entry k h .cell
+    entry-cell k h = let t = entry k h in ap (λ y. y % 4096) (sym (t .is)) ∙ col-at 4096 (t .cell) (value cost table p (t .cell)) (t .small)
 
-      small : (x : ℕ) → ring x ≤ m → x < 4096
-      small x h = S .inside x (ring-in base mark x (omega (arith, h))) .0
+    -- and no cell of the ring has a lower one
+    entry-low : (k : ℕ) (h : k ≤ m) (x : ℕ) → ring x ≡ k → getD best k 0 ≤ key cost table p x
+    entry-low k h x e = subst (λ j. getD best j 0 ≤ key cost table p x) e (low x (omega (arith, e)))
 
-      least : (k : ℕ) → k ≤ m → Least (OnRing p ring (coarseAt cost) (figure table) k) (getD best k 0 / 4096)
-      least k h =
-          let t = entry k h in record {
-            met = (t .cell, t .on, sym (entry-value k h));
-            low = λ u (x, e, f). omega (arith, entry-value k h, entry-low k h x e, t .is, small x (omega (arith, e)));
-          }
+    small : (x : ℕ) → ring x ≤ m → x < 4096
+    small x h = S .inside x (ring-in base mark x (omega (arith, h))) .0
 
-      abbrev target : ℕ
-      target = getD best m 0 % 4096
+    least : (k : ℕ) → k ≤ m → Least (OnRing p ring (coarseAt cost) (figure table) k) (getD best k 0 / 4096)
+    least k h =
+        let t = entry k h in record {
+          met = (t .cell, t .on, sym (entry-value k h));
+          low = λ u (x, e, f). omega (arith, entry-value k h, entry-low k h x e, t .is, small x (omega (arith, e)));
+        }
 
-      pub weighed : 1 ≤ m → (top : ℕ) → Topped best (m + 1) top → Ahead p m (ringAt base mark) (coarseAt cost) (figure table) (top / 4096) (getD best m 0 % 4096)
-      weighed some top T =
-          let t = entry m (omega arith) in
-          let c = entry-cell m (omega arith) in
-          let g = T .met (omega arith) in record {
-            best = λ k. getD best k 0 / 4096;
-            bests = λ k a h. least k h;
-            greatest = record {
-              met = (g .0, g .1, omega (arith, g .2), ap (λ y. y / 4096) (g .3));
-              high = λ u (k, a, h, e).
-                  let s = entry k h in
-                  let w = entry (g .0) (omega (arith, g .2)) in
-                  omega (arith, e, entry-value k h, s .is, s .small, T .high k a (omega arith), g .3, w .is, w .small, ap (λ y. y / 4096) (g .3), entry-value (g .0) (omega (arith, g .2)));
-            };
-            on-last = ap ring c ∙ t .on;
-            chosen = ap (value cost table p) c ∙ sym (entry-value m (omega arith));
-            lowest = λ x e f. omega (arith, c, entry-low m (omega arith) x e, t .is, f, entry-value m (omega arith));
-          }
+    abbrev target : ℕ
+    target = getD best m 0 % 4096
 
-      -- the new figure is small
-      pub weighed-high : 1 ≤ m → (top : ℕ) → Topped best (m + 1) top → top / 4096 ≤ highestNew
-      weighed-high some top T =
-          let g = T .met (omega arith) in
-          let h : g .0 ≤ m = omega (arith, g .2) in
-          let t = entry (g .0) h in
-          omega (arith, ap (λ y. y / 4096) (g .3), entry-value (g .0) h, value-lt (t .cell) S (ring-in base mark (t .cell) (omega (arith, t .on))))
+    pub weighed : 1 ≤ m → (top : ℕ) → Topped best (m + 1) top → Ahead p m (ringAt base mark) (coarseAt cost) (figure table) (top / 4096) (getD best m 0 % 4096)
+    weighed some top T =
+        let t = entry m (omega arith) in
+        let c = entry-cell m (omega arith) in
+        let g = T .met (omega arith) in record {
+          best = λ k. getD best k 0 / 4096;
+          bests = λ k a h. least k h;
+          greatest = record {
+            met = (g .0, g .1, omega (arith, g .2), ap (λ y. y / 4096) (g .3));
+            high = λ u (k, a, h, e).
+                let s = entry k h in
+                let w = entry (g .0) (omega (arith, g .2)) in
+                omega (arith, e, entry-value k h, s .is, s .small, T .high k a (omega arith), g .3, w .is, w .small, ap (λ y. y / 4096) (g .3), entry-value (g .0) (omega (arith, g .2)));
+          };
+          on-last = ap ring c ∙ t .on;
+          chosen = ap (value cost table p) c ∙ sym (entry-value m (omega arith));
+          lowest = λ x e f. omega (arith, c, entry-low m (omega arith) x e, t .is, f, entry-value m (omega arith));
+        }
+
+    -- the new figure is small
+    pub weighed-high : 1 ≤ m → (top : ℕ) → Topped best (m + 1) top → top / 4096 ≤ highestNew
+    weighed-high some top T =
+        let g = T .met (omega arith) in
+        let h : g .0 ≤ m = omega (arith, g .2) in
+        let t = entry (g .0) h in
+        omega (arith, ap (λ y. y / 4096) (g .3), entry-value (g .0) h, value-lt S (t .cell) (ring-in base mark (t .cell) (omega (arith, t .on))))

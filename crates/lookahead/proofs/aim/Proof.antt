@@ -6,15 +6,15 @@ use f.Tie as tie
 
 weigh-all-requires : tie.Need-weigh-all-requires
 weigh-all-requires c κs =
-    let a = c .before .before .before .before .before .before in
-    (scores _ _ _ (a .pre .0) _ (a .pre .1 .1) _ _ _ _ _ _ (a .pre .1 .0), (listing _ _ _ (a .pre .0) _ (a .pre .1 .1) _ _ _ _ _ _ (a .pre .1 .0), bests-none _ _ _ _ (a .args .job .p) _))
+    let p = c .before .before .before .before .before .before .pre in
+    (scores (p .0) (p .1 .1) (p .1 .0), (listing (p .0) (p .1 .1) (p .1 .0), bests-none))
 
 returns : tie.Need-returns
 returns c =
     let weighed = c .before .before .before .before .before in
     let best = weighed .before in
-    let a = best .before .before .before .before .before .before in
-    aimed _ _ _ (a .pre .0) _ (a .pre .1 .1) _ _ _ _ _ _ (a .pre .1 .0) _ _ (weighed .weigh-all .ensures) (c .before .before .greatest .ensures) _ (c .coarse .ensures)
+    let p = best .before .before .before .before .before .before .pre in
+    aimed (p .0) (p .1 .1) (p .1 .0) (weighed .weigh-all .ensures) (c .before .before .greatest .ensures) (c .coarse .ensures)
 
 pub aim-spec : {M : Type 1} → f.Statement.statement M
 aim-spec =

@@ -1,36 +1,16 @@
 -- `lookahead::look` meets its contract: the rings' marks and the relaxed costs are the model's window, or a ring is empty.
 use Rattle.learning.proofs.Words.{arith, needs}
 use Rattle.model.proofs.Moves.{sized-cells}
-use Rattle.model.specs.Checks.{floorOf, goals}
 use Rattle.lookahead.proofs.Meaning.{looked, blocked}
 use Rattle.lookahead.proofs.Seeing.{framed-costs, framed-listing, framed-noted}
-use Rattle.lookahead.specs.Marks.{state}
-use Rattle.lookahead.specs.Rings.{Framed}
 use Rattle.lookahead.proofs.look as f
 use f.Tie as tie
 
--- from a place to one before it
+-- the call's start, from where the rings are marked
 abbrev to-start : tie.After-rings → tie.Start
 to-start c =
     let after-slice-known = c .before .before .before .before .before .before in
     after-slice-known .before .before
-
-abbrev to-rings : tie.After-last → tie.After-rings
-to-rings c =
-    let after-cost = c .before .before .before .before .before in
-    after-cost .before .before .before
-
--- the rings are marked
-framed : (c : tie.After-last) →
-    let cost = c .before .before .before .before .before in
-    let marked = cost .before .before .before in
-    let a = to-start marked .args in
-    let z = marked .rings .last .1 .1 .1 .1 .1 .1 .1 in
-    Framed (floorOf (a .job) (a .floor .now)) (a .s) (goals (a .job)) (a .job .depth) (a .base) (c .last .given .0 .0) (state (z .0) (z .1 .0) (z .1 .1 .0) (c .last .given .0 .1 .0))
-framed c =
-    let cost = c .before .before .before .before .before in
-    let marked = cost .before .before .before in
-    rw (c .last .given .1) at (marked .rings .ensures)
 
 rings-requires : tie.Need-rings-requires
 rings-requires c κs =
@@ -41,33 +21,29 @@ rings-requires c κs =
 
 relax-requires : tie.Need-relax-requires
 relax-requires c κs =
-    let a = to-start (to-rings (c .before .before .before .before)) in
-    let F = framed (c .before .before .before .before) in
-    let g = floorOf (a .args .job) (a .args .floor .now) in (
-      a .pre .0 .sized,
-      (
-        framed-costs g _ (goals (a .args .job)) (a .args .job .depth) _ _ _ F (a .pre .0 .deep),
-        (
-          framed-listing g _ (goals (a .args .job)) (a .args .job .depth) _ _ _ F (a .pre .0 .deep),
-          framed-noted g _ (goals (a .args .job)) (a .args .job .depth) _ _ _ F (a .pre .0 .deep),
-        ),
-      ),
-    )
+    let told = c .before .before .before .before in
+    let after-cost = told .before .before .before .before .before in
+    let marked = after-cost .before .before .before in
+    let q = to-start marked .pre .0 in
+    let framed = rw (told .last .given .1) at (marked .rings .ensures) in
+    (q .sized, (framed-costs framed (q .deep), (framed-listing framed (q .deep), framed-noted framed (q .deep))))
 
 returns : tie.Need-returns
 returns c =
-    let after-relax = c .before .before .before .before in
-    let after-last = after-relax .before .before .before .before .before in
-    let a = to-start (to-rings after-last) in
-    looked _ _ _ (a .pre .0) _ _ _ _ _ _ (framed after-last) (a .pre .1 .marks .room) _ _ (after-relax .relax .ensures)
+    let relaxed = c .before .before .before .before in
+    let told = relaxed .before .before .before .before .before in
+    let after-cost = told .before .before .before .before .before in
+    let marked = after-cost .before .before .before in
+    let p = to-start marked .pre in
+    looked (p .0) (rw (told .last .given .1) at (marked .rings .ensures)) (p .1 .marks .room) (relaxed .relax .ensures)
 
 returns-2 : tie.Need-returns-2
 returns-2 c =
     let after-cost = c .before .before .before .before .before in
-    let after-rings = after-cost .before .before .before in
-    let a = to-start after-rings in
-    let B = rw (c .enum-told .given .1) at (after-rings .rings .ensures) in
-    blocked _ _ _ (a .pre .0) _ (B .0) (B .1) _ _ _ (B .2) (a .pre .1 .marks .room)
+    let marked = after-cost .before .before .before in
+    let p = to-start marked .pre in
+    let empty = rw (c .enum-told .given .1) at (marked .rings .ensures) in
+    blocked (p .0) (empty .2) (p .1 .marks .room)
 
 pub look-spec : {M : Type 1} → f.Statement.statement M
 look-spec =

@@ -6,9 +6,9 @@ use f.Tie as tie
 
 returns : tie.Need-returns
 returns c =
-    let after-collect = c .before .before .before .before .before .before in
-    let a = after-collect .before .before .before .before .before .before in
-    traced _ _ _ (a .pre .0) _ _ _ (a .pre .1 .0) _ (after-collect .collect .result) _ _ _ _ (after-collect .collect .ensures) refl (c .before .before .copy .ensures)
+    let collected = c .before .before .before .before .before .before in
+    let p = collected .before .before .before .before .before .before .pre in
+    traced (p .0) (p .1 .0) (collected .collect .ensures) refl (c .before .before .copy .ensures)
 
 pub trace-spec : {M : Type 1} → f.Statement.statement M
 trace-spec = tie.close (tie.spec (λ c. search needs) (λ c κs. search needs) (λ c. search needs) (λ c. search needs) (λ c κs. search needs) (λ c. search needs) returns)

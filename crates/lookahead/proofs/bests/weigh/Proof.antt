@@ -1,5 +1,5 @@
 -- `lookahead::bests::weigh` meets its contract: a key of the window is small.
-use Rattle.learning.proofs.Words.{_+_, _-_, _*_, _≤_, _<_, min, ap₂, _∙_, arith, needs, length, getD, set}
+use Rattle.learning.proofs.Words.{_+_, _-_, _*_, _≤_, _<_, _∙_, arith, needs, length}
 use Rattle.model.specs.Lookahead.{highestNew}
 use Rattle.lookahead.proofs.Weighing.{value-lt, ring-is}
 use Rattle.lookahead.proofs.bests.weigh as f
@@ -19,12 +19,12 @@ small : (c : tie.After-wide322) →
     start wide .args .p * c .before .before .coarse .result + c .wide322 .result ≤ highestNew
 small c =
     let a = start (c .before .before .before .before) in
-    rw (c .before .before .coarse .ensures, c .wide322 .ensures .0) (value-lt _ _ _ _ _ _ (a .pre .0) (a .pre .1 .0))
+    rw (c .before .before .coarse .ensures, c .wide322 .ensures .0) (value-lt (a .pre .0) _ (a .pre .1 .0))
 
 mul-v : tie.Need-mul-v
 mul-v c =
     let a = start (c .before .before) in
-    rw (c .coarse .ensures) (omega (arith, value-lt _ _ _ _ _ _ (a .pre .0) (a .pre .1 .0)))
+    rw (c .coarse .ensures) (omega (arith, value-lt (a .pre .0) _ (a .pre .1 .0)))
 
 enter-requires : tie.Need-enter-requires
 enter-requires c κs =
@@ -38,9 +38,8 @@ returns c =
     let cost = figure .before .before in
     let wide = cost .before .before in
     let a = start wide in
-    let k = wide .wide32 .ensures .0 ∙ ring-is (a .args .base) (a .args .mark .now) (a .args .c) (a .pre .1 .0) in
-    let v = ap₂ (λ w t. (a .args .p * w + t) * 4096 + a .args .c) (cost .coarse .ensures) (figure .wide322 .ensures .0) in
-    c .before .before .enter .ensures ∙ ap₂ (λ i u. set (a .args .best .now) i (min u (getD (a .args .best .now) i 0))) k v
+    let ring = wide .wide32 .ensures .0 ∙ ring-is (a .args .base) (a .args .mark .now) (a .args .c) (a .pre .1 .0) in
+    rw (cost .coarse .ensures, figure .wide322 .ensures .0, ring) at (c .before .before .enter .ensures)
 
 pub weigh-spec : {M : Type 1} → f.Statement.statement M
 weigh-spec =

@@ -13,52 +13,34 @@ Inv-loop job floor s base mark cost x way₀ cell₀ k₀ way cell k =
 abbrev μ-loop : tie.MeasureT-loop
 μ-loop job floor s base mark cost x way₀ cell₀ k₀ way cell k = at cost cell
 
-loop-holds : tie.Need-loop-holds Inv-loop μ-loop
-loop-holds c = let a = c .before .before .before .before in collects-none _ _ _ (a .pre .0) _ _ _ (a .pre .1 .0) _ _ (a .pre .1 .1 .0) (a .pre .1 .1 .1)
-
 abbrev start : tie.At-loop Inv-loop μ-loop → tie.Start Inv-loop μ-loop
 start c = c .before .before .before .before .before
 
 back-requires : tie.Need-back-requires Inv-loop μ-loop
 back-requires c κs =
     let p = start (c .before) .pre in
-    let l = c .before .loop in (
-      p .0 .sized,
-      (
-        costs-of _ _ _ (p .0) _ _ _ (p .1 .0),
-        (
-          in-of _ _ _ (p .0) _ _ _ (p .1 .0) _ (l .inv .near),
-          some-prior _ _ _ (p .0) _ _ _ (p .1 .0) _ (l .inv .near) (c .loop-test .taken),
-        ),
-      ),
-    )
+    let near = c .before .loop .inv .near in
+    (p .0 .sized, (costs-of (p .0) (p .1 .0), (in-of (p .0) (p .1 .0) _ near, some-prior (p .0) (p .1 .0) _ near (c .loop-test .taken))))
 
 sub-k : tie.Need-sub-k Inv-loop μ-loop
 sub-k c =
     let p = start (c .before .before) .pre in
-    let l = c .before .before .loop in
-    collects-more _ _ _ (p .0) _ _ _ (p .1 .0) (l .cell) (l .inv .near) (c .before .loop-test .taken) _ (c .back .ensures) _ (l .k) (l .way) (l .inv) .0
+    collects-more (p .0) (p .1 .0) (c .before .before .loop .inv) (c .before .loop-test .taken) (c .back .ensures) .0
 
 loop-less : tie.Need-loop-less Inv-loop μ-loop
 loop-less c =
-    let a = start (c .before .before .before) in
-    let l = c .before .before .before .loop in
-    omega (arith, prior-cheap _ _ _ (a .pre .0) _ _ _ (a .pre .1 .0) _ (l .inv .near) (c .before .before .loop-test .taken) _ (c .before .back .ensures))
+    let at-loop = c .before .before .before in
+    let p = start at-loop .pre in
+    omega (arith, prior-cheap (p .0) (p .1 .0) (at-loop .loop .inv) (c .before .before .loop-test .taken) (c .before .back .ensures))
 
 loop-again : tie.Need-loop-again Inv-loop μ-loop
 loop-again c =
-    let a = start (c .before .before .before) in
-    let l = c .before .before .before .loop in
-    collects-more _ _ _ (a .pre .0) _ _ _ (a .pre .1 .0) _ (l .inv .near) (c .before .before .loop-test .taken) _ (c .before .back .ensures) _ _ _ (l .inv) .1
-
-returns : tie.Need-returns Inv-loop μ-loop
-returns c =
-    let a = start (c .before) in
-    let l = c .before .loop in
-    collected _ _ _ (a .pre .0) _ _ _ (a .pre .1 .0) _ _ _ _ (c .loop-test .left) (l .inv)
+    let at-loop = c .before .before .before in
+    let p = start at-loop .pre in
+    collects-more (p .0) (p .1 .0) (at-loop .loop .inv) (c .before .before .loop-test .taken) (c .before .back .ensures) .1
 
 pub collect-spec : {M : Type 1} → f.Statement.statement M
 collect-spec =
-    tie.close (tie.spec Inv-loop μ-loop loop-holds back-requires sub-k (λ c. omega arith)
+    tie.close (tie.spec Inv-loop μ-loop (λ c. let p = c .before .before .before .before .pre in collects-none (p .0) (p .1 .0) (p .1 .1 .0) (p .1 .1 .1)) back-requires sub-k (λ c. omega arith)
     (λ c. omega arith) loop-less loop-again (λ c. omega arith)
-    returns)
+    (λ c. let p = start (c .before) .pre in collected (p .0) (p .1 .0) (c .loop-test .left) (c .before .loop .inv)))
