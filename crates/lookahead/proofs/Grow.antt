@@ -17,20 +17,31 @@ use Rattle.learning.proofs.Walks.{widen, restate}
 use Rattle.model.specs.Floor.{Floor, Sized, free, dearestPrice, price}
 use Rattle.model.specs.Grounds.{price-same}
 use Rattle.model.specs.Lookahead.{fineness, fine}
+use Rattle.floor.specs.declared.Spot.{Spot}
+use Rattle.floor.specs.declared.Step.{Step}
 use Rattle.floor.specs.declared.Step.the-variants.{To, Wall}
 use Rattle.floor.specs.Moves.{stepOf}
 use Rattle.floor.proofs.Steps.{Stepped, stepped, wall≢to, same-to}
-use Rattle.lookahead.specs.Marks.{net, State, state, entered, markOf, costAt, cellOf, noteAt, In, Sizes, Room, Spread, Kept, Grew, Reached, Extended, Left, Swept, Out}
+use Rattle.lookahead.specs.Marks.{net, State, state, entered, markOf, costAt, cellOf, noteAt, In, Sizes, Room, Spread, Kept, Grew, Reached, Leaving, Extended, Left, Swept, Out}
 use Rattle.lookahead.proofs.Blanks.{blanks-pos, blanks-set}
 use Rattle.lookahead.proofs.Stores.{by-store}
 
--- the move back, its price, and as a fine one
-pub price-back : (f : Floor) (z : Sized f) (c m d v : ℕ) → stepOf f c m ≡ To d v → (1 ≤ v) × (price f d c ≡ v)
-price-back f z c m d v step = let s = stepped f z c m d v step in (omega (arith, s .least), price-same f d c ∙ s .price)
+-- a move that leads to the cell d at the price v: the step, and what it says
+pub record Moved (f : Floor) (x m d v : ℕ) : Type 0 where
+  pub step : stepOf f x m ≡ To d v
+  pub at : Stepped f x m d v
 
-pub edge-back : (f : Floor) (z : Sized f) (c m d v : ℕ) → stepOf f c m ≡ To d v → net f .Edge d c (fine v)
-edge-back f z c m d v step =
-    let (some, e) = price-back f z c m d v step in
+-- so the code finds it
+pub moved : {f : Floor} {x m d v : ℕ} {told : Step} → Sized f → told ≡ stepOf f x m → told ≡ To d v → Moved f x m d v
+moved {f} {x} {m} {d} {v} z e t = record { step = sym e ∙ t; at = stepped f z x m d v (sym e ∙ t) }
+
+-- the move back, its price, and as a fine one
+pub price-back : {f : Floor} {c m d v : ℕ} → Moved f c m d v → (1 ≤ v) × (price f d c ≡ v)
+price-back {f} {c} {d = d} M = (omega (arith, M .at .least), price-same f d c ∙ M .at .price)
+
+pub edge-back : {f : Floor} {c m d v : ℕ} → Moved f c m d v → net f .Edge d c (fine v)
+edge-back {v = v} M =
+    let (some, e) = price-back M in
     (omega arith, ap (stretched fineness 1) e ∙ stretched-move fineness 1 v some)
 
 -- the state with the mark k + 1 and the cost u at d
@@ -60,24 +71,40 @@ module _ (list : List ℕ) (n d : ℕ) (size : length list ≡ 8192) (space : n 
   pub entered-blank : getD (entered list n d) (n + 4096) 0 ≡ 65535
   entered-blank = getD-set-same (set list n d) (n + 4096) 65535 0 second-in-list
 
+-- a marked cell stays marked
+pub kept-in : {base : ℕ} {S S′ : State} → Kept base S S′ → (x : ℕ) → In base (S .mark) x → In base (S′ .mark) x
+kept-in K x p = rw (K .marks x p) p
+
+-- no state grew in itself; and one growth after another
+grew-refl : {f : Floor} {base k : ℕ} {S : State} → Room f base S → Grew f base k S S
+grew-refl R = record { room = R; kept = record { marks = λ x p. refl; costs = λ x p. omega arith; cells = λ i p. refl; grows = omega arith }; spread = λ s to G. G }
+
+kept-trans : {base : ℕ} {A B C : State} → Kept base A B → Kept base B C → Kept base A C
+kept-trans p q = record {
+  marks = λ x l. q .marks x (kept-in p x l) ∙ p .marks x l;
+  costs = λ x l. omega (arith, q .costs x (kept-in p x l), p .costs x l);
+  cells = λ i l. q .cells i (omega (arith, p .grows)) ∙ p .cells i l;
+  grows = omega (arith, p .grows, q .grows);
+}
+
+grew-trans : {f : Floor} {base k : ℕ} {A B C : State} → Grew f base k A B → Grew f base k B C → Grew f base k A C
+grew-trans p q = record { room = q .room; kept = kept-trans (p .kept) (q .kept); spread = λ s to G. q .spread s to (p .spread s to G) }
+
+-- the cell d is reached by the move m from c, of mark k and cost w
 module _
-    (f : Floor) (z : Sized f) (base k c m d v w : ℕ) (S : State) (R : Room f base S)
-    (from : markOf S c ≡ k) (own : costAt S c ≡ w) (pos : base ≤ k) (step : stepOf f c m ≡ To d v)
+    {f : Floor} {base k c m d v w : ℕ} {spot : Spot} {S : State} (R : Room f base S) (C : Leaving f base c spot k w S) (M : Moved f c m d v)
   where
     abbrev u : ℕ
     u = w + fine v
 
-    E : Stepped f c m d v
-    E = stepped f z c m d v step
-
     inside : d < length (S .mark)
-    inside = omega (arith, R .sizes .marks, E .few)
+    inside = omega (arith, R .sizes .marks, M .at .few)
 
     inside-cost : d < length (S .cost)
-    inside-cost = omega (arith, R .sizes .costs, E .few)
+    inside-cost = omega (arith, R .sizes .costs, M .at .few)
 
     from-in : In base (S .mark) c
-    from-in = omega (arith, from, pos)
+    from-in = omega (arith, C .marked, C .ring .first)
 
     -- d has no mark yet
     module _ (blank : markOf S d < base) where
@@ -117,7 +144,7 @@ module _
         marks = simp length-set (R .sizes .marks);
         costs = simp length-set (R .sizes .costs);
         cells = entered-size (S .list) (S .n) d (R .sizes .cells) space;
-        count = omega (arith, R .sizes .count, blanks-set base (S .mark) d (k + 1) inside blank (omega (arith, pos)));
+        count = omega (arith, R .sizes .count, blanks-set base (S .mark) d (k + 1) inside blank (omega (arith, C .ring .first)));
       }
 
       grown-kept : Kept base S (grown k d u S)
@@ -126,11 +153,11 @@ module _
       grown-cheap : (x : ℕ) → In base mark′ x → costAt (grown k d u S) x ≤ fine dearestPrice * (getD mark′ x 0 - base)
       grown-cheap x =
           by-store (λ y. base ≤ y → costAt (grown k d u S) x ≤ fine dearestPrice * (y - base)) (S .mark) d (k + 1) x inside
-          (λ e p. rw (e, cost-new) (omega (arith, E .most, R .cheap c from-in, own, from, pos)))
+          (λ e p. rw (e, cost-new) (omega (arith, M .at .most, R .cheap c from-in, C .costs, C .marked, C .ring .first)))
           (λ n p. rw (costs-kept x p) (R .cheap x p))
 
       grown-free : (x : ℕ) → In base mark′ x → free f x ≡ true
-      grown-free x = by-store (λ y. base ≤ y → free f x ≡ true) (S .mark) d (k + 1) x inside (λ e p. rw e (E .free)) (λ n p. R .free x p)
+      grown-free x = by-store (λ y. base ≤ y → free f x ≡ true) (S .mark) d (k + 1) x inside (λ e p. rw e (M .at .free)) (λ n p. R .free x p)
 
       -- the new cell's moves were not followed; those of the others lead where they led
       grown-notes : (i : ℕ) → i < S .n + 1 → (j x y : ℕ) → j < 8 → stepOf f (cellOf (grown k d u S) i) j ≡ To x y
@@ -156,14 +183,14 @@ module _
         grown-walks x =
             by-store (λ y. base ≤ y → (a : ℕ) × Walk (net f) (In base mark′) x s a (y - base)) (S .mark) d (k + 1) x inside
             (λ e p. let g = G .walks c from-in in
-            rw e (fine v + g .0, restate refl (omega (arith, from, pos)) (move (rw mark-new (omega (arith, pos))) (edge-back f z c m d v step) (widen stays-in (g .1)))))
+            rw e (fine v + g .0, restate refl (omega (arith, C .marked, C .ring .first)) (move (rw mark-new (omega (arith, C .ring .first))) (edge-back M) (widen stays-in (g .1)))))
             (λ n p. let g = G .walks x p in (g .0, widen stays-in (g .1)))
 
         grown-costs : (x : ℕ) → In base mark′ x → Leads (net f) (In base mark′) x s (costAt (grown k d u S) x)
         grown-costs x =
             by-store (λ y. base ≤ y → Leads (net f) (In base mark′) x s (costAt (grown k d u S) x)) (S .mark) d (k + 1) x inside
             (λ e p. let g = G .costs c from-in in
-            rw (e, cost-new) (suc (g .0), restate (omega (arith, own)) refl (move (rw mark-new (omega (arith, pos))) (edge-back f z c m d v step) (widen stays-in (g .1)))))
+            rw (e, cost-new) (suc (g .0), restate (omega (arith, C .costs)) refl (move (rw mark-new (omega (arith, C .ring .first))) (edge-back M) (widen stays-in (g .1)))))
             (λ n p. let g = G .costs x p in rw (costs-kept x p) (g .0, widen stays-in (g .1)))
 
         grown-listed : (x : ℕ) → In base mark′ x
@@ -187,7 +214,7 @@ module _
           walks = grown-walks;
           costs = grown-costs;
           listed = grown-listed;
-          early = λ i p. by-cell (λ y. base ≤ getD mark′ y 0) i p (rw mark-new (omega (arith, pos))) (λ l. stays-in (cellOf S i) (G .early i l));
+          early = λ i p. by-cell (λ y. base ≤ getD mark′ y 0) i p (rw mark-new (omega (arith, C .ring .first))) (λ l. stays-in (cellOf S i) (G .early i l));
           late = λ i p q. by-cell (λ y. getD mark′ y 0 ≡ k + 1) i p mark-new (λ l. marks-kept (cellOf S i) (G .early i l) ∙ G .late i l q);
           upto = omega (arith, G .upto);
         }
@@ -196,10 +223,10 @@ module _
       grown-grew = record { room = grown-room; kept = grown-kept; spread = grown-spread }
 
       pub grown-out : In base (set (S .mark) d (k + 1)) d × (getD (set (S .cost) d (w + fine v)) d 0 ≤ w + fine v)
-      grown-out = (rw mark-new (omega (arith, pos)), omega (arith, cost-new))
+      grown-out = (rw mark-new (omega (arith, C .ring .first)), omega (arith, cost-new))
 
       pub grown-stays : getD (set (S .cost) d (w + fine v)) c 0 ≡ w
-      grown-stays = costs-kept c from-in ∙ own
+      grown-stays = costs-kept c from-in ∙ C .costs
 
     -- d has one, and its cost is lowered
     module _ (to-in : In base (S .mark) d) (less : w + fine v < costAt S d) where
@@ -220,7 +247,7 @@ module _
       lower-costs : (s to : ℕ) → Spread f s base (k + 1) to S → (x : ℕ) → In base (S .mark) x → Leads (net f) (In base (S .mark)) x s (costAt L x)
       lower-costs s to G x =
           by-store (λ y. In base (S .mark) x → Leads (net f) (In base (S .mark)) x s y) (S .cost) d u x inside-cost
-          (λ e p. let g = G .costs c from-in in rw e (suc (g .0), restate (omega (arith, own)) refl (move to-in (edge-back f z c m d v step) (g .1))))
+          (λ e p. let g = G .costs c from-in in rw e (suc (g .0), restate (omega (arith, C .costs)) refl (move to-in (edge-back M) (g .1))))
           (λ n p. G .costs x p)
 
       pub lower-grew : Grew f base k S (state (S .mark) (set (S .cost) d (w + fine v)) (S .list) (S .n))
@@ -234,83 +261,54 @@ module _
       lower-out = omega (arith, getD-set-same (S .cost) d u 0 inside-cost)
 
       pub lower-stays : getD (set (S .cost) d (w + fine v)) c 0 ≡ w
-      lower-stays = by-store (λ y. y ≡ w) (S .cost) d u c inside-cost (λ e. absurd (omega (arith, less, own, ap (costAt S) e))) (λ n. own)
+      lower-stays = by-store (λ y. y ≡ w) (S .cost) d u c inside-cost (λ e. absurd (omega (arith, less, C .costs, ap (costAt S) e))) (λ n. C .costs)
 
--- a marked cell stays marked
-pub kept-in : {base : ℕ} (S S′ : State) → Kept base S S′ → (x : ℕ) → In base (S .mark) x → In base (S′ .mark) x
-kept-in S S′ K x p = rw (K .marks x p) p
+    -- the cell moved into is reached at what the move adds
+    module _ {S′ : State} {a : ℕ} (adds : a ≡ fine v) (reached : Reached base d (k + 1) (w + a) S S′) where
+      E : Reached base d (k + 1) (w + fine v) S S′
+      E = rw adds at reached
 
--- no state grew in itself; and one growth after another
-pub kept-refl : (base : ℕ) (S : State) → Kept base S S
-kept-refl base S = record { marks = λ x p. refl; costs = λ x p. omega arith; cells = λ i p. refl; grows = omega arith }
+      -- what the move gives in a state T, where it leads
+      extends : {T : State} → Grew f base k S T → In base (T .mark) d × (costAt T d ≤ w + fine v) → costAt T c ≡ w → Extended f base k c m w S T
+      extends {T} G o e = record {
+        grew = G;
+        out = λ x y q. let t = same-to (sym (M .step) ∙ q) in (subst (In base (T .mark)) (t .0) (o .0), omega (arith, o .1, t .1, ap (costAt T) (t .0)));
+        stays = e;
+      }
 
-pub grew-refl : (f : Floor) (base k : ℕ) (S : State) → Room f base S → Grew f base k S S
-grew-refl f base k S R = record { room = R; kept = kept-refl base S; spread = λ s to G. G }
+      by-cost : In base (S .mark) d → Dec (w + fine v < costAt S d) → Extended f base k c m w S S′
+      by-cost i (yes l) = rw (E .low i l) (extends (lower-grew i l) (i, lower-out i l) (lower-stays i l))
+      by-cost i (no n) =
+          let l : costAt S d ≤ w + fine v = omega (arith, n) in
+          rw (E .old i l) (extends (grew-refl R) (i, l) (C .costs))
 
-pub kept-trans : (base : ℕ) (A B C : State) → Kept base A B → Kept base B C → Kept base A C
-kept-trans base A B C p q = record {
-  marks = λ x l. q .marks x (kept-in A B p x l) ∙ p .marks x l;
-  costs = λ x l. omega (arith, q .costs x (kept-in A B p x l), p .costs x l);
-  cells = λ i l. q .cells i (omega (arith, p .grows)) ∙ p .cells i l;
-  grows = omega (arith, p .grows, q .grows);
-}
+      by-mark : Dec (base ≤ markOf S d) → Extended f base k c m w S S′
+      by-mark (yes i) = by-cost i (decLt (w + fine v) (costAt S d))
+      by-mark (no n) =
+          let b : markOf S d < base = omega (arith, n) in
+          rw (E .new b) (extends (grown-grew b) (grown-out b) (grown-stays b))
 
-pub grew-trans : (f : Floor) (base k : ℕ) (A B C : State) → Grew f base k A B → Grew f base k B C → Grew f base k A C
-grew-trans f base k A B C p q =
-    record { room = q .room; kept = kept-trans base A B C (p .kept) (q .kept); spread = λ s to G. q .spread s to (p .spread s to G) }
-
--- the cell moved into is reached
-module _
-    (f : Floor) (z : Sized f) (base k c m d v w : ℕ) (S S′ : State) (R : Room f base S)
-    (from : markOf S c ≡ k) (own : costAt S c ≡ w) (pos : base ≤ k) (step : stepOf f c m ≡ To d v)
-    (E : Reached base d (k + 1) (w + fine v) S S′)
-  where
-    -- what the move gives in a state T, where it leads
-    extends : (T : State) → Grew f base k S T → In base (T .mark) d × (costAt T d ≤ w + fine v) → costAt T c ≡ w → Extended f base k c m w S T
-    extends T G o e = record {
-      grew = G;
-      out = λ x y q. let t = same-to (sym step ∙ q) in (subst (In base (T .mark)) (t .0) (o .0), omega (arith, o .1, t .1, ap (costAt T) (t .0)));
-      stays = e;
-    }
-
-    by-cost : In base (S .mark) d → Dec (w + fine v < costAt S d) → Extended f base k c m w S S′
-    by-cost i (yes l) =
-        rw (E .low i l)
-        (extends (state (S .mark) (set (S .cost) d (w + fine v)) (S .list) (S .n))
-        (lower-grew f z base k c m d v w S R from own pos step i l) (i, lower-out f z base k c m d v w S R from own pos step i l) (lower-stays f z base k c m d v w S R from own pos step i l))
-    by-cost i (no n) =
-        let l : costAt S d ≤ w + fine v = omega (arith, n) in
-        rw (E .old i l) (extends S (grew-refl f base k S R) (i, l) own)
-
-    by-mark : Dec (base ≤ markOf S d) → Extended f base k c m w S S′
-    by-mark (yes i) = by-cost i (decLt (w + fine v) (costAt S d))
-    by-mark (no n) =
-        let b : markOf S d < base = omega (arith, n) in
-        rw (E .new b)
-        (extends (grown k d (w + fine v) S)
-        (grown-grew f z base k c m d v w S R from own pos step b) (grown-out f z base k c m d v w S R from own pos step b) (grown-stays f z base k c m d v w S R from own pos step b))
-
-    pub extended-to : Extended f base k c m w S S′
-    extended-to = by-mark (decLe base (markOf S d))
+      pub extended-to : Extended f base k c m w S S′
+      extended-to = by-mark (decLe base (markOf S d))
 
 -- no cell is moved into
-pub extended-wall : (f : Floor) (base k c m w : ℕ) (S : State) → Room f base S → costAt S c ≡ w → stepOf f c m ≡ Wall → Extended f base k c m w S S
-extended-wall f base k c m w S R own e = record { grew = grew-refl f base k S R; out = λ d v q. absurd (wall≢to d v (sym e ∙ q)); stays = own }
+pub extended-wall : {f : Floor} {base k c m w : ℕ} {S : State} → Room f base S → costAt S c ≡ w → stepOf f c m ≡ Wall → Extended f base k c m w S S
+extended-wall R own e = record { grew = grew-refl R; out = λ d v q. absurd (wall≢to d v (sym e ∙ q)); stays = own }
 
 -- no move yet, and one move more
-pub left-none : (f : Floor) (base k c w : ℕ) (S : State) → Room f base S → costAt S c ≡ w → Left f base k c 0 w S S
-left-none f base k c w S R own = record { grew = grew-refl f base k S R; out = λ i l d v e. absurd (omega arith); stays = own }
+pub left-none : {f : Floor} {base k c w : ℕ} {S : State} → Room f base S → costAt S c ≡ w → Left f base k c 0 w S S
+left-none R own = record { grew = grew-refl R; out = λ i l d v e. absurd (omega arith); stays = own }
 
-pub left-more : (f : Floor) (base k c m w : ℕ) (A B C : State) → Left f base k c m w A B → Extended f base k c m w B C → Left f base k c (m + 1) w A C
-left-more f base k c m w A B C p q = record {
-  grew = grew-trans f base k A B C (p .grew) (q .grew);
+pub left-more : {f : Floor} {base k c m w : ℕ} {A B C : State} → Left f base k c m w A B → Extended f base k c m w B C → Left f base k c (m + 1) w A C
+left-more {f} {base} {c = c} {m = m} {w = w} {C = C} p q = record {
+  grew = grew-trans (p .grew) (q .grew);
   out = below-more (λ i. (d v : ℕ) → stepOf f c i ≡ To d v → In base (C .mark) d × (costAt C d ≤ w + fine v)) m
-      (λ i l d v e. let o = p .out i l d v e in (kept-in B C (q .grew .kept) d (o .0), omega (arith, o .1, q .grew .kept .costs d (o .0)))) (q .out);
+      (λ i l d v e. let o = p .out i l d v e in (kept-in (q .grew .kept) d (o .0), omega (arith, o .1, q .grew .kept .costs d (o .0)))) (q .out);
   stays = q .stays;
 }
 
 -- the cost at which a cell was left is noted beside it in the list
-module _ (f : Floor) (base k c w i : ℕ) (A B : State) (L : Left f base k c 8 w A B) (l : i < B .n) (here : cellOf B i ≡ c) where
+module _ {f : Floor} {base k c w : ℕ} (i : ℕ) {A B : State} (L : Left f base k c 8 w A B) (l : i < B .n) (here : cellOf B i ≡ c) where
   abbrev N : State
   N = state (B .mark) (B .cost) (set (B .list) (i + 4096) w) (B .n)
 
@@ -352,16 +350,16 @@ module _ (f : Floor) (base k c w i : ℕ) (A B : State) (L : Left f base k c 8 w
   }
 
 -- no cell yet, and one cell more
-pub swept-none : (f : Floor) (base k from : ℕ) (S : State) → Room f base S → Swept f base k from from S S
-swept-none f base k from S R = record { grew = grew-refl f base k S R; outs = λ j l q. absurd (omega arith) }
+pub swept-none : {f : Floor} {base k from : ℕ} {S : State} → Room f base S → Swept f base k from from S S
+swept-none R = record { grew = grew-refl R; outs = λ j l q. absurd (omega arith) }
 
-pub swept-more : (f : Floor) (base k from i c w : ℕ) (A B C : State) → i < A .n → cellOf A i ≡ c
+pub swept-more : {f : Floor} {base k from i c w : ℕ} {A B C : State} → i < A .n → cellOf A i ≡ c
     → Swept f base k from i A B → Left f base k c 8 w B C → Swept f base k from (i + 1) A (state (C .mark) (C .cost) (set (C .list) (i + 4096) w) (C .n))
-swept-more f base k from i c w A B C l e p q =
+swept-more {f} {base} {from = from} {i = i} {c = c} {A = A} {C = C} l e p q =
     let n : i < C .n = omega (arith, p .grew .kept .grows, q .grew .kept .grows) in
     let here : cellOf C i ≡ c = q .grew .kept .cells i (omega (arith, p .grew .kept .grows)) ∙ p .grew .kept .cells i l ∙ e in
     record {
-      grew = grew-trans f base k A C _ (grew-trans f base k A B C (p .grew) (q .grew)) (noted-grew f base k c w i B C q n here);
+      grew = grew-trans (grew-trans (p .grew) (q .grew)) (noted-grew i q n here);
       outs = λ j r t. below-more (λ y. from ≤ y → Out f base C (cellOf A y) 8) i
-          (λ y ly lf m lm d v s. kept-in B C (q .grew .kept) d (p .outs y lf ly m lm d v s)) (λ lf. rw e (λ m lm d v s. q .out m lm d v s .0)) j t r;
+          (λ y ly lf m lm d v s. kept-in (q .grew .kept) d (p .outs y lf ly m lm d v s)) (λ lf. rw e (λ m lm d v s. q .out m lm d v s .0)) j t r;
     }

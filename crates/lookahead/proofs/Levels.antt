@@ -17,6 +17,7 @@ use Rattle.model.specs.Floor.{Floor, Sized, free, price}
 use Rattle.model.specs.Checks.{deepest}
 use Rattle.model.specs.Lookahead.{fineness}
 use Rattle.model.proofs.Accepted.{never}
+use Rattle.model.proofs.Moves.{free-few}
 use Rattle.floor.specs.declared.Step.the-variants.{To}
 use Rattle.floor.specs.Moves.{stepOf}
 use Rattle.floor.proofs.Steps.{price-step}
@@ -27,13 +28,20 @@ use Rattle.lookahead.proofs.Blanks.{blanks-set, blanks-all}
 use Rattle.lookahead.proofs.Stores.{by-store}
 use Rattle.lookahead.proofs.Grow.{kept-in, entered-new, entered-size, entered-blank}
 
+-- the rings 0 to r are marked, none is empty, and no goal is in one of them; the last has the mark k, and its cells stand in the list from `from` on
+pub record Ringed (f : Floor) (s : ℕ) (gs : List ℕ) (base r k from : ℕ) (S : State) : Type 0 where
+  pub mark : k ≡ base + r
+  pub far : Unmet gs base S
+  pub full : Full base k S
+  pub level : Level f s base k from S
+
 -- only s has a mark
-module _ (f : Floor) (s base : ℕ) (mark cost list : List ℕ) (on : free f s ≡ true) (few : s < 4096) (F : Fresh base mark cost list) where
+module _ {f : Floor} (z : Sized f) (s : ℕ) (on : free f s ≡ true) {base : ℕ} {mark cost list : List ℕ} (F : Fresh base mark cost list) where
   abbrev S₀ : State
   S₀ = begun base mark cost list s
 
   inside : s < length mark
-  inside = omega (arith, F .marks .size)
+  inside = omega (arith, free-few f s z on, F .marks .size)
 
   only : (x : ℕ) → In base (S₀ .mark) x → x ≡ s
   only x = by-store (λ y. base ≤ y → x ≡ s) mark s base x inside (λ e p. e) (λ n p. absurd (omega (arith, F .marks .below x)))
@@ -42,7 +50,7 @@ module _ (f : Floor) (s base : ℕ) (mark cost list : List ℕ) (on : free f s �
   mark-s = getD-set-same mark s base 0 inside
 
   cost-s : costAt S₀ s ≡ 0
-  cost-s = getD-set-same cost s 0 0 (omega (arith, F .costs))
+  cost-s = getD-set-same cost s 0 0 (omega (arith, free-few f s z on, F .costs))
 
   list-s : cellOf S₀ 0 ≡ s
   list-s = entered-new list 0 s (F .cells) (omega arith)
@@ -80,22 +88,22 @@ module _ (f : Floor) (s base : ℕ) (mark cost list : List ℕ) (on : free f s �
     upto = omega arith;
   }
 
-  pub level-begin : Level f s base base 0 (begun base mark cost list s)
-  level-begin = record { room = begin-room; spread = begin-spread; done = λ x p q m d v l e. absurd (omega arith); start = mark-s }
-
-  pub full-begin : Full base base (begun base mark cost list s)
-  full-begin g p q = (s, mark-s ∙ omega (arith, p, q))
-
   -- no other cell has a mark, so no goal
-  pub begin-unmet : (gs : List ℕ) → member s gs ≡ false → Unmet gs base (begun base mark cost list s)
+  begin-unmet : (gs : List ℕ) → member s gs ≡ false → Unmet gs base S₀
   begin-unmet gs n x m = by-store (λ y. y < base) mark s base x inside (λ e. absurd (never m (ap (λ y. member y gs) e ∙ n))) (λ o. F .marks .below x)
 
--- the ring that is marked last is left next
-module _ (f : Floor) (z : Sized f) (s base k from : ℕ) (S : State) (L : Level f s base k from S) where
-  pub level-segment : base ≤ k → k < base + deepest → base ≤ lastBase → Segment base from (S .n) k S
-  level-segment p q r =
-      record { order = L .spread .upto; end = refl; ring = record { first = p; last = q; room = r }; marked = λ j a b. L .spread .late j b a }
+  pub ringed-begin : {gs : List ℕ} {S : State} → S ≡ begun base mark cost list s → member s gs ≡ false → Ringed f s gs base 0 base 0 S
+  ringed-begin {gs} e n =
+      rw e
+      (record {
+        mark = omega arith;
+        far = begin-unmet gs n;
+        full = λ g p q. (s, mark-s ∙ omega (arith, p, q));
+        level = record { room = begin-room; spread = begin-spread; done = λ x p q m d v l e. absurd (omega arith); start = mark-s };
+      })
 
+-- the ring that is marked last is left next
+module _ {f : Floor} {s base k from : ℕ} {S : State} (L : Level f s base k from S) where
   -- no cell has the next mark yet
   advance : Spread f s base (k + 1) (S .n) S
   advance =
@@ -109,7 +117,7 @@ module _ (f : Floor) (z : Sized f) (s base k from : ℕ) (S : State) (L : Level 
         upto = omega arith;
       }
 
-  module _ (S′ : State) (W : Swept f base k from (S .n) S S′) where
+  module _ {S′ : State} (W : Swept f base k from (S .n) S S′) where
     K : Kept base S S′
     K = W .grew .kept
 
@@ -138,14 +146,14 @@ module _ (f : Floor) (z : Sized f) (s base k from : ℕ) (S : State) (L : Level 
         split : Dec (markOf S x < k) → In base (S′ .mark) d × (markOf S′ d ≤ markOf S′ x + 1)
         split (yes b) =
             let o = L .done x px b m d v hm e in
-            (kept-in S S′ K d (o .0), omega (arith, o .1, K .marks d (o .0), same))
+            (kept-in K d (o .0), omega (arith, o .1, K .marks d (o .0), same))
         split (no b) =
             let l = L .spread .listed x px in
             let t : markOf S x ≡ k = omega (arith, b, same, q) in
             let o = W .outs (l .0) (l .3 t) (l .1) m hm d v (subst (λ y. stepOf f y m ≡ To d v) (sym (l .2)) e) in
             (o, omega (arith, next-spread .top d, t, same))
 
-    pub level-next : Level f s base (k + 1) (S .n) S′
+    level-next : Level f s base (k + 1) (S .n) S′
     level-next = record {
       room = W .grew .room;
       spread = next-spread;
@@ -154,7 +162,7 @@ module _ (f : Floor) (z : Sized f) (s base k from : ℕ) (S : State) (L : Level 
     }
 
     -- where nothing was added no cell has the next mark
-    pub level-empty : S′ .n ≡ S .n → (x : ℕ) → base ≤ k → markOf S′ x ≤ k
+    level-empty : S′ .n ≡ S .n → (x : ℕ) → base ≤ k → markOf S′ x ≤ k
     level-empty e x b = by (decLe (markOf S′ x) k)
       where
         by : Dec (markOf S′ x ≤ k) → markOf S′ x ≤ k
@@ -165,83 +173,94 @@ module _ (f : Floor) (z : Sized f) (s base k from : ℕ) (S : State) (L : Level 
             absurd (omega (arith, l .3 t, l .1, e))
 
     -- a cell that had no mark has the next one or none
-    pub level-goal : (x : ℕ) → markOf S x < base → In base (S′ .mark) x → markOf S′ x ≡ k + 1
+    level-goal : (x : ℕ) → markOf S x < base → In base (S′ .mark) x → markOf S′ x ≡ k + 1
     level-goal x far p = by (decLe (markOf S′ x) k)
       where
         by : Dec (markOf S′ x ≤ k) → markOf S′ x ≡ k + 1
         by (yes h) = absurd (omega (arith, far, was x p h))
         by (no h) = omega (arith, h, next-spread .top x)
 
-    pub full-next : S .n < S′ .n → Full base k S → Full base (k + 1) S′
+    full-next : S .n < S′ .n → Full base k S → Full base (k + 1) S′
     full-next l F g p q = by (decLe g k)
       where
         by : Dec (g ≤ k) → (x : ℕ) × (markOf S′ x ≡ g)
         by (yes h) = let x = F g p h in (x .0, K .marks (x .0) (omega (arith, x .1, p)) ∙ x .1)
         by (no h) = (cellOf S′ (S .n), next-spread .late (S .n) l (omega arith) ∙ omega (arith, h, q))
 
-  -- a walk of n moves from a cell of ring j leads to a ring of at most j + n
-  reach : {a x c n : ℕ} → Walk (net f) Any a x c n → (j : ℕ) → In base (S .mark) a → markOf S a ≤ base + j → base + j + n ≤ k
-      → In base (S .mark) x × (markOf S x ≤ base + j + n)
-  reach (stop t) j i l h = (i, omega arith)
-  reach (move {a = a} {b = b} t e w) j i l h =
-      let (m, lm, step) = price-step f z a b (stretched-some fineness 1 (price f a b) (omega (arith, e .0, e .1))) in
-      let o = L .done a i (omega arith) m b (price f a b) lm step in
-      let r = reach w (j + 1) (o .0) (omega (arith, o .1)) (omega arith) in
-      (r .0, omega (arith, r .1))
+  module _ (z : Sized f) where
+    -- a walk of n moves from a cell of ring j leads to a ring of at most j + n
+    reach : {a x c n : ℕ} → Walk (net f) Any a x c n → (j : ℕ) → In base (S .mark) a → markOf S a ≤ base + j → base + j + n ≤ k
+        → In base (S .mark) x × (markOf S x ≤ base + j + n)
+    reach (stop t) j i l h = (i, omega arith)
+    reach (move {a = a} {b = b} t e w) j i l h =
+        let (m, lm, step) = price-step f z a b (stretched-some fineness 1 (price f a b) (omega (arith, e .0, e .1))) in
+        let o = L .done a i (omega arith) m b (price f a b) lm step in
+        let r = reach w (j + 1) (o .0) (omega (arith, o .1)) (omega arith) in
+        (r .0, omega (arith, r .1))
 
-  pub level-marked : (r : ℕ) → k ≡ base + r → Marked f s base r S
-  level-marked r e = record {
-    room = L .room;
-    top = λ x. omega (arith, L .spread .top x);
-    walks = L .spread .walks;
-    costs = L .spread .costs;
-    fewest = λ x c n w l.
-        let t = reach w 0 (omega (arith, L .start)) (omega (arith, L .start)) (omega arith) in
-        (t .0, omega (arith, t .1));
-    listed = λ x p. let l = L .spread .listed x p in (l .0, l .1, l .2);
-    early = L .spread .early;
-  }
-
--- the answers: the depth is reached; a goal is in the ring found last; the ring found last is empty
-module _
-    (f : Floor) (z : Sized f) (s : ℕ) (gs : List ℕ) (depth base k from r : ℕ) (S : State) (L : Level f s base k from S)
-    (e : k ≡ base + r) (far : Unmet gs base S) (F : Full base k S)
-  where
-    pub level-framed : r ≡ depth → 1 ≤ depth → Framed f s gs depth base r S
-    level-framed d p = record {
-      marked = level-marked f z s base k from S L r e;
-      within = omega arith;
-      some = omega arith;
-      ends = inl d;
-      nearer = λ g m i. absurd (omega (arith, i, far g m));
-      full = subst (λ y. Full base y S) e F;
+    level-marked : (r : ℕ) → k ≡ base + r → Marked f s base r S
+    level-marked r e = record {
+      room = L .room;
+      top = λ x. omega (arith, L .spread .top x);
+      walks = L .spread .walks;
+      costs = L .spread .costs;
+      fewest = λ x c n w l.
+          let t = reach w 0 (omega (arith, L .start)) (omega (arith, L .start)) (omega arith) in
+          (t .0, omega (arith, t .1));
+      listed = λ x p. let l = L .spread .listed x p in (l .0, l .1, l .2);
+      early = L .spread .early;
     }
 
-    module _ (S′ : State) (W : Swept f base k from (S .n) S S′) (short : r < depth) where
-      abbrev L′ : Level f s base (k + 1) (S .n) S′
-      L′ = level-next f z s base k from S L S′ W
+module _ {f : Floor} {s : ℕ} {gs : List ℕ} {base r k from : ℕ} {S : State} (R : Ringed f s gs base r k from S) where
+  pub ringed-segment : r < deepest → base ≤ lastBase → Segment base from (S .n) k S
+  ringed-segment h room =
+      let G = R .level .spread in
+      record { order = G .upto; end = refl; ring = record { first = omega (arith, R .mark); last = omega (arith, R .mark); room = room }; marked = λ j a b. G .late j b a }
 
-      pub next-blocked : S′ .n ≡ S .n → Blocked f s gs depth base r S′
-      next-blocked q =
-          let none : (x : ℕ) → markOf S′ x ≤ k = λ x. level-empty f z s base k from S L S′ W q x (omega (arith, e)) in record {
-            marked = level-marked f z s base (k + 1) (S .n) S′ L′ (r + 1) (omega (arith, e));
-            short = short;
-            empty = λ x. omega (arith, none x, e);
-            far = λ g m. away g m (decLe base (markOf S′ g)) (none g);
-          }
-        where
-          away : (g : ℕ) → member g gs ≡ true → Dec (base ≤ markOf S′ g) → markOf S′ g ≤ k → markOf S′ g < base
-          away g m (yes p) l = absurd (omega (arith, l, level-goal f z s base k from S L S′ W g (far g m) p))
-          away g m (no p) l = omega (arith, p)
+  -- the answers: the depth is reached; a goal is in the ring found last; the ring found last is empty
+  pub ringed-framed : {depth : ℕ} → Sized f → r ≡ depth → 1 ≤ depth → Framed f s gs depth base r S
+  ringed-framed z d p = record {
+    marked = level-marked (R .level) z r (R .mark);
+    within = omega arith;
+    some = omega arith;
+    ends = inl d;
+    nearer = λ g m i. absurd (omega (arith, i, R .far g m));
+    full = subst (λ y. Full base y S) (R .mark) (R .full);
+  }
 
-      pub next-framed : S .n < S′ .n → (g : ℕ) → member g gs ≡ true → In base (S′ .mark) g → Framed f s gs depth base (r + 1) S′
-      next-framed l g m p =
+  module _ {S′ : State} (W : Swept f base k from (S .n) S S′) where
+    L′ : Level f s base (k + 1) (S .n) S′
+    L′ = level-next (R .level) W
+
+    pub next-blocked : {depth : ℕ} → Sized f → r < depth → S′ .n ≡ S .n → Blocked f s gs depth base r S′
+    next-blocked z short q =
+        let none : (x : ℕ) → markOf S′ x ≤ k = λ x. level-empty (R .level) W q x (omega (arith, R .mark)) in record {
+          marked = level-marked L′ z (r + 1) (omega (arith, R .mark));
+          short = short;
+          empty = λ x. omega (arith, none x, R .mark);
+          far = λ g m. away g m (decLe base (markOf S′ g)) (none g);
+        }
+      where
+        away : (g : ℕ) → member g gs ≡ true → Dec (base ≤ markOf S′ g) → markOf S′ g ≤ k → markOf S′ g < base
+        away g m (yes p) l = absurd (omega (arith, l, level-goal (R .level) W g (R .far g m) p))
+        away g m (no p) l = omega (arith, p)
+
+    -- the next ring is not empty
+    module _ (some : S′ .n ≡ S .n → ⊥) where
+      full : Full base (k + 1) S′
+      full = full-next (R .level) W (omega (arith, W .grew .kept .grows)) (R .full)
+
+      pub ringed-next : Unmet gs base S′ → Ringed f s gs base (r + 1) (k + 1) (S .n) S′
+      ringed-next far = record { mark = omega (arith, R .mark); far = far; full = full; level = L′ }
+
+      pub next-framed : {depth : ℕ} → Sized f → r < depth → (g : ℕ) → member g gs ≡ true → In base (S′ .mark) g → Framed f s gs depth base (r + 1) S′
+      next-framed z short g m p =
           let on : (x : ℕ) → member x gs ≡ true → In base (S′ .mark) x → markOf S′ x ≡ base + (r + 1) =
-          λ x n i. level-goal f z s base k from S L S′ W x (far x n) i ∙ omega (arith, e) in record {
-            marked = level-marked f z s base (k + 1) (S .n) S′ L′ (r + 1) (omega (arith, e));
+          λ x n i. level-goal (R .level) W x (R .far x n) i ∙ omega (arith, R .mark) in record {
+            marked = level-marked L′ z (r + 1) (omega (arith, R .mark));
             within = omega arith;
             some = omega arith;
             ends = inr (g, m, on g m p);
             nearer = on;
-            full = subst (λ y. Full base y S′) (omega (arith, e)) (full-next f z s base k from S L S′ W l F);
+            full = subst (λ y. Full base y S′) (omega (arith, R .mark)) full;
           }

@@ -18,42 +18,43 @@ use Rattle.lookahead.specs.declared.Link.{Link}
 use Rattle.lookahead.specs.Marks.{In}
 use Rattle.lookahead.specs.Costs.{at}
 use Rattle.lookahead.specs.Way.{risingMove, Before, Led, Unled, Prior}
-use Rattle.lookahead.proofs.Grow.{price-back}
+use Rattle.lookahead.proofs.Grow.{Moved, price-back}
 use Rattle.lookahead.proofs.Rising.{rising-all, rising-higher}
 
-module _ (f : Floor) (z : Sized f) (base : ℕ) (mark cost : List ℕ) (x : ℕ) where
+module _ {f : Floor} {base : ℕ} {mark cost : List ℕ} {x : ℕ} where
   -- ---- one move
 
-  module _ (j : ℕ) (b : Link) (e : b .cell ≡ 4096) where
+  module _ {j : ℕ} {b : Link} (e : b .cell ≡ 4096) where
     led-nowhere : ((y v : ℕ) → stepOf f x j ≡ To y v → Before f base mark cost x y → ⊥) → Led f base mark cost x j b
     led-nowhere n = record { some = λ l. absurd (omega arith); none = λ l. n }
 
     pub led-wall : stepOf f x j ≡ Wall → Led f base mark cost x j b
     led-wall s = led-nowhere (λ y v t. absurd (wall≢to y v (sym s ∙ t)))
 
-    module _ (y v : ℕ) (s : stepOf f x j ≡ To y v) where
+    module _ {y v : ℕ} (M : Moved f x j y v) where
       pub led-out : getD mark y 0 < base → Led f base mark cost x j b
-      led-out h = led-nowhere (λ y′ v′ t B. omega (arith, subst (λ k. getD mark k 0 < base) (same-to (sym s ∙ t) .0) h, B .inside))
+      led-out h = led-nowhere (λ y′ v′ t B. omega (arith, subst (λ k. getD mark k 0 < base) (same-to (sym (M .step) ∙ t) .0) h, B .inside))
 
-      pub led-slack : (at cost y + fine v ≡ at cost x → ⊥) → Led f base mark cost x j b
-      led-slack n = led-nowhere (λ y′ v′ t B.
-          let here = subst (Before f base mark cost x) (sym (same-to (sym s ∙ t) .0)) B in
-          n (ap (λ k. at cost y + fine k) (sym (price-back f z x j y v s .1)) ∙ here .exact))
+      -- by what the move adds
+      pub led-slack : {a : ℕ} → a ≡ fine v → (at cost y + a ≡ at cost x → ⊥) → Led f base mark cost x j b
+      led-slack adds n = led-nowhere (λ y′ v′ t B.
+          let here = subst (Before f base mark cost x) (sym (same-to (sym (M .step) ∙ t) .0)) B in
+          n (omega (arith, adds, price-back M .1, here .exact)))
 
-  pub led-new : (j y v : ℕ) → j < 8 → stepOf f x j ≡ To y v → In base mark y → at cost y + fine v ≡ at cost x → y < 4096
+  pub led-new : {j y v a : ℕ} → Sized f → j < 8 → Moved f x j y v → In base mark y → a ≡ fine v → at cost y + a ≡ at cost x
       → Led f base mark cost x j (record { cell = y; m = opposite j })
-  led-new j y v l s i t few =
-      let (some, same) = price-back f z x j y v s in
+  led-new {j} {y} {v} z l M i adds t =
+      let (some, same) = price-back M in
       record {
         some = λ q. (
           record {
-            before = record { inside = i; move = omega (arith, same, some); exact = ap (λ k. at cost y + fine k) same ∙ t };
-            heading = step-heading f z x j y v l s;
+            before = record { inside = i; move = omega (arith, same, some); exact = omega (arith, same, adds, t) };
+            heading = step-heading f z x j y v l (M .step);
             one = opposite-lt j l;
           },
-          (v, s),
+          (v, M .step),
         );
-        none = λ h. absurd (omega arith);
+        none = λ h. absurd (omega (arith, M .at .few));
       }
 
   -- ---- one after another
@@ -61,7 +62,7 @@ module _ (f : Floor) (z : Sized f) (base : ℕ) (mark cost : List ℕ) (x : ℕ)
   pub unled-none : Unled f base mark cost x 0
   unled-none = record { within = omega arith; none = λ k l. absurd (omega arith) }
 
-  module _ (i : ℕ) (few : i < 8) (U : Unled f base mark cost x i) (b : Link) (L : Led f base mark cost x (risingMove i) b) where
+  module _ {i : ℕ} (few : i < 8) (U : Unled f base mark cost x i) {b : Link} (L : Led f base mark cost x (risingMove i) b) where
     pub unled-more : 4096 ≤ b .cell → Unled f base mark cost x (i + 1)
     unled-more h = record {
       within = omega arith;
@@ -69,8 +70,8 @@ module _ (f : Floor) (z : Sized f) (base : ℕ) (mark cost : List ℕ) (x : ℕ)
     }
 
     -- the first that is found is the lowest
-    pub led-prior : b .cell < 4096 → Prior f base mark cost x b
-    led-prior h = record { from = L .some h .0; lowest = lowest }
+    pub led-prior : Sized f → b .cell < 4096 → Prior f base mark cost x b
+    led-prior z h = record { from = L .some h .0; lowest = lowest }
       where
         lowest : (y : ℕ) → Before f base mark cost x y → b .cell ≤ y
         lowest y B = by (decLe i k) (decLe k i)
@@ -96,8 +97,8 @@ module _ (f : Floor) (z : Sized f) (base : ℕ) (mark cost : List ℕ) (x : ℕ)
                 omega (arith, same-to (sym s ∙ ap (λ n. stepOf f x (risingMove n)) e ∙ there) .0)
 
   -- and some move leads to a cell before x, if there is one
-  pub unled-all : (i : ℕ) → 8 ≤ i → Unled f base mark cost x i → (y : ℕ) → Before f base mark cost x y → ⊥
-  unled-all i h U y B =
+  pub unled-all : {i : ℕ} → Sized f → 8 ≤ i → Unled f base mark cost x i → (y : ℕ) → Before f base mark cost x y → ⊥
+  unled-all z h U y B =
       let (m, l, s) = price-step f z x y (omega (arith, B .move, price-same f x y)) in
       let (k, few, e) = rising-all m l in
       U .none k (omega arith) y (price f x y) (ap (stepOf f x) e ∙ s) B

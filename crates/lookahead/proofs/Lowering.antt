@@ -18,12 +18,11 @@ use Rattle.model.specs.Lookahead.{fineness, fine}
 use Rattle.model.specs.Grounds.{price-same}
 use Rattle.floor.specs.declared.Step.the-variants.{To, Wall}
 use Rattle.floor.specs.Moves.{stepOf}
-use Rattle.model.proofs.Moves.{free-few}
 use Rattle.floor.proofs.Steps.{stepped, price-step, wall≢to, same-to}
 use Rattle.lookahead.specs.Marks.{net, noteAt, In}
 use Rattle.lookahead.specs.Costs.{total, at, dearestFine, Costs, Walked, Under, Followed, Eased, Easing, Lowered, Lower, Listing, Noted, Topmost, Again, Passed, Relaxed}
 use Rattle.lookahead.proofs.Stores.{by-store, set-self}
-use Rattle.lookahead.proofs.Grow.{edge-back}
+use Rattle.lookahead.proofs.Grow.{Moved, edge-back}
 
 -- the sum falls with an entry
 pub total-set : (l : List ℕ) (i v : ℕ) → v < getD l i 0 → total (set l i v) < total l
@@ -32,16 +31,62 @@ total-set [] i v p = absurd (omega arith)
 total-set (x ∷ xs) zero v p = omega arith
 total-set (x ∷ xs) (suc i) v p = omega (arith, total-set xs i v p)
 
-module _ (f : Floor) (base : ℕ) (mark : List ℕ) where
+-- a cost is noted beside the list's i-th cell
+module _ {base : ℕ} {mark list : List ℕ} {n : ℕ} (i note : ℕ) (L : Listing base mark list n) (l : i < n) where
+  cell-kept : (j : ℕ) → j < n → getD (set list (i + 4096) note) j 0 ≡ getD list j 0
+  cell-kept j h = getD-set-other list (i + 4096) j note 0 (λ e. omega (arith, L .fits))
+
+  inside-list : i + 4096 < length list
+  inside-list = omega (arith, L .room, L .fits)
+
+  note-listing : Listing base mark (set list (i + 4096) note) n
+  note-listing = record {
+    room = simp length-set (L .room);
+    fits = L .fits;
+    early = λ j h. rw (cell-kept j h) (L .early j h);
+    listed = λ x h. let k = L .listed x h in (k .0, k .1, cell-kept (k .0) (k .1) ∙ k .2);
+  }
+
+  note-noted : (f : Floor) (A B : List ℕ) → ((x : ℕ) → at B x ≤ at A x) → Noted f base mark list n A → Followed f base mark (getD list i 0) 8 note B
+      → Noted f base mark (set list (i + 4096) note) n B
+  note-noted f A B drop N F j h =
+      rw (cell-kept j h)
+      (by-store (λ u. Followed f base mark (getD list j 0) 8 u B) list (i + 4096) note (j + 4096) inside-list
+      (λ e. let q : j ≡ i = omega (arith, e) in rw q F)
+      (λ e m k d v s t. omega (arith, N j h m k d v s t, drop d)))
+
+  note-calm : (cost : List ℕ) → ((j : ℕ) → j < i → noteAt list j ≤ at cost (getD list j 0)) → note ≤ at cost (getD list i 0)
+      → (j : ℕ) → j < i + 1 → noteAt (set list (i + 4096) note) j ≤ at cost (getD (set list (i + 4096) note) j 0)
+  note-calm cost p q j h =
+      rw (cell-kept j (omega (arith, l)))
+      (by-store (λ u. u ≤ at cost (getD list j 0)) list (i + 4096) note (j + 4096) inside-list
+      (λ e. let t : j ≡ i = omega (arith, e) in rw t q)
+      (λ e. p j (omega (arith, e))))
+
+-- where no move of the window lowers a cost, each is the least
+module _
+    (f : Floor) (z : Sized f) (base : ℕ) (mark cost : List ℕ) (s : ℕ) (start : at cost s ≡ 0)
+    (tight : (x : ℕ) → In base mark x → Followed f base mark x 8 (at cost x) cost)
+  where
+    low : {x y c n : ℕ} → Walk (net f) (In base mark) x y c n → at cost x ≤ c + at cost y
+    low (stop t) = omega arith
+    low (move {a = a} {b = b} t e w) =
+        let some = stretched-some fineness 1 (price f a b) (omega (arith, e .0, e .1)) in
+        let (m, l, step) = price-step f z b a (omega (arith, some, price-same f a b)) in
+        omega (arith, low w, tight b (first-in w) m l a (price f b a) step t, e .1, stretched-move fineness 1 (price f a b) some, price-same f a b)
+
+    least : Walked f s base mark cost → (x : ℕ) → In base mark x → Least (Leads (net f) (In base mark) x s) (at cost x)
+    least W x i = record { met = W x i; low = λ k v. omega (arith, low (v .1), start) }
+
+module _ {f : Floor} {base : ℕ} {mark : List ℕ} where
   -- nothing is lowered
-  pub lowered-none : (P : List ℕ → Type 0) (cost : List ℕ) (b : Bool) → Costs f base mark cost → P cost → Lowered f base mark P cost b cost b
-  lowered-none P cost b C p =
-      record { costs = C; walked = λ s W. W; drop = λ x. omega arith; down = omega arith; less = λ e. inl e; same = λ e. (e, refl); so = p }
+  pub lowered-none : {P : List ℕ → Type 0} {cost : List ℕ} {b : Bool} → Costs f base mark cost → P cost → Lowered f base mark P cost b cost b
+  lowered-none C p = record { costs = C; walked = λ s W. W; drop = λ x. omega arith; down = omega arith; less = λ e. inl e; same = λ e. (e, refl); so = p }
 
   -- and then more is
-  pub lowered-more : (P Q R : List ℕ → Type 0) (A : List ℕ) (a : Bool) (B : List ℕ) (b : Bool) (C : List ℕ) (c : Bool)
+  lowered-more : {P Q R : List ℕ → Type 0} {A B C : List ℕ} {a b c : Bool}
       → Lowered f base mark P A a B b → Lowered f base mark Q B b C c → (P B → Q C → R C) → Lowered f base mark R A a C c
-  lowered-more P Q R A a B b C c p q r = record {
+  lowered-more p q r = record {
     costs = q .costs;
     walked = λ s W. q .walked s (p .walked s W);
     drop = λ x. omega (arith, p .drop x, q .drop x);
@@ -55,45 +100,39 @@ module _ (f : Floor) (base : ℕ) (mark : List ℕ) where
   }
 
   -- a pass that lowered something lowers the sum
-  pub turned : (P : List ℕ → Type 0) (A B : List ℕ) (b : Bool) → Lowered f base mark P A false B b → b ≡ true → total B < total A
-  turned P A B b p e = ⊎-elim (λ z. absurd (true≢false (sym z))) (λ l. l) (p .less e)
+  pub turned : {P : List ℕ → Type 0} {A B : List ℕ} {b : Bool} → Lowered f base mark P A false B b → b ≡ true → total B < total A
+  turned p e = ⊎-elim (λ z. absurd (true≢false (sym z))) (λ l. l) (p .less e)
 
-  -- what was followed stays so while costs fall
-  pub followed-drop : (c m u : ℕ) (A B : List ℕ) → ((x : ℕ) → at B x ≤ at A x) → Followed f base mark c m u A → Followed f base mark c m u B
-  followed-drop c m u A B drop F i l d v s t = omega (arith, F i l d v s t, drop d)
-
-  -- one move more from a cell
-  pub eased-more : (c m u : ℕ) (A : List ℕ) (a : Bool) (B : List ℕ) (b : Bool) (C : List ℕ) (e : Bool)
+  -- one move more from a cell; what was followed stays so while costs fall
+  pub eased-more : (c m u : ℕ) {A B C : List ℕ} {a b e : Bool}
       → Lowered f base mark (Easing f base mark c m u) A a B b → Lowered f base mark (Eased f base mark c m u) B b C e
       → Lowered f base mark (Easing f base mark c (m + 1) u) A a C e
-  eased-more c m u A a B b C e p q =
-      lowered-more (Easing f base mark c m u) (Eased f base mark c m u) (Easing f base mark c (m + 1) u) A a B b C e p q
-      (λ t y. (y .0, below-more (λ i. Under f base mark c i u C) m (followed-drop c m u B C (q .drop) (t .1)) (y .1)))
+  eased-more c m u {C = C} p q =
+      lowered-more p q (λ t y. (y .0, below-more (λ i. Under f base mark c i u C) m (λ i l d v s h. omega (arith, t .1 i l d v s h, q .drop d)) (y .1)))
 
-  module _ (cost : List ℕ) (c m w : ℕ) (C : Costs f base mark cost) (own : at cost c ≡ w) where
-    -- a move that leads out of the window, or nowhere, lowers nothing
-    pub eased-out : (d v : ℕ) (b : Bool) → stepOf f c m ≡ To d v → getD mark d 0 < base → Lowered f base mark (Eased f base mark c m w) cost b cost b
-    eased-out d v b step e =
-        lowered-none (Eased f base mark c m w) cost b C
-        (own, λ x u s i. absurd (omega (arith, e, subst (In base mark) (sym (same-to (sym step ∙ s) .0)) i)))
+  -- a move that leads nowhere, or out of the window, lowers nothing
+  pub eased-wall : (c m : ℕ) {w : ℕ} {cost : List ℕ} {b : Bool} → Costs f base mark cost → at cost c ≡ w → stepOf f c m ≡ Wall
+      → Lowered f base mark (Eased f base mark c m w) cost b cost b
+  eased-wall c m C own step = lowered-none C (own, λ x u s i. absurd (wall≢to x u (sym step ∙ s)))
 
-    pub eased-wall : (b : Bool) → stepOf f c m ≡ Wall → Lowered f base mark (Eased f base mark c m w) cost b cost b
-    eased-wall b step = lowered-none (Eased f base mark c m w) cost b C (own, λ x u s i. absurd (wall≢to x u (sym step ∙ s)))
+  module _ {cost : List ℕ} {c m d v w : ℕ} (C : Costs f base mark cost) (own : at cost c ≡ w) (M : Moved f c m d v) where
+    pub eased-out : {b : Bool} → getD mark d 0 < base → Lowered f base mark (Eased f base mark c m w) cost b cost b
+    eased-out e = lowered-none C (own, λ x u s i. absurd (omega (arith, e, subst (In base mark) (sym (same-to (sym (M .step) ∙ s) .0)) i)))
 
     -- the cell moved into is lowered, or need not be
-    module _ (z : Sized f) (d v : ℕ) (step : stepOf f c m ≡ To d v) (from : In base mark c) (to : In base mark d) where
+    module _ (from : In base mark c) (to : In base mark d) where
       abbrev u : ℕ
       u = w + fine v
 
       inside : d < length cost
-      inside = omega (arith, free-few f d z (C .free d to), C .costs)
+      inside = omega (arith, M .at .few, C .costs)
 
       -- what holds of the cell moved into
       at-cell : (A : List ℕ) → at A d ≤ w + fine v → Under f base mark c m w A
-      at-cell A l x y s i = let q = same-to (sym step ∙ s) in omega (arith, l, q .1, ap (at A) (q .0))
+      at-cell A l x y s i = let q = same-to (sym (M .step) ∙ s) in omega (arith, l, q .1, ap (at A) (q .0))
 
-      lowered-set : (b : Bool) → u < at cost d → Lowered f base mark (Eased f base mark c m w) cost b (set cost d u) true
-      lowered-set b l = record {
+      lowered-set : {b : Bool} → u < at cost d → Lowered f base mark (Eased f base mark c m w) cost b (set cost d u) true
+      lowered-set l = record {
         costs = record {
           marks = C .marks;
           costs = simp length-set (C .costs);
@@ -101,7 +140,7 @@ module _ (f : Floor) (base : ℕ) (mark : List ℕ) where
           small = λ x. by-store (λ y. In base mark x → y ≤ dearestFine) cost d u x inside (λ e i. omega (arith, C .small d to)) (λ n i. C .small x i);
         };
         walked = λ s W x. by-store (λ y. In base mark x → Leads (net f) (In base mark) x s y) cost d u x inside
-            (λ e i. let k = W c from in rw e (suc (k .0), restate (omega (arith, own)) refl (move to (edge-back f z c m d v step) (k .1)))) (λ n i. W x i);
+            (λ e i. let k = W c from in rw e (suc (k .0), restate (omega (arith, own)) refl (move to (edge-back M) (k .1)))) (λ n i. W x i);
         drop = λ x. by-store (λ y. y ≤ at cost x) cost d u x inside (λ e. rw e (omega arith)) (λ n. omega arith);
         down = omega (arith, total-set cost d u l);
         less = λ e. inr (total-set cost d u l);
@@ -112,124 +151,76 @@ module _ (f : Floor) (base : ℕ) (mark : List ℕ) where
         );
       }
 
-      pub eased : (b : Bool) (cost′ : List ℕ) (b′ : Bool) → Lower d (w + fine v) b cost cost′ b′ → Lowered f base mark (Eased f base mark c m w) cost b cost′ b′
-      eased b cost′ b′ L = by (decLt u (at cost d))
+      -- by what the move adds
+      pub eased : {a : ℕ} {b b′ : Bool} {cost′ : List ℕ} → a ≡ fine v → Lower d (w + a) b cost cost′ b′ → Lowered f base mark (Eased f base mark c m w) cost b cost′ b′
+      eased {b = b} {b′ = b′} {cost′ = cost′} adds lower = by (rw adds at lower) (decLt u (at cost d))
         where
-          by : Dec (u < at cost d) → Lowered f base mark (Eased f base mark c m w) cost b cost′ b′
-          by (yes l) = let e = L .new l in rw (e .0, e .1) (lowered-set b l)
-          by (no n) =
+          by : Lower d u b cost cost′ b′ → Dec (u < at cost d) → Lowered f base mark (Eased f base mark c m w) cost b cost′ b′
+          by L (yes l) = let e = L .new l in rw (e .0, e .1) (lowered-set l)
+          by L (no n) =
               let l : at cost d ≤ u = omega (arith, n) in
               let e = L .old l in
-              rw (e .0, e .1) (lowered-none (Eased f base mark c m w) cost b C (own, at-cell cost l))
+              rw (e .0, e .1) (lowered-none C (own, at-cell cost l))
 
-  -- the list's i-th cell, of cost w: its moves need not be followed, or they are
-  pub again-not : (i c w : ℕ) (cost list : List ℕ) (b : Bool) → Costs f base mark cost → getD list i 0 ≡ c → at cost c ≡ w → noteAt list i ≤ w
-      → Followed f base mark (getD list i 0) 8 (noteAt list i) cost → Again f base mark i cost list b cost list b
-  again-not i c w cost list b C e own l F = record {
-    note = noteAt list i;
-    noted = sym (set-self list (i + 4096));
-    lowered = lowered-none (Followed f base mark (getD list i 0) 8 (noteAt list i)) cost b C F;
-    calm = λ z. rw e (omega (arith, l, own));
-  }
+  -- the list's i-th cell c: its moves need not be followed, or they are
+  module _ {i c : ℕ} {list : List ℕ} (here : c ≡ getD list i 0) where
+    pub again-not : {cost : List ℕ} {b : Bool} → Costs f base mark cost → noteAt list i ≤ at cost c
+        → Followed f base mark (getD list i 0) 8 (noteAt list i) cost → Again f base mark i cost list b cost list b
+    again-not C l F = record { note = noteAt list i; noted = sym (set-self list (i + 4096)); lowered = lowered-none C F; calm = λ z. rw (← here) l }
 
-  pub again-eased : (i c w : ℕ) (A list : List ℕ) (a : Bool) (B : List ℕ) (b : Bool) → getD list i 0 ≡ c → at A c ≡ w
-      → Lowered f base mark (Easing f base mark c 8 w) A a B b → Again f base mark i A list a B (set list (i + 4096) w) b
-  again-eased i c w A list a B b e own p = record {
-    note = w;
-    noted = refl;
-    lowered = record {
-      costs = p .costs;
-      walked = p .walked;
-      drop = p .drop;
-      down = p .down;
-      less = p .less;
-      same = p .same;
-      so = rw e (p .so .1);
-    };
-    calm = λ z. rw e (omega (arith, own));
-  }
-
-  -- where every cost is at most the least fine price above its own, following them lowers nothing
-  pub again-topped : Sized f → (i c w high : ℕ) (cost list : List ℕ) (b : Bool) → Costs f base mark cost → getD list i 0 ≡ c → at cost c ≡ w → Topmost base mark cost high
-      → high ≤ w + fine leastPrice → Again f base mark i cost list b cost (set list (i + 4096) w) b
-  again-topped z i c w high cost list b C e own top l = record {
-    note = w;
-    noted = refl;
-    lowered = lowered-none (Followed f base mark (getD list i 0) 8 w) cost b C (λ m h d v s t. omega (arith, top d t, l, stepped f z (getD list i 0) m d v s .least));
-    calm = λ y. rw e (omega (arith, own));
-  }
-
-  -- a cost is noted beside the list's i-th cell
-  module _ (list : List ℕ) (n i note : ℕ) (L : Listing base mark list n) (l : i < n) where
-    cell-kept : (j : ℕ) → j < n → getD (set list (i + 4096) note) j 0 ≡ getD list j 0
-    cell-kept j h = getD-set-other list (i + 4096) j note 0 (λ e. omega (arith, L .fits))
-
-    inside-list : i + 4096 < length list
-    inside-list = omega (arith, L .room, L .fits)
-
-    note-listing : Listing base mark (set list (i + 4096) note) n
-    note-listing = record {
-      room = simp length-set (L .room);
-      fits = L .fits;
-      early = λ j h. rw (cell-kept j h) (L .early j h);
-      listed = λ x h. let k = L .listed x h in (k .0, k .1, cell-kept (k .0) (k .1) ∙ k .2);
+    pub again-eased : {A B : List ℕ} {a b : Bool} → Lowered f base mark (Easing f base mark c 8 (at A c)) A a B b
+        → Again f base mark i A list a B (set list (i + 4096) (at A c)) b
+    again-eased {A} p = record {
+      note = at A c;
+      noted = refl;
+      lowered = record {
+        costs = p .costs;
+        walked = p .walked;
+        drop = p .drop;
+        down = p .down;
+        less = p .less;
+        same = p .same;
+        so = rw (← here) (p .so .1);
+      };
+      calm = λ z. rw (← here) (omega arith);
     }
 
-    note-noted : (A B : List ℕ) → ((x : ℕ) → at B x ≤ at A x) → Noted f base mark list n A → Followed f base mark (getD list i 0) 8 note B
-        → Noted f base mark (set list (i + 4096) note) n B
-    note-noted A B drop N F j h =
-        rw (cell-kept j h)
-        (by-store (λ u. Followed f base mark (getD list j 0) 8 u B) list (i + 4096) note (j + 4096) inside-list
-        (λ e. let q : j ≡ i = omega (arith, e) in rw q F)
-        (λ e. followed-drop (getD list j 0) 8 (noteAt list j) A B drop (N j h)))
-
-    note-calm : (cost : List ℕ) → ((j : ℕ) → j < i → noteAt list j ≤ at cost (getD list j 0)) → note ≤ at cost (getD list i 0)
-        → (j : ℕ) → j < i + 1 → noteAt (set list (i + 4096) note) j ≤ at cost (getD (set list (i + 4096) note) j 0)
-    note-calm cost p q j h =
-        rw (cell-kept j (omega (arith, l)))
-        (by-store (λ u. u ≤ at cost (getD list j 0)) list (i + 4096) note (j + 4096) inside-list
-        (λ e. let t : j ≡ i = omega (arith, e) in rw t q)
-        (λ e. p j (omega (arith, e))))
+    -- where every cost is at most the least fine price above its own, following them lowers nothing
+    pub again-topped : {high : ℕ} {cost : List ℕ} {b : Bool} → Sized f → Costs f base mark cost → Topmost base mark cost high
+        → high ≤ at cost c + fine leastPrice → Again f base mark i cost list b cost (set list (i + 4096) (at cost c)) b
+    again-topped {cost = cost} z C top l = record {
+      note = at cost c;
+      noted = refl;
+      lowered = lowered-none C (λ m h d v s t. omega (arith, top d t, l, stepped f z (getD list i 0) m d v s .least));
+      calm = λ y. rw (← here) (omega arith);
+    }
 
   -- no cell of the list yet, and one more
-  pub passed-none : (list : List ℕ) (n : ℕ) (cost : List ℕ) → Listing base mark list n → Costs f base mark cost → Noted f base mark list n cost
+  pub passed-none : {list : List ℕ} {n : ℕ} {cost : List ℕ} → Listing base mark list n → Costs f base mark cost → Noted f base mark list n cost
       → Passed f base mark n 0 cost cost list false
-  passed-none list n cost L C N = record { listing = L; lowered = lowered-none (Noted f base mark list n) cost false C N; calm = λ e j h. absurd (omega arith) }
+  passed-none L C N = record { listing = L; lowered = lowered-none C N; calm = λ e j h. absurd (omega arith) }
 
-  pub passed-more : (n i : ℕ) (A B list : List ℕ) (b : Bool) (C list′ : List ℕ) (e : Bool) → i < n
+  pub passed-more : {n i : ℕ} {A B C list list′ : List ℕ} {b e : Bool} → i < n
       → Passed f base mark n i A B list b → Again f base mark i B list b C list′ e → Passed f base mark n (i + 1) A C list′ e
-  passed-more n i A B list b C list′ e l p q =
+  passed-more {i = i} {A = A} {B = B} {C = C} {list = list} l p q =
       rw (q .noted)
       (record {
-        listing = note-listing list n i (q .note) (p .listing) l;
-        lowered = lowered-more (Noted f base mark list n) (Followed f base mark (getD list i 0) 8 (q .note)) (Noted f base mark (set list (i + 4096) (q .note)) n) A false B b C e
-            (p .lowered) (q .lowered) (λ t u. note-noted list n i (q .note) (p .listing) l B C (q .lowered .drop) t u);
+        listing = note-listing i (q .note) (p .listing) l;
+        lowered = lowered-more (p .lowered) (q .lowered) (note-noted i (q .note) (p .listing) l f B C (q .lowered .drop));
         calm = λ z.
             let y = q .lowered .same z in
             let x = p .lowered .same (y .0) in
-            note-calm list n i (q .note) (p .listing) l A (p .calm (y .0)) (subst (λ c. q .note ≤ at c (getD list i 0)) (x .1) (q .calm z));
+            note-calm i (q .note) (p .listing) l A (p .calm (y .0)) (subst (λ c. q .note ≤ at c (getD list i 0)) (x .1) (q .calm z));
       })
 
-  -- where no move of the window lowers a cost, each is the least
-  module _ (z : Sized f) (cost : List ℕ) (s : ℕ) (start : at cost s ≡ 0) (tight : (x : ℕ) → In base mark x → Followed f base mark x 8 (at cost x) cost) where
-    low : {x y c n : ℕ} → Walk (net f) (In base mark) x y c n → at cost x ≤ c + at cost y
-    low (stop t) = omega arith
-    low (move {a = a} {b = b} t e w) =
-        let some = stretched-some fineness 1 (price f a b) (omega (arith, e .0, e .1)) in
-        let (m, l, step) = price-step f z b a (omega (arith, some, price-same f a b)) in
-        omega (arith, low w, tight b (first-in w) m l a (price f b a) step t, e .1, stretched-move fineness 1 (price f a b) some, price-same f a b)
-
-    least : Walked f s base mark cost → (x : ℕ) → In base mark x → Least (Leads (net f) (In base mark) x s) (at cost x)
-    least W x i = record { met = W x i; low = λ k v. omega (arith, low (v .1), start) }
-
   -- the last pass lowers nothing, so every cost is the least
-  pub relaxed : Sized f → (n : ℕ) (A B Z list : List ℕ) (b : Bool)
+  pub relaxed : {n : ℕ} {A B Z list : List ℕ} {b : Bool} → Sized f
       → ((s : ℕ) → Walked f s base mark A → Walked f s base mark B) → ((x : ℕ) → at B x ≤ at A x)
       → Passed f base mark n n B Z list b → b ≡ false → Relaxed f base mark n A Z list
-  relaxed z n A B Z list b walk drop p none = record {
+  relaxed {Z = Z} {list = list} z walk drop p none = record {
     costs = p .lowered .costs;
     listing = p .listing;
-    least = λ s W e. least z Z s (omega (arith, p .lowered .drop s, drop s, e)) tight (p .lowered .walked s (walk s W));
+    least = λ s W e. least f z base mark Z s (omega (arith, p .lowered .drop s, drop s, e)) tight (p .lowered .walked s (walk s W));
   }
     where
       tight : (x : ℕ) → In base mark x → Followed f base mark x 8 (at Z x) Z

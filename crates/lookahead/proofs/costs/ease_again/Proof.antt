@@ -21,14 +21,13 @@ returns : tie.Need-returns
 returns c =
     let cell = c .before .before .before in
     let a = start cell in
-    again-not _ _ _ _ _ _ _ _ _ (a .pre .1 .0) (sym (cell .wide16 .ensures .0)) refl (c .if1 .taken) (a .pre .1 .1 .1 .1)
+    again-not (cell .wide16 .ensures .0) (a .pre .1 .0) (c .if1 .taken) (a .pre .1 .1 .1 .1)
 
 returns-2 : tie.Need-returns-2
 returns-2 c =
     let cell = c .before .before .before .before .before in
     let a = start cell in
-    again-topped _ _ _ (a .pre .0) _ _ _ _ _ _ _ (a .pre .1 .0) (sym (cell .wide16 .ensures .0)) refl (a .pre .1 .1 .1 .0)
-    (omega arith)
+    again-topped (cell .wide16 .ensures .0) (a .pre .0) (a .pre .1 .0) (a .pre .1 .1 .1 .0) (omega arith)
 
 ease-cell-requires : tie.Need-ease-cell-requires
 ease-cell-requires c κs =
@@ -41,7 +40,7 @@ returns-3 c =
     let eased = c .before .before in
     let wide = eased .before .before .before in
     let cell = wide .before .before .before .before in
-    again-eased _ _ _ _ _ _ _ _ _ _ _ (sym (cell .wide16 .ensures .0)) refl (eased .ease-cell .ensures)
+    again-eased (cell .wide16 .ensures .0) (eased .ease-cell .ensures)
 
 pub ease-again-spec : {M : Type 1} → f.Statement.statement M
 ease-again-spec =

@@ -13,12 +13,6 @@ Inv-loop width height floor base mark cost₀ c w changed spot any₀ m₀ cost 
 abbrev μ-loop : tie.MeasureT-loop
 μ-loop width height floor base mark cost₀ c w changed spot any₀ m₀ cost any m = 8 - m
 
-loop-holds : tie.Need-loop-holds Inv-loop μ-loop
-loop-holds c =
-    let a = c .before .before .before .before in
-    let g = flat (a .args .width) (a .args .height) (a .args .floor .now) in
-    (omega arith, lowered-none _ _ _ (Easing g (a .args .base) (a .args .mark .now) (a .args .c) 0 (a .args .w)) _ _ (a .pre .1 .0) (a .pre .1 .1 .1, λ i l. absurd (omega arith)))
-
 ease-requires : tie.Need-ease-requires Inv-loop μ-loop
 ease-requires c κs =
     let at-loop = c .before .before in
@@ -29,12 +23,12 @@ ease-requires c κs =
 loop-again : tie.Need-loop-again Inv-loop μ-loop
 loop-again c =
     let l = c .before .before .before .before .before .loop in
-    (omega arith, eased-more _ _ _ _ _ _ _ _ _ _ _ _ (l .inv .1) (c .before .before .ease .ensures))
+    (omega arith, eased-more _ _ _ (l .inv .1) (c .before .before .ease .ensures))
 
 returns : tie.Need-returns Inv-loop μ-loop
 returns c = let e : c .before .loop .m ≡ 8 = omega arith in rw e at (c .before .loop .inv .1)
 
 pub ease-cell-spec : {M : Type 1} → f.Statement.statement M
 ease-cell-spec =
-    tie.close (tie.spec Inv-loop μ-loop (λ c κs. let a = c .before .before .before in (a .pre .0, a .pre .1 .0 .free (a .args .c) (a .pre .1 .1 .0))) loop-holds ease-requires
+    tie.close (tie.spec Inv-loop μ-loop (λ c κs. let a = c .before .before .before in (a .pre .0, a .pre .1 .0 .free (a .args .c) (a .pre .1 .1 .0))) (λ c. let p = c .before .before .before .before .pre .1 in (omega arith, lowered-none (p .0) (p .1 .1, λ i l. absurd (omega arith)))) ease-requires
     (λ c. omega arith) (λ c. omega arith) loop-again (λ c. omega arith) returns)

@@ -16,7 +16,7 @@ abbrev μ-loop : tie.MeasureT-loop
 loop-holds : tie.Need-loop-holds Inv-loop μ-loop
 loop-holds c =
     let a = c .before .before .before .before in
-    (omega arith, passed-none _ _ _ _ _ _ (a .pre .1 .1 .0) (a .pre .1 .0) (a .pre .1 .1 .1 .0))
+    (omega arith, passed-none (a .pre .1 .1 .0) (a .pre .1 .0) (a .pre .1 .1 .1 .0))
 
 -- from a place to one before it
 abbrev to-start : tie.At-loop Inv-loop μ-loop → tie.Start Inv-loop μ-loop
@@ -43,7 +43,7 @@ loop-again c =
     let after-ease-again = c .before .before .before .before in
     let at-loop = after-ease-again .before .before .before .before in
     let l = at-loop .loop in
-    (omega arith, passed-more _ _ _ _ _ _ _ _ _ _ _ _ (omega arith) (l .inv .1) (after-ease-again .ease-again .ensures))
+    (omega arith, passed-more (omega arith) (l .inv .1) (after-ease-again .ease-again .ensures))
 
 returns : tie.Need-returns Inv-loop μ-loop
 returns c =

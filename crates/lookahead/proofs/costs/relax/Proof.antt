@@ -41,7 +41,7 @@ to-start c =
 loop-less : tie.Need-loop-less Inv-loop μ-loop
 loop-less c =
     let passed = c .before .before .before .before .before in
-    turned _ _ _ _ _ _ _ (passed .pass .ensures .lowered) (c .if1 .taken)
+    turned (passed .pass .ensures .lowered) (c .if1 .taken)
 
 loop-again : tie.Need-loop-again Inv-loop μ-loop
 loop-again c =
@@ -57,7 +57,7 @@ returns c =
     let at-loop = after-pass .before .before .before in
     let a = to-start at-loop in
     let i = at-loop .loop .inv in
-    relaxed _ _ _ (a .pre .0) _ _ _ _ _ _ (i .1) (i .2) (after-pass .pass .ensures) (c .if1 .left)
+    relaxed (a .pre .0) (i .1) (i .2) (after-pass .pass .ensures) (c .if1 .left)
 
 pub relax-spec : {M : Type 1} → f.Statement.statement M
 relax-spec =

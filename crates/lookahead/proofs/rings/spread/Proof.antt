@@ -31,16 +31,10 @@ marked c = let l = to-loop c .loop in rw (cell-eq c) at (to-start (to-loop c) .p
 inside : (c : tie.After-wide16 Inv-loop μ-loop) → let a = to-start (to-loop c) .args in In (a .base) (a .mark .now) (c .wide16 .result)
 inside c = omega (arith, marked c)
 
-slice-read-wide16 : tie.Need-slice-read-wide16 Inv-loop μ-loop
-slice-read-wide16 c =
-    let at-loop = c .before .before in
-    omega arith
-
 slice-read-w : tie.Need-slice-read-w Inv-loop μ-loop
 slice-read-w c =
     let p = to-start (to-loop (c .before)) .pre in
-    let few = free-few _ (c .before .wide16 .result) (p .0) (p .1 .0 .free _ (inside (c .before))) in
-    omega arith
+    omega (arith, free-few _ _ (p .0) (p .1 .0 .free _ (inside (c .before))))
 
 visit-requires : tie.Need-visit-requires Inv-loop μ-loop
 visit-requires c κs =
@@ -51,15 +45,11 @@ visit-requires c κs =
     let p = inside cell in
     (q .0, (g .room, record { free = q .1 .0 .free x p; ring = q .1 .1 .ring; marked = g .kept .marks x p ∙ marked cell; costs = refl }))
 
--- no place is past the list, once a cell's moves are followed
-short : (c : tie.After-visit Inv-loop μ-loop) → let a = to-start (to-loop (c .before .before .before .before .before)) .args in a .to ≤ 4096
-short c = omega arith
-
 loop-again : tie.Need-loop-again Inv-loop μ-loop
 loop-again c =
     let left = c .before .before .before .before .before .before in
     let cell = left .before .before .before .before .before in
-    (omega arith, omega arith, swept-more _ _ _ _ _ _ _ _ _ _ (omega arith) (cell-eq cell) (to-loop cell .loop .inv .2) (left .visit .ensures))
+    (omega arith, omega arith, swept-more (omega arith) (cell-eq cell) (to-loop cell .loop .inv .2) (left .visit .ensures))
 
 returns : tie.Need-returns Inv-loop μ-loop
 returns c =
@@ -69,8 +59,6 @@ returns c =
 
 pub spread-spec : {M : Type 1} → f.Statement.statement M
 spread-spec =
-    tie.close (tie.spec Inv-loop μ-loop (λ c. let a = c .before .before .before .before in (a .pre .1 .1 .order, omega arith, swept-none _ _ _ _ _ (a .pre .1 .0))) (λ c. search needs)
-    slice-read-wide16 (λ c κs. tt) (λ c. search needs) slice-read-w visit-requires (λ c. omega (arith, short (c .before .before .before .before .before .before)))
-    (λ c. omega (arith, short (c .before .before .before .before .before .before)))
-    (λ c. let left = c .before .before .before .before .before .before in omega (arith, short left)) (λ c. omega arith) (λ c. omega arith)
+    tie.close (tie.spec Inv-loop μ-loop (λ c. let a = c .before .before .before .before in (a .pre .1 .1 .order, omega arith, swept-none (a .pre .1 .0))) (λ c. search needs)
+    (λ c. omega arith) (λ c κs. tt) (λ c. search needs) slice-read-w visit-requires (λ c. omega arith) (λ c. omega arith) (λ c. omega arith) (λ c. omega arith) (λ c. omega arith)
     loop-again (λ c. search needs) (λ c. search needs) (λ c. search needs) returns)

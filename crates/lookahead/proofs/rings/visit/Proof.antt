@@ -29,7 +29,7 @@ loop-again : tie.Need-loop-again Inv-loop μ-loop
 loop-again c =
     let extended = c .before .before .before .before .before .before in
     let l = extended .before .before .before .before .before .loop in
-    (omega arith, left-more _ _ _ _ _ _ _ _ _ (l .inv .1) (extended .extend .ensures))
+    (omega arith, left-more (l .inv .1) (extended .extend .ensures))
 
 returns : tie.Need-returns Inv-loop μ-loop
 returns c = let e : c .before .loop .m ≡ 8 = omega arith in rw e at (c .before .loop .inv .1)
@@ -37,5 +37,5 @@ returns c = let e : c .before .loop .m ≡ 8 = omega arith in rw e at (c .before
 pub visit-spec : {M : Type 1} → f.Statement.statement M
 visit-spec =
     tie.close (tie.spec Inv-loop μ-loop (λ c κs. let a = c .before .before .before .before in (a .pre .0, a .pre .1 .1 .free))
-    (λ c. let a = c .before .before .before .before .before in (omega arith, left-none _ _ _ _ _ _ (a .pre .1 .0) (a .pre .1 .1 .costs))) extend-requires (λ c. omega arith)
+    (λ c. let a = c .before .before .before .before .before in (omega arith, left-none (a .pre .1 .0) (a .pre .1 .1 .costs))) extend-requires (λ c. omega arith)
     (λ c. omega arith) loop-again (λ c. omega arith) (λ c. omega arith) (λ c. omega arith) returns)

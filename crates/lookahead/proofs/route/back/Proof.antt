@@ -1,5 +1,5 @@
 -- `lookahead::route::back` meets its contract. The loop's invariant: the first k moves, those to the lowest cells, lead to no cell before x.
-use Rattle.learning.proofs.Words.{_-_, subst, arith}
+use Rattle.learning.proofs.Words.{_-_, arith}
 use Rattle.floor.specs.Moves.{flat}
 use Rattle.lookahead.specs.Way.{risingMove, Led, Unled}
 use Rattle.lookahead.proofs.Rising.{rising-lt}
@@ -26,29 +26,25 @@ start c = let l = c .before .before .before in l .before .before .before .before
 leads : (c : tie.After-led Inv-loop μ-loop) →
     let a = start c .args in
     Led (flat (a .width) (a .height) (a .floor .now)) (a .base) (a .mark .now) (a .cost .now) (a .x) (risingMove (c .before .before .before .loop .k)) (c .led .result)
-leads c =
-    let a = start c .args in
-    subst (λ m. Led (flat (a .width) (a .height) (a .floor .now)) (a .base) (a .mark .now) (a .cost .now) (a .x) m (c .led .result)) (c .before .rising .ensures) (c .led .ensures)
+leads c = rw (c .before .rising .ensures) at (c .led .ensures)
 
 returns : tie.Need-returns Inv-loop μ-loop
 returns c =
     let l = c .before .before in
     let at-loop = l .before .before .before in
-    led-prior _ (start l .pre .0) _ _ _ _ (at-loop .loop .k) (omega arith) (at-loop .loop .inv) _ (leads l) (c .if1 .taken)
+    led-prior (omega arith) (at-loop .loop .inv) (leads l) (start l .pre .0) (c .if1 .taken)
 
 loop-again : tie.Need-loop-again Inv-loop μ-loop
 loop-again c =
     let l = c .before .before in
-    let at-loop = l .before .before .before in
-    unled-more _ (start l .pre .0) _ _ _ _ (at-loop .loop .k) (omega arith) (at-loop .loop .inv) _ (leads l) (omega arith)
+    unled-more (omega arith) (l .before .before .before .loop .inv) (leads l) (omega arith)
 
 returns-2 : tie.Need-returns-2 Inv-loop μ-loop
 returns-2 c =
     let p = c .before .before .before .before .before .before .pre in
-    let at-loop = c .before in
-    absurd (unled-all _ (p .0) _ _ _ _ (at-loop .loop .k) (omega arith) (at-loop .loop .inv) (p .1 .1 .1 .0) (p .1 .1 .1 .1))
+    absurd (unled-all (p .0) (omega arith) (c .before .loop .inv) (p .1 .1 .1 .0) (p .1 .1 .1 .1))
 
 pub back-spec : {M : Type 1} → f.Statement.statement M
 back-spec =
     tie.close (tie.spec Inv-loop μ-loop (λ c κs. let a = c .before .before .before in (a .pre .0, a .pre .1 .0 .free (a .args .x) (a .pre .1 .1 .0)))
-    (λ c. unled-none _ (c .before .before .before .before .pre .0) _ _ _ _) (λ c κs. omega arith) led-requires returns (λ c. omega arith) (λ c. omega arith) loop-again returns-2)
+    (λ c. unled-none) (λ c κs. omega arith) led-requires returns (λ c. omega arith) (λ c. omega arith) loop-again returns-2)
