@@ -31,7 +31,7 @@ pub record Moved (f : Floor) (x m d v : ℕ) : Type 0 where
   pub step : stepOf f x m ≡ To d v
   pub at : Stepped f x m d v
 
--- so the code finds it
+-- as the code is told it
 pub moved : {f : Floor} {x m d v : ℕ} {told : Step} → Sized f → told ≡ stepOf f x m → told ≡ To d v → Moved f x m d v
 moved {f} {x} {m} {d} {v} z e t = record { step = sym e ∙ t; at = stepped f z x m d v (sym e ∙ t) }
 
@@ -292,8 +292,9 @@ module _
       extended-to = by-mark (decLe base (markOf S d))
 
 -- no cell is moved into
-pub extended-wall : {f : Floor} {base k c m w : ℕ} {S : State} → Room f base S → costAt S c ≡ w → stepOf f c m ≡ Wall → Extended f base k c m w S S
-extended-wall R own e = record { grew = grew-refl R; out = λ d v q. absurd (wall≢to d v (sym e ∙ q)); stays = own }
+pub extended-wall : {f : Floor} {base k c m w : ℕ} {S : State} {told : Step} → Room f base S → costAt S c ≡ w → told ≡ stepOf f c m → told ≡ Wall
+    → Extended f base k c m w S S
+extended-wall R own e t = record { grew = grew-refl R; out = λ d v q. absurd (wall≢to d v (sym t ∙ e ∙ q)); stays = own }
 
 -- no move yet, and one move more
 pub left-none : {f : Floor} {base k c w : ℕ} {S : State} → Room f base S → costAt S c ≡ w → Left f base k c 0 w S S

@@ -2,21 +2,24 @@
 -- Assumes nothing.
 use mathlib.Core.Path.{_≡_, refl, ap, sym, _∙_, subst}
 use mathlib.Core.List.{List}
-use mathlib.Core.Bool.{true, false}
+use mathlib.Core.Bool.{Bool, true, false}
 use mathlib.Core.Logic.{inl, inr}
 use Prim.Native.Nat.{ℕ, _+_, _-_, _≤_, _<_}
 use native.Mathlib.Omega.{arith}
 use native.Mathlib.Decide.{decLe, decLt}
+use borrow.Author.Tests.{leb-true, leb-false}
+use lib.Dec.{leb}
 use lib.ListN.{length, length-set}
 use lib.Seq.{getD-set-same}
 use Rattle.learning.specs.Walk.{Walk, stop, move, Any}
 use Rattle.learning.specs.Stretch.{stretched-some}
 use Rattle.learning.proofs.Walks.{restate}
-use Rattle.model.specs.Basics.{member}
+use Rattle.model.specs.Basics.{any, member}
 use Rattle.model.specs.Floor.{Floor, Sized, free, price}
 use Rattle.model.specs.Checks.{deepest}
 use Rattle.model.specs.Lookahead.{fineness}
 use Rattle.model.proofs.Accepted.{never}
+use Rattle.model.proofs.Lists.{any-some, any-fails}
 use Rattle.model.proofs.Moves.{free-few}
 use Rattle.floor.specs.declared.Step.the-variants.{To}
 use Rattle.floor.specs.Moves.{stepOf}
@@ -250,17 +253,20 @@ module _ {f : Floor} {s : ℕ} {gs : List ℕ} {base r k from : ℕ} {S : State}
       full : Full base (k + 1) S′
       full = full-next (R .level) W (omega (arith, W .grew .kept .grows)) (R .full)
 
-      pub ringed-next : Unmet gs base S′ → Ringed f s gs base (r + 1) (k + 1) (S .n) S′
-      ringed-next far = record { mark = omega (arith, R .mark); far = far; full = full; level = L′ }
+      -- whether a goal is in a ring that is marked, as the code is told it
+      module _ {met : Bool} (told : met ≡ any (λ g. leb base (markOf S′ g)) gs) where
+        pub ringed-next : met ≡ false → Ringed f s gs base (r + 1) (k + 1) (S .n) S′
+        ringed-next n = record { mark = omega (arith, R .mark); far = λ g m. leb-false _ _ (any-fails _ _ (sym told ∙ n) g m); full = full; level = L′ }
 
-      pub next-framed : {depth : ℕ} → Sized f → r < depth → (g : ℕ) → member g gs ≡ true → In base (S′ .mark) g → Framed f s gs depth base (r + 1) S′
-      next-framed z short g m p =
-          let on : (x : ℕ) → member x gs ≡ true → In base (S′ .mark) x → markOf S′ x ≡ base + (r + 1) =
-          λ x n i. level-goal (R .level) W x (R .far x n) i ∙ omega (arith, R .mark) in record {
-            marked = level-marked L′ z (r + 1) (omega (arith, R .mark));
-            within = omega arith;
-            some = omega arith;
-            ends = inr (g, m, on g m p);
-            nearer = on;
-            full = subst (λ y. Full base y S′) (omega (arith, R .mark)) full;
-          }
+        pub next-framed : {depth : ℕ} → Sized f → r < depth → met ≡ true → Framed f s gs depth base (r + 1) S′
+        next-framed z short y =
+            let (g, m, t) = any-some _ _ (sym told ∙ y) in
+            let on : (x : ℕ) → member x gs ≡ true → In base (S′ .mark) x → markOf S′ x ≡ base + (r + 1) =
+            λ x n i. level-goal (R .level) W x (R .far x n) i ∙ omega (arith, R .mark) in record {
+              marked = level-marked L′ z (r + 1) (omega (arith, R .mark));
+              within = omega arith;
+              some = omega arith;
+              ends = inr (g, m, on g m (leb-true _ _ t));
+              nearer = on;
+              full = subst (λ y. Full base y S′) (omega (arith, R .mark)) full;
+            }

@@ -11,6 +11,7 @@ use Rattle.model.specs.Floor.{Floor, Sized, price, opposite}
 use Rattle.model.specs.Grounds.{price-same}
 use Rattle.model.specs.Lookahead.{fine}
 use Rattle.model.proofs.Moves.{opposite-lt}
+use Rattle.floor.specs.declared.Step.{Step}
 use Rattle.floor.specs.declared.Step.the-variants.{To, Wall}
 use Rattle.floor.specs.Moves.{stepOf}
 use Rattle.floor.proofs.Steps.{step-heading, price-step, wall≢to, same-to}
@@ -28,8 +29,8 @@ module _ {f : Floor} {base : ℕ} {mark cost : List ℕ} {x : ℕ} where
     led-nowhere : ((y v : ℕ) → stepOf f x j ≡ To y v → Before f base mark cost x y → ⊥) → Led f base mark cost x j b
     led-nowhere n = record { some = λ l. absurd (omega arith); none = λ l. n }
 
-    pub led-wall : stepOf f x j ≡ Wall → Led f base mark cost x j b
-    led-wall s = led-nowhere (λ y v t. absurd (wall≢to y v (sym s ∙ t)))
+    pub led-wall : {told : Step} → told ≡ stepOf f x j → told ≡ Wall → Led f base mark cost x j b
+    led-wall s w = led-nowhere (λ y v t. absurd (wall≢to y v (sym w ∙ s ∙ t)))
 
     module _ {y v : ℕ} (M : Moved f x j y v) where
       pub led-out : getD mark y 0 < base → Led f base mark cost x j b
@@ -62,7 +63,10 @@ module _ {f : Floor} {base : ℕ} {mark cost : List ℕ} {x : ℕ} where
   pub unled-none : Unled f base mark cost x 0
   unled-none = record { within = omega arith; none = λ k l. absurd (omega arith) }
 
-  module _ {i : ℕ} (few : i < 8) (U : Unled f base mark cost x i) {b : Link} (L : Led f base mark cost x (risingMove i) b) where
+  module _ {i j : ℕ} {b : Link} (few : i < 8) (U : Unled f base mark cost x i) (e : j ≡ risingMove i) (led : Led f base mark cost x j b) where
+    L : Led f base mark cost x (risingMove i) b
+    L = rw e at led
+
     pub unled-more : 4096 ≤ b .cell → Unled f base mark cost x (i + 1)
     unled-more h = record {
       within = omega arith;

@@ -16,6 +16,7 @@ use Rattle.learning.proofs.Walks.{restate, first-in}
 use Rattle.model.specs.Floor.{Floor, Sized, leastPrice, price}
 use Rattle.model.specs.Lookahead.{fineness, fine}
 use Rattle.model.specs.Grounds.{price-same}
+use Rattle.floor.specs.declared.Step.{Step}
 use Rattle.floor.specs.declared.Step.the-variants.{To, Wall}
 use Rattle.floor.specs.Moves.{stepOf}
 use Rattle.floor.proofs.Steps.{stepped, price-step, wall≢to, same-to}
@@ -111,9 +112,9 @@ module _ {f : Floor} {base : ℕ} {mark : List ℕ} where
       lowered-more p q (λ t y. (y .0, below-more (λ i. Under f base mark c i u C) m (λ i l d v s h. omega (arith, t .1 i l d v s h, q .drop d)) (y .1)))
 
   -- a move that leads nowhere, or out of the window, lowers nothing
-  pub eased-wall : (c m : ℕ) {w : ℕ} {cost : List ℕ} {b : Bool} → Costs f base mark cost → at cost c ≡ w → stepOf f c m ≡ Wall
+  pub eased-wall : (c m : ℕ) {w : ℕ} {cost : List ℕ} {b : Bool} {told : Step} → Costs f base mark cost → at cost c ≡ w → told ≡ stepOf f c m → told ≡ Wall
       → Lowered f base mark (Eased f base mark c m w) cost b cost b
-  eased-wall c m C own step = lowered-none C (own, λ x u s i. absurd (wall≢to x u (sym step ∙ s)))
+  eased-wall c m C own e t = lowered-none C (own, λ x u s i. absurd (wall≢to x u (sym t ∙ e ∙ s)))
 
   module _ {cost : List ℕ} {c m d v w : ℕ} (C : Costs f base mark cost) (own : at cost c ≡ w) (M : Moved f c m d v) where
     pub eased-out : {b : Bool} → getD mark d 0 < base → Lowered f base mark (Eased f base mark c m w) cost b cost b

@@ -113,7 +113,7 @@ module _ {j : Job} {bytes : List ℕ} {s : ℕ} (Q : Asked j bytes s) {base : �
     prior-near : Near j bytes s (b .cell)
     prior-near = near (b .cell) (P .from .before .inside)
 
-    pub prior-cheap : at cost (b .cell) + fine leastPrice ≤ at cost x
+    prior-cheap : at cost (b .cell) + fine leastPrice ≤ at cost x
     prior-cheap = omega (arith, P .from .before .exact, price-low f (b .cell) x (P .from .before .move))
 
     prior-same : priorIn (fineIn j bytes) d s (viewOf (fineIn j bytes) d s) x ≡ b .cell
@@ -140,18 +140,20 @@ module _ {j : Job} {bytes : List ℕ} {s : ℕ} (Q : Asked j bytes s) {base : �
         ∙ append-snoc (movesTo j bytes s (b .cell)) (b .m) (drop (suc i) way)
         ∙ ap (λ r. movesTo j bytes s (b .cell) ++ r) (sym (ahead way i (b .m) l))
 
-    pub collects-more : (1 ≤ k) × Collecting j bytes s cost y (k - 1) (b .cell) (set way (k - 1) (b .m))
+    pub prior-less : at cost (b .cell) < at cost x
+    prior-less = omega (arith, prior-cheap)
+
+    pub collects-room : 1 ≤ k
+    collects-room = omega (arith, C .room, prior-cheap)
+
+    pub collects-more : Collecting j bytes s cost y (k - 1) (b .cell) (set way (k - 1) (b .m))
     collects-more =
-        let l : 1 ≤ k = omega (arith, C .room, prior-cheap) in
-        let t : k - 1 < length way = omega (arith, C .size, C .fits) in
-        let e : suc (k - 1) ≡ k = omega arith in (
-          l,
-          record {
-            near = prior-near;
-            fits = omega (arith, C .fits);
-            size = simp length-set (C .size);
-            room = omega (arith, C .room, prior-cheap);
-            moves = C .moves ∙ ap (λ i. movesTo j bytes s x ++ drop i way) (sym e) ∙ moves-ahead (k - 1) t;
-            low = λ i p. by-store (λ v. v < 8) way (k - 1) (b .m) i t (λ q. P .from .one) (λ q. C .low i (omega (arith, q)));
-          },
-        )
+        let t : k - 1 < length way = omega (arith, collects-room, C .size, C .fits) in
+        let e : suc (k - 1) ≡ k = omega (arith, collects-room) in record {
+          near = prior-near;
+          fits = omega (arith, C .fits);
+          size = simp length-set (C .size);
+          room = omega (arith, C .room, prior-cheap);
+          moves = C .moves ∙ ap (λ i. movesTo j bytes s x ++ drop i way) (sym e) ∙ moves-ahead (k - 1) t;
+          low = λ i p. by-store (λ v. v < 8) way (k - 1) (b .m) i t (λ q. P .from .one) (λ q. C .low i (omega (arith, q)));
+        }

@@ -24,5 +24,5 @@ returns c =
 
 pub greatest-spec : {M : Type 1} → f.Statement.statement M
 greatest-spec =
-    tie.close (tie.spec Inv-loop μ-loop (λ c. (omega arith, omega arith, topped-none (c .before .args .best .now))) (λ c. search needs)
-    (λ c. omega arith) (λ c κs. tt) (λ c. omega arith) (λ c. omega arith) loop-again returns)
+    tie.close (tie.spec Inv-loop μ-loop (λ c. (omega arith, omega arith, topped-none (c .before .args .best .now))) (λ c. search needs) (λ c. omega arith) (λ c κs. tt) (λ c. omega arith)
+    (λ c. omega arith) loop-again returns)

@@ -43,8 +43,7 @@ returns c =
 
 pub weigh-spec : {M : Type 1} → f.Statement.statement M
 weigh-spec =
-    tie.close (tie.spec (λ c. omega (arith, places (c .before .before .before .before) .0))
-    (λ c. let a = c .before .before .before .before .before in omega (arith, places a .0)) (λ c. search needs) (λ c κs. search needs)
-    (λ c. omega (arith, places (start c) .0)) (λ c. let a = start (c .before) in omega (arith, places a .0)) (λ c κs. search needs) mul-v
+    tie.close (tie.spec (λ c. omega (arith, places (c .before .before .before .before) .0)) (λ c. let a = c .before .before .before .before .before in omega (arith, places a .0)) (λ c. search needs)
+    (λ c κs. search needs) (λ c. omega (arith, places (start c) .0)) (λ c. let a = start (c .before) in omega (arith, places a .0)) (λ c κs. search needs) mul-v
     (λ c. omega (arith, places (start (c .before .before)) .0)) (λ c. places (start (c .before .before .before)) .1) (λ c κs. search needs) (λ c. omega (arith, small c))
     (λ c. omega (arith, small (c .before))) (λ c. omega (arith, small (c .before), places (start (c .before .before .before .before .before)) .0)) enter-requires (λ c. search needs) returns)

@@ -1,5 +1,5 @@
 -- `lookahead::bests::weigh_all` meets its contract. The loop's invariant: the keys of the first i cells are entered.
-use Rattle.learning.proofs.Words.{_-_, _≤_, _≡_, sym, arith}
+use Rattle.learning.proofs.Words.{needs, _-_, _≤_, _≡_, sym, arith}
 use Rattle.lookahead.proofs.Weighing.{bests-more}
 use Rattle.lookahead.specs.Bests.{Bests}
 use Rattle.lookahead.specs.Marks.{In}
@@ -39,5 +39,5 @@ returns c =
 
 pub weigh-all-spec : {M : Type 1} → f.Statement.statement M
 weigh-all-spec =
-    tie.close (tie.spec Inv-loop μ-loop (λ c. (omega arith, c .before .before .before .before .before .pre .1 .1)) (λ c. omega arith) (λ c. omega arith) (λ c κs. tt) weigh-requires
-    (λ c. omega arith) (λ c. omega arith) loop-again (λ c. omega arith) returns)
+    tie.close (tie.spec Inv-loop μ-loop (λ c. search needs) (λ c. omega arith) (λ c. omega arith) (λ c κs. tt) weigh-requires (λ c. omega arith) (λ c. omega arith) loop-again (λ c. omega arith)
+    returns)

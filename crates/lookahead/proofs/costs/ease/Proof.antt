@@ -1,5 +1,5 @@
 -- `lookahead::costs::ease` meets its contract: what `lower` does, at the cell that the move leads to.
-use Rattle.learning.proofs.Words.{sym, _∙_, arith, needs}
+use Rattle.learning.proofs.Words.{arith, needs}
 use Rattle.floor.specs.Moves.{flat}
 use Rattle.lookahead.proofs.Grow.{Moved, moved}
 use Rattle.lookahead.proofs.Lowering.{eased, eased-out, eased-wall}
@@ -16,12 +16,6 @@ to-cell : (c : tie.After-cell) →
     Moved (flat (a .width) (a .height) (a .floor .now)) (a .c) (a .m) (c .cell .given .0 .0) (c .cell .given .0 .1 .0)
 to-cell c = moved (to-start c .pre .0) (c .before .before .step-from .ensures) (c .cell .given .1)
 
-returns : tie.Need-returns
-returns c =
-    let after-cell = c .before .before .before in
-    let p = to-start after-cell .pre .1 in
-    eased-out (p .0) (p .1 .1 .1) (to-cell after-cell) (c .if1 .taken)
-
 -- where the fine price is known
 abbrev from-fine : tie.After-fine → tie.After-cell
 from-fine c = c .before .before .before .before
@@ -31,19 +25,9 @@ add-sum c =
     let p = to-start (from-fine c) .pre .1 in
     omega (arith, p .0 .small _ (p .1 .0 .marked), to-cell (from-fine c) .at .most)
 
-returns-2 : tie.Need-returns-2
-returns-2 c =
-    let after-fine = c .before .before .before .before in
-    let p = to-start (from-fine after-fine) .pre .1 in
-    eased (p .0) (p .1 .1 .1) (to-cell (from-fine after-fine)) (p .1 .0 .marked) (omega arith) (after-fine .fine .ensures) (c .before .before .lower .ensures)
-
-returns-3 : tie.Need-returns-3
-returns-3 c =
-    let p = c .before .before .before .before .before .before .pre .1 in
-    eased-wall _ _ (p .0) (p .1 .1 .1) (sym (c .before .before .step-from .ensures) ∙ c .enum-told .given .1)
-
 pub ease-spec : {M : Type 1} → f.Statement.statement M
 ease-spec =
-    tie.close (tie.spec (λ c κs. search needs) (λ c. search needs) (λ c. omega (arith, to-cell (c .before) .at .few)) (λ c. omega (arith, to-cell (c .before .before) .at .few)) returns
-    (λ c κs. omega (arith, to-cell (c .before .before .before) .at .most)) add-sum (λ c κs. omega (arith, to-cell (from-fine (c .before)) .at .few)) (λ c. search needs) (λ c. search needs)
-    returns-2 returns-3)
+    tie.close (tie.spec (λ c κs. search needs) (λ c. search needs) (λ c. omega (arith, to-cell (c .before) .at .few)) (λ c. omega (arith, to-cell (c .before .before) .at .few))
+    (λ c. search (needs, eased-out, to-cell (c .before .before .before))) (λ c κs. omega (arith, to-cell (c .before .before .before) .at .most)) add-sum
+    (λ c κs. omega (arith, to-cell (from-fine (c .before)) .at .few)) (λ c. search needs) (λ c. search needs) (λ c. search (needs, eased, to-cell (from-fine (c .before .before .before .before))))
+    (λ c. search (needs, eased-wall)))

@@ -17,12 +17,6 @@ marked c = subst (In (start c .args .base) (start c .args .mark .now)) (sym (c .
 slice-read-w : tie.Need-slice-read-w
 slice-read-w c = let a = start (c .before) in omega (arith, free-few _ _ (a .pre .0) (a .pre .1 .0 .free _ (marked (c .before))))
 
-returns : tie.Need-returns
-returns c =
-    let cell = c .before .before .before in
-    let a = start cell in
-    again-not (cell .wide16 .ensures .0) (a .pre .1 .0) (c .if1 .taken) (a .pre .1 .1 .1 .1)
-
 returns-2 : tie.Need-returns-2
 returns-2 c =
     let cell = c .before .before .before .before .before in
@@ -35,15 +29,8 @@ ease-cell-requires c κs =
     let p = start cell .pre in
     (p .0, (p .1 .0, (marked cell, refl)))
 
-returns-3 : tie.Need-returns-3
-returns-3 c =
-    let eased = c .before .before in
-    let wide = eased .before .before .before in
-    let cell = wide .before .before .before .before in
-    again-eased (cell .wide16 .ensures .0) (eased .ease-cell .ensures)
-
 pub ease-again-spec : {M : Type 1} → f.Statement.statement M
 ease-again-spec =
-    tie.close (tie.spec (λ c. search needs) (λ c. search needs) (λ c κs. search needs) (λ c. search needs) slice-read-w (λ c. search needs) (λ c. search needs) (λ c. search needs) returns
-    (λ c. search needs) (λ c. search needs) (λ c. search needs) (λ c κs. search needs) (λ c. omega arith) (λ c. search needs) returns-2 ease-cell-requires
-    (λ c. search needs) (λ c. search needs) returns-3)
+    tie.close (tie.spec (λ c. search needs) (λ c. search needs) (λ c κs. search needs) (λ c. search needs) slice-read-w (λ c. search needs) (λ c. search needs) (λ c. search needs)
+    (λ c. search (needs, again-not)) (λ c. search needs) (λ c. search needs) (λ c. search needs) (λ c κs. search needs) (λ c. omega arith) (λ c. search needs) returns-2 ease-cell-requires
+    (λ c. search needs) (λ c. search needs) (λ c. search (needs, again-eased)))

@@ -1,5 +1,5 @@
 -- `lookahead::costs::ease_cell` meets its contract. The loop's invariant: the first m moves have lowered what they can.
-use Rattle.learning.proofs.Words.{_-_, _≤_, _≡_, arith}
+use Rattle.learning.proofs.Words.{needs, _-_, _≤_, _≡_, arith}
 use Rattle.floor.specs.Moves.{flat}
 use Rattle.lookahead.proofs.Lowering.{lowered-none, eased-more}
 use Rattle.lookahead.specs.Costs.{Lowered, Easing}
@@ -20,15 +20,8 @@ ease-requires c κs =
     let l = at-loop .loop .inv .1 in
     (p .0, (l .costs, (record { marked = p .1 .1 .0; placed = at-loop .before .spot-of .ensures }, (omega arith, l .so .0))))
 
-loop-again : tie.Need-loop-again Inv-loop μ-loop
-loop-again c =
-    let l = c .before .before .before .before .before .loop in
-    (omega arith, eased-more _ _ _ (l .inv .1) (c .before .before .ease .ensures))
-
-returns : tie.Need-returns Inv-loop μ-loop
-returns c = let e : c .before .loop .m ≡ 8 = omega arith in rw e at (c .before .loop .inv .1)
-
 pub ease-cell-spec : {M : Type 1} → f.Statement.statement M
 ease-cell-spec =
-    tie.close (tie.spec Inv-loop μ-loop (λ c κs. let a = c .before .before .before in (a .pre .0, a .pre .1 .0 .free (a .args .c) (a .pre .1 .1 .0))) (λ c. let p = c .before .before .before .before .pre .1 in (omega arith, lowered-none (p .0) (p .1 .1, λ i l. absurd (omega arith)))) ease-requires
-    (λ c. omega arith) (λ c. omega arith) loop-again (λ c. omega arith) returns)
+    tie.close (tie.spec Inv-loop μ-loop (λ c κs. let a = c .before .before .before in (a .pre .0, a .pre .1 .0 .free (a .args .c) (a .pre .1 .1 .0)))
+    (λ c. let p = c .before .before .before .before .pre .1 in (omega arith, lowered-none (p .0) (p .1 .1, λ i l. absurd (omega arith)))) ease-requires (λ c. omega arith) (λ c. omega arith)
+    (λ c. search (needs, eased-more)) (λ c. omega arith) (λ c. let e : c .before .loop .m ≡ 8 = omega arith in rw e at (c .before .loop .inv .1)))

@@ -41,6 +41,5 @@ returns c x h =
 
 pub highest-spec : {M : Type 1} → f.Statement.statement M
 highest-spec =
-    tie.close (tie.spec Inv-loop μ-loop (λ c. (omega arith, λ j l. absurd (omega arith))) (λ c. omega arith)
-    (λ c. omega arith) (λ c κs. tt) (λ c. omega arith) shared-slice-read-wide16-2 (λ c κs. tt)
-    (λ c κs. tt) (λ c. omega arith) (λ c. omega arith) loop-again returns)
+    tie.close (tie.spec Inv-loop μ-loop (λ c. (omega arith, λ j l. absurd (omega arith))) (λ c. omega arith) (λ c. omega arith) (λ c κs. tt) (λ c. omega arith) shared-slice-read-wide16-2
+    (λ c κs. tt) (λ c κs. tt) (λ c. omega arith) (λ c. omega arith) loop-again returns)

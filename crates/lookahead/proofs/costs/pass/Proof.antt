@@ -1,5 +1,5 @@
 -- `lookahead::costs::pass` meets its contract. The loop's invariant: the moves of the first i cells are followed where they need to be.
-use Rattle.learning.proofs.Words.{_-_, _≤_, _≡_, arith}
+use Rattle.learning.proofs.Words.{needs, _-_, _≤_, _≡_, arith}
 use Rattle.floor.specs.Moves.{flat}
 use Rattle.lookahead.proofs.Lowering.{passed-none, passed-more}
 use Rattle.lookahead.specs.Costs.{Passed}
@@ -12,11 +12,6 @@ Inv-loop width height floor base mark cost₀ list₀ n high any₀ i₀ cost li
 
 abbrev μ-loop : tie.MeasureT-loop
 μ-loop width height floor base mark cost₀ list₀ n high any₀ i₀ cost list any i = n - i
-
-loop-holds : tie.Need-loop-holds Inv-loop μ-loop
-loop-holds c =
-    let a = c .before .before .before .before in
-    (omega arith, passed-none (a .pre .1 .1 .0) (a .pre .1 .0) (a .pre .1 .1 .1 .0))
 
 -- from a place to one before it
 abbrev to-start : tie.At-loop Inv-loop μ-loop → tie.Start Inv-loop μ-loop
@@ -38,13 +33,6 @@ ease-again-requires c κs =
       ),
     )
 
-loop-again : tie.Need-loop-again Inv-loop μ-loop
-loop-again c =
-    let after-ease-again = c .before .before .before .before in
-    let at-loop = after-ease-again .before .before .before .before in
-    let l = at-loop .loop in
-    (omega arith, passed-more (omega arith) (l .inv .1) (after-ease-again .ease-again .ensures))
-
 returns : tie.Need-returns Inv-loop μ-loop
 returns c =
     let l = c .before .loop in
@@ -53,5 +41,5 @@ returns c =
 
 pub pass-spec : {M : Type 1} → f.Statement.statement M
 pass-spec =
-    tie.close (tie.spec Inv-loop μ-loop loop-holds ease-again-requires (λ c. omega arith) (λ c. omega arith) loop-again
-    (λ c. omega arith) (λ c. omega arith) returns)
+    tie.close (tie.spec Inv-loop μ-loop (λ c. search (needs, passed-none)) ease-again-requires (λ c. omega arith) (λ c. omega arith) (λ c. search (needs, passed-more)) (λ c. omega arith)
+    (λ c. omega arith) returns)

@@ -1,7 +1,7 @@
 -- `lookahead::costs::relax` meets its contract. The loop's invariant: the costs are still those of walks, none has risen, and the list says
 -- at which cost each cell's moves were followed.
 -- The measure is their sum.
-use Rattle.learning.proofs.Words.{ℕ, _≤_, arith}
+use Rattle.learning.proofs.Words.{needs, ℕ, _≤_, arith}
 use Rattle.model.proofs.Moves.{free-few}
 use Rattle.floor.specs.Moves.{flat}
 use Rattle.lookahead.proofs.Lowering.{relaxed, turned}
@@ -26,22 +26,11 @@ highest-requires c κs =
     let a = c .before .before .before .before .before .before in
     (a .pre .1 .1 .0, (a .pre .1 .0 .costs, λ x h. free-few _ x (a .pre .0) (a .pre .1 .0 .free x h)))
 
-loop-holds : tie.Need-loop-holds Inv-loop μ-loop
-loop-holds c =
-    let lent = c .before .before .before .before .before .before in
-    let p = lent .before .pre in
-    (p .1 .0, (λ s W. W), (λ x. omega arith), p .1 .1 .0, p .1 .1 .1, c .highest .ensures)
-
 -- from a place to one before it
 abbrev to-start : tie.At-loop Inv-loop μ-loop → tie.Start Inv-loop μ-loop
 to-start c =
     let after-shared-slice-known2 = c .before .before .before .before .before .before in
     after-shared-slice-known2 .before .before
-
-loop-less : tie.Need-loop-less Inv-loop μ-loop
-loop-less c =
-    let passed = c .before .before .before .before .before in
-    turned (passed .pass .ensures .lowered) (c .if1 .taken)
 
 loop-again : tie.Need-loop-again Inv-loop μ-loop
 loop-again c =
@@ -51,15 +40,7 @@ loop-again c =
     let e = after-pass .pass .ensures .lowered in
     (e .costs, (λ s W. e .walked s (i .1 s W)), (λ x. omega (arith, e .drop x, i .2 x)), after-pass .pass .ensures .listing, e .so, λ x h. omega (arith, e .drop x, i .5 x h))
 
-returns : tie.Need-returns Inv-loop μ-loop
-returns c =
-    let after-pass = c .before .before .before .before .before in
-    let at-loop = after-pass .before .before .before in
-    let a = to-start at-loop in
-    let i = at-loop .loop .inv in
-    relaxed (a .pre .0) (i .1) (i .2) (after-pass .pass .ensures) (c .if1 .left)
-
 pub relax-spec : {M : Type 1} → f.Statement.statement M
 relax-spec =
-    tie.close (tie.spec Inv-loop μ-loop highest-requires loop-holds (λ c κs. let i = c .before .before .loop .inv in (to-start (c .before .before) .pre .0, (i .0, (i .3, (i .4, i .5)))))
-    loop-less loop-again (λ c. omega arith) (λ c. omega arith) returns)
+    tie.close (tie.spec Inv-loop μ-loop highest-requires (λ c. search needs) (λ c κs. let i = c .before .before .loop .inv in (to-start (c .before .before) .pre .0, (i .0, (i .3, (i .4, i .5)))))
+    (λ c. search (needs, turned)) loop-again (λ c. omega arith) (λ c. omega arith) (λ c. search (needs, relaxed)))

@@ -1,5 +1,5 @@
 -- `lookahead::rings::extend` meets its contract: what `reach` does, at the cell that the move leads to.
-use Rattle.learning.proofs.Words.{sym, _∙_, arith, needs}
+use Rattle.learning.proofs.Words.{arith, needs}
 use Rattle.floor.specs.Moves.{flat}
 use Rattle.lookahead.proofs.Grow.{Moved, moved, extended-to, extended-wall}
 use Rattle.lookahead.proofs.rings.extend as f
@@ -37,13 +37,7 @@ returns c =
     let p = to-start after-cell .pre .1 in
     extended-to (p .0) (p .1 .0) (to-cell after-cell) (after-fine .fine .ensures) (after-reach .reach .ensures)
 
-returns-2 : tie.Need-returns-2
-returns-2 c =
-    let after-shared-slice-known = c .before .before .before .before .before .before in
-    let p = after-shared-slice-known .before .pre .1 in
-    extended-wall (p .0) (p .1 .0 .costs) (sym (c .before .before .step-from .ensures) ∙ c .enum-told .given .1)
-
 pub extend-spec : {M : Type 1} → f.Statement.statement M
 extend-spec =
     tie.close (tie.spec (λ c κs. search needs) (λ c. search needs) (λ c κs. omega (arith, to-cell (c .before) .at .most)) add-sum (λ c. search needs) reach-requires (λ c. search needs)
-    (λ c. search needs) (λ c. search needs) (λ c. search needs) returns returns-2)
+    (λ c. search needs) (λ c. search needs) (λ c. search needs) returns (λ c. search (needs, extended-wall)))

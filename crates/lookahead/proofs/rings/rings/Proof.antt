@@ -1,8 +1,7 @@
 -- `lookahead::rings::rings` meets its contract. The loop's invariant: rings 0 to r are marked, none is empty, and no goal is in one of them.
-use Rattle.learning.proofs.Words.{_-_, _≤_, sym, _∙_, arith, leb-true, leb-false}
+use Rattle.learning.proofs.Words.{needs, _-_, _≤_, arith}
 use Rattle.model.proofs.Moves.{free-few}
 use Rattle.model.specs.Floor.{goalsOf}
-use Rattle.model.proofs.Lists.{any-some, any-fails}
 use Rattle.floor.specs.Moves.{flat}
 use Rattle.lookahead.proofs.Levels.{Ringed, ringed-begin, ringed-segment, ringed-next, ringed-framed, next-blocked, next-framed}
 use Rattle.lookahead.specs.Marks.{state}
@@ -38,19 +37,6 @@ turn c = c .before .before .before .before .before
 abbrev called : tie.After-list2 Inv-loop μ-loop → tie.Start Inv-loop μ-loop
 called c = start (turn (marking c))
 
-begin-requires : tie.Need-begin-requires Inv-loop μ-loop
-begin-requires c κs =
-    let after-arg = c .before in
-    let p = after-arg .before .before .before .before .before .before .pre in
-    let lent = p .1 .1 .1 .1 in
-    (free-few _ _ (p .0) (p .1 .0), (lent .marks .size, (lent .costs, lent .cells)))
-
-loop-holds : tie.Need-loop-holds Inv-loop μ-loop
-loop-holds c =
-    let begun = c .before .before .before .before .before .before in
-    let p = to-start begun .pre in
-    (omega arith, ringed-begin (p .0) _ (p .1 .0) (p .1 .1 .1 .1) (begun .begin .ensures) (p .1 .1 .0 .1))
-
 spread-requires : tie.Need-spread-requires Inv-loop μ-loop
 spread-requires c κs =
     let at-loop = c .before .before .before .before in
@@ -69,30 +55,17 @@ goal-marked-requires c κs =
     let lists = c .before .before .before in
     (called lists .pre .1 .1 .0 .0, marking lists .spread .ensures .grew .room .sizes .marks)
 
-returns-2 : tie.Need-returns-2 Inv-loop μ-loop
-returns-2 c =
-    let tested = c .before in
-    let some = tested .before .before in
-    let lists = some .before .before in
-    let marked = marking lists in
-    let (g, m, t) = any-some _ _ (sym (tested .goal-marked .ensures) ∙ c .if2 .taken) in
-    next-framed (turn marked .loop .inv .1) (marked .spread .ensures) (some .if1 .left) (called lists .pre .0) (omega arith) g m (leb-true _ _ t)
-
 loop-again : tie.Need-loop-again Inv-loop μ-loop
 loop-again c =
     let tested = c .before in
     let some = tested .before .before in
     let marked = marking (some .before .before) in
-    let none = any-fails _ _ (sym (tested .goal-marked .ensures) ∙ c .if2 .left) in
-    (omega arith, ringed-next (turn marked .loop .inv .1) (marked .spread .ensures) (some .if1 .left) (λ g m. leb-false _ _ (none g m)))
-
-returns-3 : tie.Need-returns-3 Inv-loop μ-loop
-returns-3 c = let p = start (c .before) .pre in ringed-framed (c .before .loop .inv .1) (p .0) (omega arith) (p .1 .1 .1 .0 .0)
+    (omega arith, ringed-next (turn marked .loop .inv .1) (marked .spread .ensures) (some .if1 .left) (tested .goal-marked .ensures) (c .if2 .left))
 
 pub rings-spec : {M : Type 1} → f.Statement.statement M
 rings-spec =
-    tie.close (tie.spec Inv-loop μ-loop begin-requires loop-holds spread-requires (λ c. omega arith) (λ c. omega (arith, called (c .before) .pre))
-    (λ c. omega (arith, called (c .before .before) .pre)) (λ c. omega (arith, called (c .before .before) .pre)) (λ c. omega (arith, called (c .before .before) .pre))
-    returns goal-marked-requires (λ c. omega (arith, called (c .before .before .before .before .before) .pre)) (λ c. omega (arith, called (c .before .before .before .before .before) .pre))
-    (λ c. omega (arith, called (c .before .before .before .before .before) .pre)) returns-2 (λ c. omega arith) loop-again (λ c. omega arith)
-    (λ c. omega arith) (λ c. omega arith) returns-3)
+    tie.close (tie.spec Inv-loop μ-loop (λ c κs. search (needs, free-few)) (λ c. search (needs, ringed-begin)) spread-requires (λ c. omega arith) (λ c. omega (arith, called (c .before) .pre))
+    (λ c. omega (arith, called (c .before .before) .pre)) (λ c. omega (arith, called (c .before .before) .pre)) (λ c. omega (arith, called (c .before .before) .pre)) returns goal-marked-requires
+    (λ c. omega (arith, called (c .before .before .before .before .before) .pre)) (λ c. omega (arith, called (c .before .before .before .before .before) .pre))
+    (λ c. omega (arith, called (c .before .before .before .before .before) .pre)) (λ c. search (needs, next-framed)) (λ c. omega arith) loop-again (λ c. omega arith) (λ c. omega arith)
+    (λ c. omega arith) (λ c. let p = start (c .before) .pre in ringed-framed (c .before .loop .inv .1) (p .0) (omega arith) (p .1 .1 .1 .0 .0)))

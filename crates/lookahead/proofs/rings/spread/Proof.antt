@@ -59,6 +59,5 @@ returns c =
 
 pub spread-spec : {M : Type 1} → f.Statement.statement M
 spread-spec =
-    tie.close (tie.spec Inv-loop μ-loop (λ c. let a = c .before .before .before .before in (a .pre .1 .1 .order, omega arith, swept-none (a .pre .1 .0))) (λ c. search needs)
-    (λ c. omega arith) (λ c κs. tt) (λ c. search needs) slice-read-w visit-requires (λ c. omega arith) (λ c. omega arith) (λ c. omega arith) (λ c. omega arith) (λ c. omega arith)
-    loop-again (λ c. search needs) (λ c. search needs) (λ c. search needs) returns)
+    tie.close (tie.spec Inv-loop μ-loop (λ c. search (needs, swept-none)) (λ c. search needs) (λ c. omega arith) (λ c κs. tt) (λ c. search needs) slice-read-w visit-requires (λ c. omega arith)
+    (λ c. omega arith) (λ c. omega arith) (λ c. omega arith) (λ c. omega arith) loop-again (λ c. search needs) (λ c. search needs) (λ c. search needs) returns)

@@ -1,5 +1,5 @@
 -- `lookahead::rings::visit` meets its contract. The loop's invariant: the cell is left by each of the first m moves.
-use Rattle.learning.proofs.Words.{_-_, _≤_, _≡_, _∙_, arith}
+use Rattle.learning.proofs.Words.{needs, _-_, _≤_, _≡_, _∙_, arith}
 use Rattle.floor.specs.Moves.{flat}
 use Rattle.lookahead.proofs.Grow.{left-none, left-more}
 use Rattle.lookahead.specs.Marks.{state, Left}
@@ -25,17 +25,7 @@ extend-requires c κs =
     let k = L .grew .kept .marks (a .args .c) (omega arith) in
     (a .pre .0, (L .grew .room, (record { placed = at-loop .before .spot-of .ensures; ring = o .ring; marked = k ∙ o .marked; costs = L .stays }, omega arith)))
 
-loop-again : tie.Need-loop-again Inv-loop μ-loop
-loop-again c =
-    let extended = c .before .before .before .before .before .before in
-    let l = extended .before .before .before .before .before .loop in
-    (omega arith, left-more (l .inv .1) (extended .extend .ensures))
-
-returns : tie.Need-returns Inv-loop μ-loop
-returns c = let e : c .before .loop .m ≡ 8 = omega arith in rw e at (c .before .loop .inv .1)
-
 pub visit-spec : {M : Type 1} → f.Statement.statement M
 visit-spec =
-    tie.close (tie.spec Inv-loop μ-loop (λ c κs. let a = c .before .before .before .before in (a .pre .0, a .pre .1 .1 .free))
-    (λ c. let a = c .before .before .before .before .before in (omega arith, left-none (a .pre .1 .0) (a .pre .1 .1 .costs))) extend-requires (λ c. omega arith)
-    (λ c. omega arith) loop-again (λ c. omega arith) (λ c. omega arith) (λ c. omega arith) returns)
+    tie.close (tie.spec Inv-loop μ-loop (λ c κs. search needs) (λ c. search (needs, left-none)) extend-requires (λ c. omega arith) (λ c. omega arith) (λ c. search (needs, left-more))
+    (λ c. omega arith) (λ c. omega arith) (λ c. omega arith) (λ c. let e : c .before .loop .m ≡ 8 = omega arith in rw e at (c .before .loop .inv .1)))

@@ -32,5 +32,5 @@ returns c =
 
 pub copy-spec : {M : Type 1} → f.Statement.statement M
 copy-spec =
-    tie.close (tie.spec Inv-loop μ-loop (λ c. (omega arith, refl)) (λ c. omega arith) (λ c. omega arith)
-    (λ c. omega (arith, room (c .before .before))) (λ c. omega arith) (λ c. omega arith) loop-again (λ c. room (c .before)) returns)
+    tie.close (tie.spec Inv-loop μ-loop (λ c. (omega arith, refl)) (λ c. omega arith) (λ c. omega arith) (λ c. omega (arith, room (c .before .before))) (λ c. omega arith) (λ c. omega arith)
+    loop-again (λ c. room (c .before)) returns)
