@@ -354,13 +354,14 @@ module _ {f : Floor} {base k c w : ℕ} (i : ℕ) {A B : State} (L : Left f base
 pub swept-none : {f : Floor} {base k from : ℕ} {S : State} → Room f base S → Swept f base k from from S S
 swept-none R = record { grew = grew-refl R; outs = λ j l q. absurd (omega arith) }
 
-pub swept-more : {f : Floor} {base k from i c w : ℕ} {A B C : State} → i < A .n → cellOf A i ≡ c
+pub swept-more : {f : Floor} {base k from i c w : ℕ} {A B C : State} → i < A .n → c ≡ cellOf B i
     → Swept f base k from i A B → Left f base k c 8 w B C → Swept f base k from (i + 1) A (state (C .mark) (C .cost) (set (C .list) (i + 4096) w) (C .n))
 swept-more {f} {base} {from = from} {i = i} {c = c} {A = A} {C = C} l e p q =
     let n : i < C .n = omega (arith, p .grew .kept .grows, q .grew .kept .grows) in
-    let here : cellOf C i ≡ c = q .grew .kept .cells i (omega (arith, p .grew .kept .grows)) ∙ p .grew .kept .cells i l ∙ e in
+    let here : cellOf C i ≡ c = q .grew .kept .cells i (omega (arith, p .grew .kept .grows)) ∙ sym e in
     record {
       grew = grew-trans (grew-trans (p .grew) (q .grew)) (noted-grew i q n here);
       outs = λ j r t. below-more (λ y. from ≤ y → Out f base C (cellOf A y) 8) i
-          (λ y ly lf m lm d v s. kept-in (q .grew .kept) d (p .outs y lf ly m lm d v s)) (λ lf. rw e (λ m lm d v s. q .out m lm d v s .0)) j t r;
+          (λ y ly lf m lm d v s. kept-in (q .grew .kept) d (p .outs y lf ly m lm d v s))
+          (λ lf. rw (sym (p .grew .kept .cells i l) ∙ sym e) (λ m lm d v s. q .out m lm d v s .0)) j t r;
     }

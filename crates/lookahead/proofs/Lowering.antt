@@ -187,12 +187,12 @@ module _ {f : Floor} {base : ℕ} {mark : List ℕ} where
     }
 
     -- where every cost is at most the least fine price above its own, following them lowers nothing
-    pub again-topped : {high : ℕ} {cost : List ℕ} {b : Bool} → Sized f → Costs f base mark cost → Topmost base mark cost high
-        → high ≤ at cost c + fine leastPrice → Again f base mark i cost list b cost (set list (i + 4096) (at cost c)) b
-    again-topped {cost = cost} z C top l = record {
+    pub again-topped : {high w : ℕ} {cost : List ℕ} {b : Bool} → Sized f → Costs f base mark cost → Topmost base mark cost high
+        → w ≡ at cost c → high ≤ w + fine leastPrice → Again f base mark i cost list b cost (set list (i + 4096) (at cost c)) b
+    again-topped {cost = cost} z C top e l = record {
       note = at cost c;
       noted = refl;
-      lowered = lowered-none C (λ m h d v s t. omega (arith, top d t, l, stepped f z (getD list i 0) m d v s .least));
+      lowered = lowered-none C (λ m h d v s t. omega (arith, top d t, e, l, stepped f z (getD list i 0) m d v s .least));
       calm = λ y. rw (← here) (omega arith);
     }
 

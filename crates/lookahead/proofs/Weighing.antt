@@ -31,11 +31,11 @@ pub ring-is : (base : ℕ) (mark : List ℕ) (x : ℕ) → In base mark x → ge
 ring-is base mark x p = omega arith
 
 -- the greatest so far: of no entry, and of one more
-pub topped-none : (best : List ℕ) → Topped best 1 0
-topped-none best = record { none = λ l. refl; met = λ l. absurd (omega arith); high = λ j a l. absurd (omega arith) }
+pub topped-none : {best : List ℕ} → Topped best 1 0
+topped-none = record { none = λ l. refl; met = λ l. absurd (omega arith); high = λ j a l. absurd (omega arith) }
 
-pub topped-more : (best : List ℕ) (k v : ℕ) → 1 ≤ k → Topped best k v → Topped best (k + 1) (max v (getD best k 0))
-topped-more best k v pos T = record { none = λ l. absurd (omega arith); met = λ l. by (decLt 1 k) (decLe v (getD best k 0)); high = λ j a l. above j a l (decLt j k) }
+pub topped-more : {best : List ℕ} {k v : ℕ} → 1 ≤ k → Topped best k v → Topped best (k + 1) (max v (getD best k 0))
+topped-more {best} {k} {v} pos T = record { none = λ l. absurd (omega arith); met = λ l. by (decLt 1 k) (decLe v (getD best k 0)); high = λ j a l. above j a l (decLt j k) }
   where
     above : (j : ℕ) → 1 ≤ j → j < k + 1 → Dec (j < k) → getD best j 0 ≤ max v (getD best k 0)
     above j a l (yes h) = omega (arith, T .high j a h)

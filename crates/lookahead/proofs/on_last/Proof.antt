@@ -1,5 +1,5 @@
 -- `lookahead::on_last` meets its contract: a mark is that of the last ring just where the ring is the last.
-use Rattle.learning.proofs.Words.{ℕ, _+_, List, _≡_, sym, ap₂, _∙_, ℕ-discrete, decLe, arith, needs, eq-eqb, ne-eqb, eqb, getD}
+use Rattle.learning.proofs.Words.{ℕ, _+_, List, _≡_, sym, _∙_, ℕ-discrete, decLe, arith, needs, eq-eqb, ne-eqb, eqb, getD}
 use Rattle.answers.specs.declared.Job.{Job}
 use Rattle.model.specs.Lookahead.{ring, seen}
 use Rattle.lookahead.specs.Contract.{Near, Seen}
@@ -15,7 +15,7 @@ same-test a b c d to from = by (ℕ-discrete a b)
     by (no n) = ne-eqb a b n ∙ sym (ne-eqb c d (λ e. n (from e)))
 
 -- a mark is that of the last ring just where the ring is the last
-module _ (j : Job) (bytes : List ℕ) (s base : ℕ) (mark cost : List ℕ) (E : Seen j bytes s base mark cost) (last x : ℕ) (l : last ≡ seen j bytes s .last) where
+module _ {j : Job} {bytes : List ℕ} {s base : ℕ} {mark cost : List ℕ} (E : Seen j bytes s base mark cost) {last : ℕ} (l : last ≡ seen j bytes s .last) (x : ℕ) where
   to-ring : getD mark x 0 ≡ base + last → ring j bytes (seen j bytes s) x ≡ seen j bytes s .last
   to-ring e = by (decLe (ring j bytes (seen j bytes s) x) (seen j bytes s .last))
     where
@@ -28,12 +28,8 @@ module _ (j : Job) (bytes : List ℕ) (s base : ℕ) (mark cost : List ℕ) (E :
 
 returns : tie.Need-returns
 returns c =
-    let a = c .before .before .before .before .before .before in
-    let p = a .pre in
-    let r = a .args in
-    ap₂ (λ m b. eqb m (b + r .last)) (c .before .wide32 .ensures .0) (c .wide322 .ensures .0)
-    ∙ same-test _ _ _ _ (to-ring (r .job) (r .floor .now) (r .s) (r .base) (r .mark .now) (r .cost .now) (p .0) (r .last) (r .x) (p .1 .0))
-    (to-mark (r .job) (r .floor .now) (r .s) (r .base) (r .mark .now) (r .cost .now) (p .0) (r .last) (r .x) (p .1 .0))
+    let p = c .before .before .before .before .before .before .pre in
+    rw (c .before .wide32 .ensures .0, c .wide322 .ensures .0) (same-test _ _ _ _ (to-ring (p .0) (p .1 .0) _) (to-mark (p .0) (p .1 .0) _))
 
 pub on-last-spec : {M : Type 1} → f.Statement.statement M
 on-last-spec = tie.close (tie.spec (λ c. search needs) (λ c. search needs) (λ c κs. search needs) (λ c κs. search needs) (λ c. search needs) returns)

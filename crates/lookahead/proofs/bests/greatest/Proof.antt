@@ -14,7 +14,7 @@ abbrev μ-loop : tie.MeasureT-loop
 loop-again : tie.Need-loop-again Inv-loop μ-loop
 loop-again c =
     let l = c .before .before .before .loop in
-    (omega arith, omega arith, rw (c .larger .ensures) (topped-more (c .before .before .before .before .before .args .best .now) _ _ (l .inv .0) (l .inv .2)))
+    (omega arith, omega arith, rw (c .larger .ensures) (topped-more (l .inv .0) (l .inv .2)))
 
 returns : tie.Need-returns Inv-loop μ-loop
 returns c =
@@ -24,5 +24,4 @@ returns c =
 
 pub greatest-spec : {M : Type 1} → f.Statement.statement M
 greatest-spec =
-    tie.close (tie.spec Inv-loop μ-loop (λ c. (omega arith, omega arith, topped-none (c .before .args .best .now))) (λ c. search needs) (λ c. omega arith) (λ c κs. tt) (λ c. omega arith)
-    (λ c. omega arith) loop-again returns)
+    tie.close (tie.spec Inv-loop μ-loop (λ c. (omega arith, omega arith, topped-none)) (λ c. search needs) (λ c. omega arith) (λ c κs. tt) (λ c. omega arith) (λ c. omega arith) loop-again returns)

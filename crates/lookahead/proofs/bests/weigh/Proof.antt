@@ -26,12 +26,6 @@ mul-v c =
     let a = start (c .before .before) in
     rw (c .coarse .ensures) (omega (arith, value-lt (a .pre .0) _ (a .pre .1 .0)))
 
-enter-requires : tie.Need-enter-requires
-enter-requires c κs =
-    let wide = c .before .before .before .before .before in
-    let a = start wide in
-    omega (arith, a .pre .0 .top (a .args .c))
-
 returns : tie.Need-returns
 returns c =
     let figure = c .before .before .before .before in
@@ -43,7 +37,8 @@ returns c =
 
 pub weigh-spec : {M : Type 1} → f.Statement.statement M
 weigh-spec =
-    tie.close (tie.spec (λ c. omega (arith, places (c .before .before .before .before) .0)) (λ c. let a = c .before .before .before .before .before in omega (arith, places a .0)) (λ c. search needs)
-    (λ c κs. search needs) (λ c. omega (arith, places (start c) .0)) (λ c. let a = start (c .before) in omega (arith, places a .0)) (λ c κs. search needs) mul-v
+    tie.close (tie.spec (λ c. omega (arith, places (c .before .before .before .before) .0)) (λ c. omega (arith, places (c .before .before .before .before .before) .0)) (λ c. search needs)
+    (λ c κs. search needs) (λ c. omega (arith, places (start c) .0)) (λ c. omega (arith, places (start (c .before)) .0)) (λ c κs. search needs) mul-v
     (λ c. omega (arith, places (start (c .before .before)) .0)) (λ c. places (start (c .before .before .before)) .1) (λ c κs. search needs) (λ c. omega (arith, small c))
-    (λ c. omega (arith, small (c .before))) (λ c. omega (arith, small (c .before), places (start (c .before .before .before .before .before)) .0)) enter-requires (λ c. search needs) returns)
+    (λ c. omega (arith, small (c .before))) (λ c. omega (arith, small (c .before), places (start (c .before .before .before .before .before)) .0))
+    (λ c κs. let a = start (c .before .before .before .before .before) in omega (arith, a .pre .0 .top (a .args .c))) (λ c. search needs) returns)

@@ -17,20 +17,9 @@ marked c = subst (In (start c .args .base) (start c .args .mark .now)) (sym (c .
 slice-read-w : tie.Need-slice-read-w
 slice-read-w c = let a = start (c .before) in omega (arith, free-few _ _ (a .pre .0) (a .pre .1 .0 .free _ (marked (c .before))))
 
-returns-2 : tie.Need-returns-2
-returns-2 c =
-    let cell = c .before .before .before .before .before in
-    let a = start cell in
-    again-topped (cell .wide16 .ensures .0) (a .pre .0) (a .pre .1 .0) (a .pre .1 .1 .1 .0) (omega arith)
-
-ease-cell-requires : tie.Need-ease-cell-requires
-ease-cell-requires c κs =
-    let cell = c .before .before .before .before .before .before in
-    let p = start cell .pre in
-    (p .0, (p .1 .0, (marked cell, refl)))
-
 pub ease-again-spec : {M : Type 1} → f.Statement.statement M
 ease-again-spec =
     tie.close (tie.spec (λ c. search needs) (λ c. search needs) (λ c κs. search needs) (λ c. search needs) slice-read-w (λ c. search needs) (λ c. search needs) (λ c. search needs)
-    (λ c. search (needs, again-not)) (λ c. search needs) (λ c. search needs) (λ c. search needs) (λ c κs. search needs) (λ c. omega arith) (λ c. search needs) returns-2 ease-cell-requires
-    (λ c. search needs) (λ c. search needs) (λ c. search (needs, again-eased)))
+    (λ c. search (needs, again-not)) (λ c. search needs) (λ c. search needs) (λ c. search needs) (λ c κs. search needs) (λ c. omega arith) (λ c. search needs)
+    (λ c. search (needs, again-topped, start (c .before .before .before .before .before) .pre .1 .1 .1 .0))
+    (λ c κs. (search needs, (search needs, (marked (c .before .before .before .before .before .before), refl)))) (λ c. search needs) (λ c. search needs) (λ c. search (needs, again-eased)))

@@ -13,15 +13,9 @@ Inv-loop width height floor base mark cost₀ c w changed spot any₀ m₀ cost 
 abbrev μ-loop : tie.MeasureT-loop
 μ-loop width height floor base mark cost₀ c w changed spot any₀ m₀ cost any m = 8 - m
 
-ease-requires : tie.Need-ease-requires Inv-loop μ-loop
-ease-requires c κs =
-    let at-loop = c .before .before in
-    let p = at-loop .before .before .before .before .before .pre in
-    let l = at-loop .loop .inv .1 in
-    (p .0, (l .costs, (record { marked = p .1 .1 .0; placed = at-loop .before .spot-of .ensures }, (omega arith, l .so .0))))
-
 pub ease-cell-spec : {M : Type 1} → f.Statement.statement M
 ease-cell-spec =
-    tie.close (tie.spec Inv-loop μ-loop (λ c κs. let a = c .before .before .before in (a .pre .0, a .pre .1 .0 .free (a .args .c) (a .pre .1 .1 .0)))
-    (λ c. let p = c .before .before .before .before .pre .1 in (omega arith, lowered-none (p .0) (p .1 .1, λ i l. absurd (omega arith)))) ease-requires (λ c. omega arith) (λ c. omega arith)
+    tie.close (tie.spec Inv-loop μ-loop (λ c κs. search (needs, c .before .before .before .pre .1 .0 .free))
+    (λ c. let p = c .before .before .before .before .pre .1 in (omega arith, lowered-none (p .0) (p .1 .1, λ i l. absurd (omega arith))))
+    (λ c κs. (search needs, (search needs, (record { marked = search needs; placed = search needs }, (omega arith, search needs))))) (λ c. omega arith) (λ c. omega arith)
     (λ c. search (needs, eased-more)) (λ c. omega arith) (λ c. let e : c .before .loop .m ≡ 8 = omega arith in rw e at (c .before .loop .inv .1)))

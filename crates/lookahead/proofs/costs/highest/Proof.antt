@@ -1,5 +1,5 @@
 -- `lookahead::costs::highest` meets its contract. The loop's invariant: no cost of the first i cells is above the greatest so far.
-use Rattle.learning.proofs.Words.{_-_, _≤_, ap, arith, below-more, getD}
+use Rattle.learning.proofs.Words.{_-_, _≤_, ap, arith, below-more}
 use Rattle.lookahead.specs.Costs.{at, Highest}
 use Rattle.lookahead.proofs.costs.highest as f
 use f.Tie as tie
@@ -22,15 +22,8 @@ shared-slice-read-wide16-2 c =
 loop-again : tie.Need-loop-again Inv-loop μ-loop
 loop-again c =
     let at-loop = c .before .before .before .before .before .before in
-    let l = at-loop .loop in
-    let a = start at-loop .args in
-    let e = c .larger .ensures in
     let cell = c .before .before .before .wide16 .ensures .0 in
-    let cost = c .before .wide162 .ensures .0 in (
-      omega arith,
-      below-more (λ j. at (a .cost .now) (getD (a .list .now) j 0) ≤ c .larger .result) (l .i) (λ j h. omega (arith, l .inv .1 j h))
-          (omega (arith, ap (at (a .cost .now)) cell)),
-    )
+    (omega arith, below-more _ _ (λ j h. omega (arith, at-loop .loop .inv .1 j h)) (omega (arith, ap (at (start at-loop .args .cost .now)) cell)))
 
 returns : tie.Need-returns Inv-loop μ-loop
 returns c x h =

@@ -1,5 +1,5 @@
 -- `lookahead::rings::goal_marked` meets its contract. The invariant: no goal passed is marked.
-use Rattle.learning.proofs.Words.{ℕ, _-_, _≤_, _<_, _≡_, sym, ap, false, arith, needs, le-leb, lt-leb, below-more, leb, length, getD}
+use Rattle.learning.proofs.Words.{ℕ, _-_, _<_, _≡_, sym, false, arith, needs, le-leb, lt-leb, below-more, leb, length, getD}
 use Rattle.model.specs.Floor.{goalsOf}
 use Rattle.model.proofs.Lists.{any-at, any-none}
 use Rattle.lookahead.proofs.rings.goal_marked as f
@@ -24,26 +24,17 @@ inside c = omega arith
 has-mark : (c : tie.After-goal-at Inv-loop μ-loop) → c .goal-at .result < 4096
 has-mark c = omega (arith, start (asked c) .pre .0 (asked c .loop .i) (inside c))
 
--- its mark, by the list of goals
-mark-is : (c : tie.After-goal-at Inv-loop μ-loop) → let a = start (asked c) .args in
-    getD (a .mark .now) (c .goal-at .result) 0 ≡ getD (a .mark .now) (getD (goalsOf (a .goals)) (asked c .loop .i) 0) 0
-mark-is c = ap (λ (x : ℕ). getD (start (asked c) .args .mark .now) x 0) (c .goal-at .ensures)
-
 returns : tie.Need-returns Inv-loop μ-loop
 returns c =
     let g = c .before .before in
-    let a = start (asked g) .args in
-    let marked : a .base ≤ getD (a .mark .now) (getD (goalsOf (a .goals)) (asked g .loop .i) 0) 0 = omega (arith, mark-is g) in
-    sym (any-at (λ x. leb (a .base) (getD (a .mark .now) x 0)) _ (asked g .loop .i) (inside g) (le-leb _ _ marked))
+    sym (any-at _ _ (asked g .loop .i) (inside g) (le-leb _ _ (rw (g .goal-at .ensures) at (c .if1 .taken))))
 
 loop-again : tie.Need-loop-again Inv-loop μ-loop
 loop-again c =
     let g = c .before .before in
-    let a = start (asked g) .args in
-    let fresh : getD (a .mark .now) (getD (goalsOf (a .goals)) (asked g .loop .i) 0) 0 < a .base = omega (arith, mark-is g) in
-    below-more _ (asked g .loop .i) (asked g .loop .inv) (lt-leb _ _ fresh)
+    below-more _ (asked g .loop .i) (asked g .loop .inv) (lt-leb _ _ (rw (g .goal-at .ensures) at (c .if1 .left)))
 
 pub goal-marked-spec : {M : Type 1} → f.Statement.statement M
 goal-marked-spec =
     tie.close (tie.spec Inv-loop μ-loop (λ c κs. search needs) (λ c k h. absurd (omega arith)) (λ c κs. omega arith) (λ c. record { fits = omega (arith, has-mark c) })
-    (λ c. let g = c .before in omega (arith, has-mark g)) returns (λ c. omega arith) (λ c. omega arith) loop-again (λ c. sym (any-none _ _ (λ k h. c .before .loop .inv k (omega arith)))))
+    (λ c. omega (arith, has-mark (c .before))) returns (λ c. omega arith) (λ c. omega arith) loop-again (λ c. sym (any-none _ _ (λ k h. c .before .loop .inv k (omega arith)))))

@@ -22,19 +22,16 @@ abbrev to-loop : tie.After-wide16 Inv-loop μ-loop → tie.At-loop Inv-loop μ-l
 to-loop c = c .before .before .before
 
 -- the cell at i is the one that stood there at the start, and has the mark k
-cell-eq : (c : tie.After-wide16 Inv-loop μ-loop) → getD (to-start (to-loop c) .args .list .now) (to-loop c .loop .i) 0 ≡ c .wide16 .result
-cell-eq c = let l = to-loop c .loop in sym (l .inv .2 .grew .kept .cells (l .i) (omega arith)) ∙ sym (c .wide16 .ensures .0)
-
 marked : (c : tie.After-wide16 Inv-loop μ-loop) → let a = to-start (to-loop c) .args in getD (a .mark .now) (c .wide16 .result) 0 ≡ a .k
-marked c = let l = to-loop c .loop in rw (cell-eq c) at (to-start (to-loop c) .pre .1 .1 .marked (l .i) (l .inv .1) (omega arith))
-
-inside : (c : tie.After-wide16 Inv-loop μ-loop) → let a = to-start (to-loop c) .args in In (a .base) (a .mark .now) (c .wide16 .result)
-inside c = omega (arith, marked c)
+marked c =
+    let l = to-loop c .loop in
+    let same = sym (l .inv .2 .grew .kept .cells (l .i) (omega arith)) ∙ sym (c .wide16 .ensures .0) in
+    rw same at (to-start (to-loop c) .pre .1 .1 .marked (l .i) (l .inv .1) (omega arith))
 
 slice-read-w : tie.Need-slice-read-w Inv-loop μ-loop
 slice-read-w c =
     let p = to-start (to-loop (c .before)) .pre in
-    omega (arith, free-few _ _ (p .0) (p .1 .0 .free _ (inside (c .before))))
+    omega (arith, free-few _ _ (p .0) (p .1 .0 .free (c .before .wide16 .result) (omega (arith, marked (c .before)))))
 
 visit-requires : tie.Need-visit-requires Inv-loop μ-loop
 visit-requires c κs =
@@ -42,14 +39,14 @@ visit-requires c κs =
     let q = to-start (to-loop cell) .pre in
     let g = to-loop cell .loop .inv .2 .grew in
     let x = cell .wide16 .result in
-    let p = inside cell in
+    let p : In (to-start (to-loop cell) .args .base) (to-start (to-loop cell) .args .mark .now) x = omega (arith, marked cell) in
     (q .0, (g .room, record { free = q .1 .0 .free x p; ring = q .1 .1 .ring; marked = g .kept .marks x p ∙ marked cell; costs = refl }))
 
 loop-again : tie.Need-loop-again Inv-loop μ-loop
 loop-again c =
     let left = c .before .before .before .before .before .before in
     let cell = left .before .before .before .before .before in
-    (omega arith, omega arith, swept-more (omega arith) (cell-eq cell) (to-loop cell .loop .inv .2) (left .visit .ensures))
+    (omega arith, omega arith, swept-more (omega arith) (cell .wide16 .ensures .0) (to-loop cell .loop .inv .2) (left .visit .ensures))
 
 returns : tie.Need-returns Inv-loop μ-loop
 returns c =

@@ -13,12 +13,6 @@ Inv-loop width height floor base mark cost x spot k₀ k = Unled (flat width hei
 abbrev μ-loop : tie.MeasureT-loop
 μ-loop width height floor base mark cost x spot k₀ k = 8 - k
 
-led-requires : tie.Need-led-requires Inv-loop μ-loop
-led-requires c κs =
-    let l = c .before .before in
-    let p = l .before .before .before .before .before .pre in
-    (p .0, (p .1 .0, (record { marked = p .1 .1 .0; placed = l .before .spot-of .ensures }, omega (arith, rising-lt (l .loop .k) (omega arith)))))
-
 loop-again : tie.Need-loop-again Inv-loop μ-loop
 loop-again c =
     let led = c .before .before in
@@ -26,5 +20,6 @@ loop-again c =
 
 pub back-spec : {M : Type 1} → f.Statement.statement M
 back-spec =
-    tie.close (tie.spec Inv-loop μ-loop (λ c κs. let a = c .before .before .before in (a .pre .0, a .pre .1 .0 .free (a .args .x) (a .pre .1 .1 .0))) (λ c. unled-none) (λ c κs. omega arith)
-    led-requires (λ c. search (needs, led-prior)) (λ c. omega arith) (λ c. omega arith) loop-again (λ c. absurd (search (needs, unled-all))))
+    tie.close (tie.spec Inv-loop μ-loop (λ c κs. search (needs, c .before .before .before .pre .1 .0 .free)) (λ c. unled-none) (λ c κs. omega arith)
+    (λ c κs. (search needs, (search needs, (record { marked = search needs; placed = search needs }, omega (arith, rising-lt (c .before .before .loop .k) (omega arith))))))
+    (λ c. search (needs, led-prior)) (λ c. omega arith) (λ c. omega arith) loop-again (λ c. absurd (search (needs, unled-all))))

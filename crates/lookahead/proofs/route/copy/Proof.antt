@@ -1,5 +1,5 @@
 -- `lookahead::route::copy` meets its contract. The loop's invariant: the first i moves stand at the front.
-use Rattle.learning.proofs.Words.{_-_, _≤_, _≡_, refl, _++_, length, take, drop, arith}
+use Rattle.learning.proofs.Words.{needs, _-_, _≤_, _≡_, refl, _++_, length, take, drop, arith}
 use Rattle.model.proofs.Copying.{copied-room, copied-more}
 use Rattle.lookahead.proofs.route.copy as f
 use f.Tie as tie
@@ -15,14 +15,7 @@ abbrev μ-loop : tie.MeasureT-loop
 room : (c : tie.At-loop Inv-loop μ-loop) → length (c .loop .out) ≡ length (c .before .args .out .now)
 room c =
     let a = c .before in
-    let l = c .loop in
-    copied-room (a .args .way .now) (a .args .k) (a .args .out .now) (l .out) (l .i) (a .args .n) (a .pre .0) (l .inv .0) (a .pre .2) (l .inv .1)
-
-loop-again : tie.Need-loop-again Inv-loop μ-loop
-loop-again c =
-    let a = c .before .before .before in
-    let l = c .before .before .loop in
-    (omega arith, copied-more (a .args .way .now) (a .args .k) (a .args .out .now) (l .out) (l .i) (a .args .n) (a .pre .0) (omega arith) (a .pre .2) (l .inv .1) (omega arith))
+    copied-room _ _ _ _ _ _ (a .pre .0) (c .loop .inv .0) (a .pre .2) (c .loop .inv .1)
 
 returns : tie.Need-returns Inv-loop μ-loop
 returns c =
@@ -33,4 +26,4 @@ returns c =
 pub copy-spec : {M : Type 1} → f.Statement.statement M
 copy-spec =
     tie.close (tie.spec Inv-loop μ-loop (λ c. (omega arith, refl)) (λ c. omega arith) (λ c. omega arith) (λ c. omega (arith, room (c .before .before))) (λ c. omega arith) (λ c. omega arith)
-    loop-again (λ c. room (c .before)) returns)
+    (λ c. search (needs, copied-more)) (λ c. room (c .before)) returns)
