@@ -15,9 +15,8 @@ to-start c =
 rings-requires : tie.Need-rings-requires
 rings-requires c κs =
     let after-shared-slice-known = c .before .before .before .before .before .before in
-    let a = after-shared-slice-known .before in
-    let q = a .pre .0 in
-    (q .sized, (q .start, ((λ i h. omega (arith, q .benches .on i h, sized-cells (q .sized)), q .apart), ((q .shallow, q .deep), a .pre .1))))
+    let q = after-shared-slice-known .before .pre .0 in
+    (search needs, (search needs, ((λ i h. omega (arith, q .benches .on i h, sized-cells (q .sized)), search needs), (search needs, search needs))))
 
 relax-requires : tie.Need-relax-requires
 relax-requires c κs =

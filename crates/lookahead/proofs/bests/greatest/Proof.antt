@@ -16,12 +16,7 @@ loop-again c =
     let l = c .before .before .before .loop in
     (omega arith, omega arith, rw (c .larger .ensures) (topped-more (l .inv .0) (l .inv .2)))
 
-returns : tie.Need-returns Inv-loop μ-loop
-returns c =
-    let l = c .before .loop in
-    let e : l .k ≡ c .before .before .before .args .last + 1 = omega arith in
-    rw e at (l .inv .2)
-
 pub greatest-spec : {M : Type 1} → f.Statement.statement M
 greatest-spec =
-    tie.close (tie.spec Inv-loop μ-loop (λ c. (omega arith, omega arith, topped-none)) (λ c. search needs) (λ c. omega arith) (λ c κs. tt) (λ c. omega arith) (λ c. omega arith) loop-again returns)
+    tie.close (tie.spec Inv-loop μ-loop (λ c. (omega arith, omega arith, topped-none)) (λ c. search needs) (λ c. omega arith) (λ c κs. tt) (λ c. omega arith) (λ c. omega arith) loop-again
+    (λ c. let e : c .before .loop .k ≡ c .before .before .before .args .last + 1 = omega arith in rw e at (c .before .loop .inv .2)))

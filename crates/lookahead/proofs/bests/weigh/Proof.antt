@@ -21,11 +21,6 @@ small c =
     let a = start (c .before .before .before .before) in
     rw (c .before .before .coarse .ensures, c .wide322 .ensures .0) (value-lt (a .pre .0) _ (a .pre .1 .0))
 
-mul-v : tie.Need-mul-v
-mul-v c =
-    let a = start (c .before .before) in
-    rw (c .coarse .ensures) (omega (arith, value-lt (a .pre .0) _ (a .pre .1 .0)))
-
 returns : tie.Need-returns
 returns c =
     let figure = c .before .before .before .before in
@@ -38,7 +33,8 @@ returns c =
 pub weigh-spec : {M : Type 1} → f.Statement.statement M
 weigh-spec =
     tie.close (tie.spec (λ c. omega (arith, places (c .before .before .before .before) .0)) (λ c. omega (arith, places (c .before .before .before .before .before) .0)) (λ c. search needs)
-    (λ c κs. search needs) (λ c. omega (arith, places (start c) .0)) (λ c. omega (arith, places (start (c .before)) .0)) (λ c κs. search needs) mul-v
-    (λ c. omega (arith, places (start (c .before .before)) .0)) (λ c. places (start (c .before .before .before)) .1) (λ c κs. search needs) (λ c. omega (arith, small c))
-    (λ c. omega (arith, small (c .before))) (λ c. omega (arith, small (c .before), places (start (c .before .before .before .before .before)) .0))
+    (λ c κs. search needs) (λ c. omega (arith, places (start c) .0)) (λ c. omega (arith, places (start (c .before)) .0)) (λ c κs. search needs)
+    (λ c. let p = start (c .before .before) .pre in rw (c .coarse .ensures) (omega (arith, value-lt (p .0) _ (p .1 .0)))) (λ c. omega (arith, places (start (c .before .before)) .0))
+    (λ c. places (start (c .before .before .before)) .1) (λ c κs. search needs) (λ c. omega (arith, small c)) (λ c. omega (arith, small (c .before)))
+    (λ c. omega (arith, small (c .before), places (start (c .before .before .before .before .before)) .0))
     (λ c κs. let a = start (c .before .before .before .before .before) in omega (arith, a .pre .0 .top (a .args .c))) (λ c. search needs) returns)

@@ -31,13 +31,7 @@ loop-again c =
     let top = to-start at-loop .pre .0 .top (cell .wide16 .result) in
     (omega arith, rw (c .before .before .weigh .ensures) (bests-more (sym (cell .wide16 .ensures .0)) (omega (arith, listed cell, top)) (at-loop .loop .inv .1)))
 
-returns : tie.Need-returns Inv-loop μ-loop
-returns c =
-    let l = c .before .loop in
-    let e : l .i ≡ to-start (c .before) .args .n = omega arith in
-    rw e at (l .inv .1)
-
 pub weigh-all-spec : {M : Type 1} → f.Statement.statement M
 weigh-all-spec =
     tie.close (tie.spec Inv-loop μ-loop (λ c. search needs) (λ c. omega arith) (λ c. omega arith) (λ c κs. tt) weigh-requires (λ c. omega arith) (λ c. omega arith) loop-again (λ c. omega arith)
-    returns)
+    (λ c. let e : c .before .loop .i ≡ to-start (c .before) .args .n = omega arith in rw e at (c .before .loop .inv .1)))

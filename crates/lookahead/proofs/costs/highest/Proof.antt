@@ -13,12 +13,6 @@ abbrev μ-loop : tie.MeasureT-loop
 abbrev start : tie.At-loop Inv-loop μ-loop → tie.Start Inv-loop μ-loop
 start c = c .before .before .before .before
 
-shared-slice-read-wide16-2 : tie.Need-shared-slice-read-wide16-2 Inv-loop μ-loop
-shared-slice-read-wide16-2 c =
-    let at-loop = c .before .before .before .before in
-    let a = start at-loop in
-    omega (arith, a .pre .1 .1 _ (a .pre .0 .early (at-loop .loop .i) (omega arith)))
-
 loop-again : tie.Need-loop-again Inv-loop μ-loop
 loop-again c =
     let at-loop = c .before .before .before .before .before .before in
@@ -34,5 +28,6 @@ returns c x h =
 
 pub highest-spec : {M : Type 1} → f.Statement.statement M
 highest-spec =
-    tie.close (tie.spec Inv-loop μ-loop (λ c. (omega arith, λ j l. absurd (omega arith))) (λ c. omega arith) (λ c. omega arith) (λ c κs. tt) (λ c. omega arith) shared-slice-read-wide16-2
-    (λ c κs. tt) (λ c κs. tt) (λ c. omega arith) (λ c. omega arith) loop-again returns)
+    tie.close (tie.spec Inv-loop μ-loop (λ c. (omega arith, λ j l. absurd (omega arith))) (λ c. omega arith) (λ c. omega arith) (λ c κs. tt) (λ c. omega arith)
+    (λ c. let l = c .before .before .before .before in let p = start l .pre in omega (arith, p .1 .1 _ (p .0 .early (l .loop .i) (omega arith)))) (λ c κs. tt) (λ c κs. tt) (λ c. omega arith)
+    (λ c. omega arith) loop-again returns)

@@ -19,27 +19,20 @@ to-start c = c .before .before .before .before .before
 
 ease-again-requires : tie.Need-ease-again-requires Inv-loop μ-loop
 ease-again-requires c κs =
-    let a = to-start (c .before .before .before) in
     let l = c .before .before .before .loop in
     let p = l .inv .1 in
-    let L = p .listing in (
-      a .pre .0,
+    let top = to-start (c .before .before .before) .pre .1 .1 .1 .1 in (
+      search needs,
       (
-        p .lowered .costs,
+        search needs,
         (
-          (L .room, omega arith, L .early (l .i) (omega arith)),
-          ((λ x h. omega (arith, a .pre .1 .1 .1 .1 x h, p .lowered .drop x)), p .lowered .so (l .i) (omega arith)),
+          (search needs, omega arith, p .listing .early (l .i) (omega arith)),
+          ((λ x h. omega (arith, top x h, p .lowered .drop x)), p .lowered .so (l .i) (omega arith)),
         ),
       ),
     )
 
-returns : tie.Need-returns Inv-loop μ-loop
-returns c =
-    let l = c .before .loop in
-    let e : l .i ≡ to-start (c .before) .args .n = omega arith in
-    rw e at (l .inv .1)
-
 pub pass-spec : {M : Type 1} → f.Statement.statement M
 pass-spec =
     tie.close (tie.spec Inv-loop μ-loop (λ c. search (needs, passed-none)) ease-again-requires (λ c. omega arith) (λ c. omega arith) (λ c. search (needs, passed-more)) (λ c. omega arith)
-    (λ c. omega arith) returns)
+    (λ c. omega arith) (λ c. let e : c .before .loop .i ≡ to-start (c .before) .args .n = omega arith in rw e at (c .before .loop .inv .1)))

@@ -21,14 +21,6 @@ to-cell c = moved (to-start c .pre .0) (c .before .before .step-from .ensures) (
 abbrev from-fine : tie.After-fine → tie.After-cell
 from-fine c = c .before .before
 
-add-sum : tie.Need-add-sum
-add-sum c = let a = to-start (from-fine c) in omega (arith, a .pre .1 .0 .cheap (a .args .c) (omega arith), to-cell (from-fine c) .at .most)
-
-reach-requires : tie.Need-reach-requires
-reach-requires c κs =
-    let after-cell = from-fine (c .before .before .before) in
-    (to-start after-cell .pre .1 .0 .sizes, to-cell after-cell .at .few)
-
 returns : tie.Need-returns
 returns c =
     let after-reach = c .before .before .before .before .before .before in
@@ -39,5 +31,7 @@ returns c =
 
 pub extend-spec : {M : Type 1} → f.Statement.statement M
 extend-spec =
-    tie.close (tie.spec (λ c κs. search needs) (λ c. search needs) (λ c κs. omega (arith, to-cell (c .before) .at .most)) add-sum (λ c. search needs) reach-requires (λ c. search needs)
-    (λ c. search needs) (λ c. search needs) (λ c. search needs) returns (λ c. search (needs, extended-wall)))
+    tie.close (tie.spec (λ c κs. search needs) (λ c. search needs) (λ c κs. omega (arith, to-cell (c .before) .at .most))
+    (λ c. let a = to-start (from-fine c) in omega (arith, a .pre .1 .0 .cheap (a .args .c) (omega arith), to-cell (from-fine c) .at .most)) (λ c. search needs)
+    (λ c κs. (search needs, to-cell (from-fine (c .before .before .before)) .at .few)) (λ c. search needs) (λ c. search needs) (λ c. search needs) (λ c. search needs) returns
+    (λ c. search (needs, extended-wall)))

@@ -40,9 +40,8 @@ called c = start (turn (marking c))
 spread-requires : tie.Need-spread-requires Inv-loop μ-loop
 spread-requires c κs =
     let at-loop = c .before .before .before .before in
-    let p = start at-loop .pre in
-    let rings = at-loop .loop .inv .1 in
-    (p .0, (rings .level .room, ringed-segment rings (omega arith) (p .1 .1 .1 .1 .marks .room)))
+    let lent = start at-loop .pre .1 .1 .1 in
+    (search needs, (search needs, ringed-segment (at-loop .loop .inv .1) (omega (arith, lent)) (lent .1 .marks .room)))
 
 returns : tie.Need-returns Inv-loop μ-loop
 returns c =

@@ -48,13 +48,8 @@ loop-again c =
     let cell = left .before .before .before .before .before in
     (omega arith, omega arith, swept-more (omega arith) (cell .wide16 .ensures .0) (to-loop cell .loop .inv .2) (left .visit .ensures))
 
-returns : tie.Need-returns Inv-loop μ-loop
-returns c =
-    let l = c .before .loop in
-    let e : l .i ≡ to-start (c .before) .args .to = omega arith in
-    rw e at (l .inv .2)
-
 pub spread-spec : {M : Type 1} → f.Statement.statement M
 spread-spec =
     tie.close (tie.spec Inv-loop μ-loop (λ c. search (needs, swept-none)) (λ c. search needs) (λ c. omega arith) (λ c κs. tt) (λ c. search needs) slice-read-w visit-requires (λ c. omega arith)
-    (λ c. omega arith) (λ c. omega arith) (λ c. omega arith) (λ c. omega arith) loop-again (λ c. search needs) (λ c. search needs) (λ c. search needs) returns)
+    (λ c. omega arith) (λ c. omega arith) (λ c. omega arith) (λ c. omega arith) loop-again (λ c. search needs) (λ c. search needs) (λ c. search needs)
+    (λ c. let e : c .before .loop .i ≡ to-start (c .before) .args .to = omega arith in rw e at (c .before .loop .inv .2)))

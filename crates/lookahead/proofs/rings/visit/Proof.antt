@@ -1,5 +1,5 @@
 -- `lookahead::rings::visit` meets its contract. The loop's invariant: the cell is left by each of the first m moves.
-use Rattle.learning.proofs.Words.{needs, _-_, _≤_, _≡_, _∙_, arith}
+use Rattle.learning.proofs.Words.{needs, _-_, _≤_, _≡_, arith}
 use Rattle.floor.specs.Moves.{flat}
 use Rattle.lookahead.proofs.Grow.{left-none, left-more}
 use Rattle.lookahead.specs.Marks.{state, Left}
@@ -19,11 +19,8 @@ start c = c .before .before .before .before .before .before
 extend-requires : tie.Need-extend-requires Inv-loop μ-loop
 extend-requires c κs =
     let at-loop = c .before .before .before .before in
-    let a = start at-loop in
-    let o = a .pre .1 .1 in
-    let L = at-loop .loop .inv .1 in
-    let k = L .grew .kept .marks (a .args .c) (omega arith) in
-    (a .pre .0, (L .grew .room, (record { placed = at-loop .before .spot-of .ensures; ring = o .ring; marked = k ∙ o .marked; costs = L .stays }, omega arith)))
+    let kept = at-loop .loop .inv .1 .grew .kept .marks (start at-loop .args .c) (omega arith) in
+    (search needs, (search needs, (record { placed = search needs; ring = search needs; marked = omega (arith, kept); costs = search needs }, omega arith)))
 
 pub visit-spec : {M : Type 1} → f.Statement.statement M
 visit-spec =

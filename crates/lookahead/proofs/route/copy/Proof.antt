@@ -17,13 +17,7 @@ room c =
     let a = c .before in
     copied-room _ _ _ _ _ _ (a .pre .0) (c .loop .inv .0) (a .pre .2) (c .loop .inv .1)
 
-returns : tie.Need-returns Inv-loop μ-loop
-returns c =
-    let l = c .before .loop in
-    let e : l .i ≡ c .before .before .args .n = omega arith in
-    rw e at (l .inv .1)
-
 pub copy-spec : {M : Type 1} → f.Statement.statement M
 copy-spec =
     tie.close (tie.spec Inv-loop μ-loop (λ c. (omega arith, refl)) (λ c. omega arith) (λ c. omega arith) (λ c. omega (arith, room (c .before .before))) (λ c. omega arith) (λ c. omega arith)
-    (λ c. search (needs, copied-more)) (λ c. room (c .before)) returns)
+    (λ c. search (needs, copied-more)) (λ c. room (c .before)) (λ c. let e : c .before .loop .i ≡ c .before .before .args .n = omega arith in rw e at (c .before .loop .inv .1)))

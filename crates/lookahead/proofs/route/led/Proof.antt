@@ -24,13 +24,11 @@ to-cell c = moved (to-start c .pre .0) (c .before .before .step-from .ensures) (
 abbrev from-fine : tie.After-fine → tie.After-cell
 from-fine c = c .before .before .before .before .before
 
-add-sum : tie.Need-add-sum
-add-sum c = omega (arith, to-start (from-fine c) .pre .1 .0 .small (from-fine c .cell .given .0 .0) (omega arith), to-cell (from-fine c) .at .most)
-
 pub led-spec : {M : Type 1} → f.Statement.statement M
 led-spec =
     tie.close (tie.spec (λ c κs. search needs) (λ c. search needs) (λ c. omega (arith, to-cell (c .before) .at .few)) (λ c. omega (arith, to-cell (c .before .before) .at .few))
     (λ c. search (needs, led-out, to-cell (c .before .before .before))) (λ c. omega (arith, to-cell (c .before .before .before) .at .few))
-    (λ c. omega (arith, to-cell (c .before .before .before .before) .at .few)) (λ c κs. omega (arith, to-cell (c .before .before .before .before) .at .most)) add-sum
-    (λ c. omega (arith, few (to-start (from-fine c)))) (λ c. omega (arith, few (to-start (from-fine (c .before))))) (λ c. search (needs, led-slack, to-cell (from-fine (c .before .before))))
-    (λ c. search needs) (λ c. search needs) (λ c. search (needs, led-new, to-cell (from-fine (c .before .before)))) (λ c. search (needs, led-wall)))
+    (λ c. omega (arith, to-cell (c .before .before .before .before) .at .few)) (λ c κs. omega (arith, to-cell (c .before .before .before .before) .at .most))
+    (λ c. omega (arith, to-start (from-fine c) .pre .1 .0 .small (from-fine c .cell .given .0 .0) (omega arith), to-cell (from-fine c) .at .most)) (λ c. omega (arith, few (to-start (from-fine c))))
+    (λ c. omega (arith, few (to-start (from-fine (c .before))))) (λ c. search (needs, led-slack, to-cell (from-fine (c .before .before)))) (λ c. search needs) (λ c. search needs)
+    (λ c. search (needs, led-new, to-cell (from-fine (c .before .before)))) (λ c. search (needs, led-wall)))
