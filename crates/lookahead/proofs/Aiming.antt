@@ -29,7 +29,7 @@ pub bests-none : {base : ℕ} {mark cost table : List ℕ} {p : ℕ} {list : Lis
 bests-none = record {
   size = length-replicate {A = ℕ} mostRings unset;
   low = λ i h. absurd (omega arith);
-  met = λ k l h. absurd (omega (arith, h, getD-replicate {A = ℕ} mostRings k unset 0 (omega arith)));
+  met = λ k l h. absurd (omega (arith, getD-replicate {A = ℕ} mostRings k unset 0 (omega arith)));
 }
 
 module _ {j : Job} {bytes : List ℕ} {s : ℕ} (Q : Asked j bytes s) {table : List ℕ} (T : Figures j bytes table)
@@ -53,7 +53,7 @@ module _ {j : Job} {bytes : List ℕ} {s : ℕ} (Q : Asked j bytes s) {table : L
       weight = T .weight;
       marks = W .view .spent .size;
       costs = W .view .size;
-      inside = λ x i. (near-few Q x (near x i), omega (arith, near-cell Q x (near x i), T .size));
+      inside = λ x i. (near-few Q x (near x i), omega (arith, near-cell Q x (near x i)));
       top = near-high Q (W .view);
       small = λ x i. (omega (arith, W .view .costs x (near x i), near-cost Q x (near x i)), T .small x);
     }
@@ -72,14 +72,14 @@ module _ {j : Job} {bytes : List ℕ} {s : ℕ} (Q : Asked j bytes s) {table : L
     full zero h = (s, omega (arith, ring-self Y))
     full (suc k) h =
         let (x, l, e) = empty-full j bytes (seen j bytes s) last (W .full) (suc k) (omega arith) h in
-        (x, ring-unique (job-window Q) (seen-window Q (W .view)) x (omega (arith, e, h, last-eq)) ∙ e)
+        (x, ring-unique (job-window Q) (seen-window Q (W .view)) x (omega (arith, last-eq)) ∙ e)
 
     module _ {best : List ℕ} {top : ℕ} (B : Bests base mark cost table (j .p) list n best) (M : Topped best (last + 1) top) where
       abbrev target : ℕ
       target = getD best last 0 % 4096
 
       deep : last ≤ deepest
-      deep = omega (arith, W .depth, Q .deep)
+      deep = omega arith
 
       A : Ahead (j .p) last (ringAt base mark) (coarseAt cost) (figure table) (top / 4096) target
       A = weighed last scores listing B deep full (W .some) top M
@@ -87,7 +87,7 @@ module _ {j : Job} {bytes : List ℕ} {s : ℕ} (Q : Asked j bytes s) {table : L
       on-last : ringOf G (j .depth) s target ≡ lastOf G (j .depth) s
       on-last =
           let e = A .on-last in
-          ring-unique (seen-window Q (W .view)) (job-window Q) target (omega (arith, e, last-eq)) ∙ e ∙ last-eq
+          ring-unique (seen-window Q (W .view)) (job-window Q) target (omega (arith, last-eq)) ∙ e ∙ last-eq
 
       pub aimed : {leg : ℕ} → leg ≡ coarseAt cost (getD best last 0 % 4096)
           → Aimed j bytes s table (record { figure = top / 4096; target = getD best last 0 % 4096; leg = leg })

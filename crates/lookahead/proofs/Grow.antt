@@ -37,7 +37,7 @@ moved {f} {x} {m} {d} {v} z e t = record { step = sym e ∙ t; at = stepped f z 
 
 -- the move back, its price, and as a fine one
 pub price-back : {f : Floor} {c m d v : ℕ} → Moved f c m d v → (1 ≤ v) × (price f d c ≡ v)
-price-back {f} {c} {d = d} M = (omega (arith, M .at .least), price-same f d c ∙ M .at .price)
+price-back {f} {c} {d = d} M = (omega arith, price-same f d c ∙ M .at .price)
 
 pub edge-back : {f : Floor} {c m d v : ℕ} → Moved f c m d v → net f .Edge d c (fine v)
 edge-back {v = v} M =
@@ -51,10 +51,10 @@ grown k d u S = state (set (S .mark) d (k + 1)) (set (S .cost) d u) (entered (S 
 -- the cells and notes of the list after one more is entered
 module _ (list : List ℕ) (n d : ℕ) (size : length list ≡ 8192) (space : n < 4096) where
   first-in-list : n < length list
-  first-in-list = omega (arith, size, space)
+  first-in-list = omega (arith, space)
 
   second-in-list : n + 4096 < length (set list n d)
-  second-in-list = omega (arith, size, space, length-set list n d)
+  second-in-list = omega (arith, space, length-set list n d)
 
   pub entered-size : length (entered list n d) ≡ 8192
   entered-size = simp length-set size
@@ -83,8 +83,8 @@ kept-trans : {base : ℕ} {A B C : State} → Kept base A B → Kept base B C �
 kept-trans p q = record {
   marks = λ x l. q .marks x (kept-in p x l) ∙ p .marks x l;
   costs = λ x l. omega (arith, q .costs x (kept-in p x l), p .costs x l);
-  cells = λ i l. q .cells i (omega (arith, p .grows)) ∙ p .cells i l;
-  grows = omega (arith, p .grows, q .grows);
+  cells = λ i l. q .cells i (omega arith) ∙ p .cells i l;
+  grows = omega arith;
 }
 
 grew-trans : {f : Floor} {base k : ℕ} {A B C : State} → Grew f base k A B → Grew f base k B C → Grew f base k A C
@@ -98,13 +98,13 @@ module _
     u = w + fine v
 
     inside : d < length (S .mark)
-    inside = omega (arith, R .sizes .marks, M .at .few)
+    inside = omega (arith, R .sizes .marks)
 
     inside-cost : d < length (S .cost)
-    inside-cost = omega (arith, R .sizes .costs, M .at .few)
+    inside-cost = omega (arith, R .sizes .costs)
 
     from-in : In base (S .mark) c
-    from-in = omega (arith, C .marked, C .ring .first)
+    from-in = omega arith
 
     -- d has no mark yet
     module _ (blank : markOf S d < base) where
@@ -116,7 +116,7 @@ module _
 
       -- what had a mark has it still
       other : (x : ℕ) → In base (S .mark) x → x ≡ d → ⊥
-      other x p e = omega (arith, p, blank, ap (markOf S) e)
+      other x p e = omega (arith, ap (markOf S) e)
 
       marks-kept : (x : ℕ) → In base (S .mark) x → getD mark′ x 0 ≡ markOf S x
       marks-kept x p = getD-set-other (S .mark) d x (k + 1) 0 (other x p)
@@ -144,7 +144,7 @@ module _
         marks = simp length-set (R .sizes .marks);
         costs = simp length-set (R .sizes .costs);
         cells = entered-size (S .list) (S .n) d (R .sizes .cells) space;
-        count = omega (arith, R .sizes .count, blanks-set base (S .mark) d (k + 1) inside blank (omega (arith, C .ring .first)));
+        count = omega (arith, R .sizes .count, blanks-set base (S .mark) d (k + 1) inside blank (omega arith));
       }
 
       grown-kept : Kept base S (grown k d u S)
@@ -153,7 +153,7 @@ module _
       grown-cheap : (x : ℕ) → In base mark′ x → costAt (grown k d u S) x ≤ fine dearestPrice * (getD mark′ x 0 - base)
       grown-cheap x =
           by-store (λ y. base ≤ y → costAt (grown k d u S) x ≤ fine dearestPrice * (y - base)) (S .mark) d (k + 1) x inside
-          (λ e p. rw (e, cost-new) (omega (arith, M .at .most, R .cheap c from-in, C .costs, C .marked, C .ring .first)))
+          (λ e p. rw (e, cost-new) (omega (arith, R .cheap c from-in)))
           (λ n p. rw (costs-kept x p) (R .cheap x p))
 
       grown-free : (x : ℕ) → In base mark′ x → free f x ≡ true
@@ -167,9 +167,9 @@ module _
           by : Dec (i < S .n) → (noteAt (grown k d u S .list) i ≡ 65535) ⊎ (In base mark′ x × (costAt (grown k d u S) x ≤ noteAt (grown k d u S .list) i + fine y))
           by (yes p) =
               rw (entered-note (S .list) (S .n) d (R .sizes .cells) space i p)
-              (⊎-elim inl (λ q. inr (stays-in x (q .0), omega (arith, q .1, costs-kept x (q .0))))
+              (⊎-elim inl (λ q. inr (stays-in x (q .0), omega (arith, costs-kept x (q .0))))
               (R .notes i p j x y lj (subst (λ o. stepOf f o j ≡ To x y) (cells-kept i p) e)))
-          by (no p) = let q : i ≡ S .n = omega (arith, p, l) in inl (rw q (entered-blank (S .list) (S .n) d (R .sizes .cells) space))
+          by (no p) = let q : i ≡ S .n = omega arith in inl (rw q (entered-blank (S .list) (S .n) d (R .sizes .cells) space))
 
       grown-room : Room f base (grown k d u S)
       grown-room = record { sizes = grown-sizes; free = grown-free; cheap = grown-cheap; notes = grown-notes }
@@ -183,14 +183,14 @@ module _
         grown-walks x =
             by-store (λ y. base ≤ y → (a : ℕ) × Walk (net f) (In base mark′) x s a (y - base)) (S .mark) d (k + 1) x inside
             (λ e p. let g = G .walks c from-in in
-            rw e (fine v + g .0, restate refl (omega (arith, C .marked, C .ring .first)) (move (rw mark-new (omega (arith, C .ring .first))) (edge-back M) (widen stays-in (g .1)))))
+            rw e (fine v + g .0, restate refl (omega arith) (move (rw mark-new (omega arith)) (edge-back M) (widen stays-in (g .1)))))
             (λ n p. let g = G .walks x p in (g .0, widen stays-in (g .1)))
 
         grown-costs : (x : ℕ) → In base mark′ x → Leads (net f) (In base mark′) x s (costAt (grown k d u S) x)
         grown-costs x =
             by-store (λ y. base ≤ y → Leads (net f) (In base mark′) x s (costAt (grown k d u S) x)) (S .mark) d (k + 1) x inside
             (λ e p. let g = G .costs c from-in in
-            rw (e, cost-new) (suc (g .0), restate (omega (arith, C .costs)) refl (move (rw mark-new (omega (arith, C .ring .first))) (edge-back M) (widen stays-in (g .1)))))
+            rw (e, cost-new) (suc (g .0), restate (omega arith) refl (move (rw mark-new (omega arith)) (edge-back M) (widen stays-in (g .1)))))
             (λ n p. let g = G .costs x p in rw (costs-kept x p) (g .0, widen stays-in (g .1)))
 
         grown-listed : (x : ℕ) → In base mark′ x
@@ -198,7 +198,7 @@ module _
         grown-listed x =
             by-store (λ y. base ≤ y → (i : ℕ) × (i < S .n + 1) × (cellOf (grown k d u S) i ≡ x) × (y ≡ k + 1 → to ≤ i)) (S .mark) d (k + 1) x inside
             (λ e p. (S .n, omega arith, cell-new ∙ sym e, λ q. G .upto))
-            (λ n p. let l = G .listed x p in (l .0, omega (arith, l .1), cells-kept (l .0) (l .1) ∙ l .2, l .3))
+            (λ n p. let l = G .listed x p in (l .0, omega arith, cells-kept (l .0) (l .1) ∙ l .2, l .3))
 
         -- the cells of the list, the new one last
         by-cell : (P : ℕ → Type 0) (i : ℕ) → i < S .n + 1 → P d → (i < S .n → P (cellOf S i)) → P (cellOf (grown k d u S) i)
@@ -206,7 +206,7 @@ module _
           where
             by : Dec (i < S .n) → P (cellOf (grown k d u S) i)
             by (yes p) = rw (cells-kept i p) (old p)
-            by (no p) = let q : i ≡ S .n = omega (arith, p, l) in rw (q, cell-new) new
+            by (no p) = let q : i ≡ S .n = omega arith in rw (q, cell-new) new
 
         grown-spread : Spread f s base (k + 1) to (grown k d u S)
         grown-spread = record {
@@ -214,16 +214,16 @@ module _
           walks = grown-walks;
           costs = grown-costs;
           listed = grown-listed;
-          early = λ i p. by-cell (λ y. base ≤ getD mark′ y 0) i p (rw mark-new (omega (arith, C .ring .first))) (λ l. stays-in (cellOf S i) (G .early i l));
+          early = λ i p. by-cell (λ y. base ≤ getD mark′ y 0) i p (rw mark-new (omega arith)) (λ l. stays-in (cellOf S i) (G .early i l));
           late = λ i p q. by-cell (λ y. getD mark′ y 0 ≡ k + 1) i p mark-new (λ l. marks-kept (cellOf S i) (G .early i l) ∙ G .late i l q);
-          upto = omega (arith, G .upto);
+          upto = omega arith;
         }
 
       pub grown-grew : Grew f base k S (grown k d (w + fine v) S)
       grown-grew = record { room = grown-room; kept = grown-kept; spread = grown-spread }
 
       pub grown-out : In base (set (S .mark) d (k + 1)) d × (getD (set (S .cost) d (w + fine v)) d 0 ≤ w + fine v)
-      grown-out = (rw mark-new (omega (arith, C .ring .first)), omega (arith, cost-new))
+      grown-out = (rw mark-new (omega arith), omega (arith, cost-new))
 
       pub grown-stays : getD (set (S .cost) d (w + fine v)) c 0 ≡ w
       grown-stays = costs-kept c from-in ∙ C .costs
@@ -234,20 +234,20 @@ module _
       L = state (S .mark) (set (S .cost) d u) (S .list) (S .n)
 
       falls : (x : ℕ) → costAt L x ≤ costAt S x
-      falls x = by-store (λ y. y ≤ costAt S x) (S .cost) d u x inside-cost (λ e. rw e (omega (arith, less))) (λ n. omega arith)
+      falls x = by-store (λ y. y ≤ costAt S x) (S .cost) d u x inside-cost (λ e. rw e (omega arith)) (λ n. omega arith)
 
       lower-room : Room f base L
       lower-room = record {
         sizes = record { marks = R .sizes .marks; costs = simp length-set (R .sizes .costs); cells = R .sizes .cells; count = R .sizes .count };
         free = R .free;
         cheap = λ x p. omega (arith, falls x, R .cheap x p);
-        notes = λ i l j x y lj e. ⊎-elim inl (λ q. inr (q .0, omega (arith, q .1, falls x))) (R .notes i l j x y lj e);
+        notes = λ i l j x y lj e. ⊎-elim inl (λ q. inr (q .0, omega (arith, falls x))) (R .notes i l j x y lj e);
       }
 
       lower-costs : (s to : ℕ) → Spread f s base (k + 1) to S → (x : ℕ) → In base (S .mark) x → Leads (net f) (In base (S .mark)) x s (costAt L x)
       lower-costs s to G x =
           by-store (λ y. In base (S .mark) x → Leads (net f) (In base (S .mark)) x s y) (S .cost) d u x inside-cost
-          (λ e p. let g = G .costs c from-in in rw e (suc (g .0), restate (omega (arith, C .costs)) refl (move to-in (edge-back M) (g .1))))
+          (λ e p. let g = G .costs c from-in in rw e (suc (g .0), restate (omega arith) refl (move to-in (edge-back M) (g .1))))
           (λ n p. G .costs x p)
 
       pub lower-grew : Grew f base k S (state (S .mark) (set (S .cost) d (w + fine v)) (S .list) (S .n))
@@ -261,7 +261,7 @@ module _
       lower-out = omega (arith, getD-set-same (S .cost) d u 0 inside-cost)
 
       pub lower-stays : getD (set (S .cost) d (w + fine v)) c 0 ≡ w
-      lower-stays = by-store (λ y. y ≡ w) (S .cost) d u c inside-cost (λ e. absurd (omega (arith, less, C .costs, ap (costAt S) e))) (λ n. C .costs)
+      lower-stays = by-store (λ y. y ≡ w) (S .cost) d u c inside-cost (λ e. absurd (omega (arith, ap (costAt S) e))) (λ n. C .costs)
 
     -- the cell moved into is reached at what the move adds
     module _ {S′ : State} {a : ℕ} (adds : a ≡ fine v) (reached : Reached base d (k + 1) (w + a) S S′) where
@@ -272,20 +272,20 @@ module _
       extends : {T : State} → Grew f base k S T → In base (T .mark) d × (costAt T d ≤ w + fine v) → costAt T c ≡ w → Extended f base k c m w S T
       extends {T} G o e = record {
         grew = G;
-        out = λ x y q. let t = same-to (sym (M .step) ∙ q) in (subst (In base (T .mark)) (t .0) (o .0), omega (arith, o .1, t .1, ap (costAt T) (t .0)));
+        out = λ x y q. let t = same-to (sym (M .step) ∙ q) in (subst (In base (T .mark)) (t .0) (o .0), omega (arith, ap (costAt T) (t .0)));
         stays = e;
       }
 
       by-cost : In base (S .mark) d → Dec (w + fine v < costAt S d) → Extended f base k c m w S S′
       by-cost i (yes l) = rw (E .low i l) (extends (lower-grew i l) (i, lower-out i l) (lower-stays i l))
       by-cost i (no n) =
-          let l : costAt S d ≤ w + fine v = omega (arith, n) in
+          let l : costAt S d ≤ w + fine v = omega arith in
           rw (E .old i l) (extends (grew-refl R) (i, l) (C .costs))
 
       by-mark : Dec (base ≤ markOf S d) → Extended f base k c m w S S′
       by-mark (yes i) = by-cost i (decLt (w + fine v) (costAt S d))
       by-mark (no n) =
-          let b : markOf S d < base = omega (arith, n) in
+          let b : markOf S d < base = omega arith in
           rw (E .new b) (extends (grown-grew b) (grown-out b) (grown-stays b))
 
       pub extended-to : Extended f base k c m w S S′
@@ -304,7 +304,7 @@ pub left-more : {f : Floor} {base k c m w : ℕ} {A B C : State} → Left f base
 left-more {f} {base} {c = c} {m = m} {w = w} {C = C} p q = record {
   grew = grew-trans (p .grew) (q .grew);
   out = below-more (λ i. (d v : ℕ) → stepOf f c i ≡ To d v → In base (C .mark) d × (costAt C d ≤ w + fine v)) m
-      (λ i l d v e. let o = p .out i l d v e in (kept-in (q .grew .kept) d (o .0), omega (arith, o .1, q .grew .kept .costs d (o .0)))) (q .out);
+      (λ i l d v e. let o = p .out i l d v e in (kept-in (q .grew .kept) d (o .0), omega (arith, q .grew .kept .costs d (o .0)))) (q .out);
   stays = q .stays;
 }
 
@@ -327,7 +327,7 @@ module _ {f : Floor} {base k c w : ℕ} (i : ℕ) {A B : State} (L : Left f base
   noted-notes j p m d v lm e =
       let s = subst (λ y. stepOf f y m ≡ To d v) (cells j p) e in
       by-store (λ y. (y ≡ 65535) ⊎ (In base (B .mark) d × (costAt B d ≤ y + fine v))) (B .list) (i + 4096) w (j + 4096) (omega (arith, R .sizes .cells, short))
-      (λ q. let t : j ≡ i = omega (arith, q) in inr (L .out m lm d v (subst (λ y. stepOf f y m ≡ To d v) (ap (cellOf B) t ∙ here) s)))
+      (λ q. let t : j ≡ i = omega arith in inr (L .out m lm d v (subst (λ y. stepOf f y m ≡ To d v) (ap (cellOf B) t ∙ here) s)))
       (λ q. R .notes j p m d v lm s)
 
   pub noted-grew : Grew f base k B (state (B .mark) (B .cost) (set (B .list) (i + 4096) w) (B .n))
@@ -357,8 +357,8 @@ swept-none R = record { grew = grew-refl R; outs = λ j l q. absurd (omega arith
 pub swept-more : {f : Floor} {base k from i c w : ℕ} {A B C : State} → i < A .n → c ≡ cellOf B i
     → Swept f base k from i A B → Left f base k c 8 w B C → Swept f base k from (i + 1) A (state (C .mark) (C .cost) (set (C .list) (i + 4096) w) (C .n))
 swept-more {f} {base} {from = from} {i = i} {c = c} {A = A} {C = C} l e p q =
-    let n : i < C .n = omega (arith, p .grew .kept .grows, q .grew .kept .grows) in
-    let here : cellOf C i ≡ c = q .grew .kept .cells i (omega (arith, p .grew .kept .grows)) ∙ sym e in
+    let n : i < C .n = omega arith in
+    let here : cellOf C i ≡ c = q .grew .kept .cells i (omega arith) ∙ sym e in
     record {
       grew = grew-trans (grew-trans (p .grew) (q .grew)) (noted-grew i q n here);
       outs = λ j r t. below-more (λ y. from ≤ y → Out f base C (cellOf A y) 8) i

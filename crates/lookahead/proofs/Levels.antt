@@ -44,7 +44,7 @@ module _ {f : Floor} (z : Sized f) (s : ℕ) (on : free f s ≡ true) {base : �
   S₀ = begun base mark cost list s
 
   inside : s < length mark
-  inside = omega (arith, free-few f s z on, F .marks .size)
+  inside = omega (arith, free-few f s z on)
 
   only : (x : ℕ) → In base (S₀ .mark) x → x ≡ s
   only x = by-store (λ y. base ≤ y → x ≡ s) mark s base x inside (λ e p. e) (λ n p. absurd (omega (arith, F .marks .below x)))
@@ -53,7 +53,7 @@ module _ {f : Floor} (z : Sized f) (s : ℕ) (on : free f s ≡ true) {base : �
   mark-s = getD-set-same mark s base 0 inside
 
   cost-s : costAt S₀ s ≡ 0
-  cost-s = getD-set-same cost s 0 0 (omega (arith, free-few f s z on, F .costs))
+  cost-s = getD-set-same cost s 0 0 (omega (arith, free-few f s z on))
 
   list-s : cellOf S₀ 0 ≡ s
   list-s = entered-new list 0 s (F .cells) (omega arith)
@@ -66,7 +66,7 @@ module _ {f : Floor} (z : Sized f) (s : ℕ) (on : free f s ≡ true) {base : �
     marks = simp length-set (F .marks .size);
     costs = simp length-set (F .costs);
     cells = entered-size list 0 s (F .cells) (omega arith);
-    count = omega (arith, blanks-set base mark s base inside (F .marks .below s) (omega arith), blanks-all base mark (F .marks .below), F .marks .size);
+    count = omega (arith, blanks-set base mark s base inside (F .marks .below s) (omega arith), blanks-all base mark (F .marks .below));
   }
 
   begin-room : Room f base S₀
@@ -101,7 +101,7 @@ module _ {f : Floor} (z : Sized f) (s : ℕ) (on : free f s ≡ true) {base : �
       (record {
         mark = omega arith;
         far = begin-unmet gs n;
-        full = λ g p q. (s, mark-s ∙ omega (arith, p, q));
+        full = λ g p q. (s, mark-s ∙ omega arith);
         level = record { room = begin-room; spread = begin-spread; done = λ x p q m d v l e. absurd (omega arith); start = mark-s };
       })
 
@@ -114,7 +114,7 @@ module _ {f : Floor} {s base k from : ℕ} {S : State} (L : Level f s base k fro
         top = λ x. omega (arith, G .top x);
         walks = G .walks;
         costs = G .costs;
-        listed = λ x p. let l = G .listed x p in (l .0, l .1, l .2, λ e. absurd (omega (arith, e, G .top x)));
+        listed = λ x p. let l = G .listed x p in (l .0, l .1, l .2, λ e. absurd (omega (arith, G .top x)));
         early = G .early;
         late = λ i p q. absurd (omega arith);
         upto = omega arith;
@@ -135,13 +135,13 @@ module _ {f : Floor} {s base k from : ℕ} {S : State} (L : Level f s base k fro
       where
         go : (i : ℕ) → i < S′ .n → cellOf S′ i ≡ x → Dec (i < S .n) → In base (S .mark) x
         go i a e (yes b) = subst (In base (S .mark)) (sym (K .cells i b) ∙ e) (L .spread .early i b)
-        go i a e (no b) = absurd (omega (arith, next-spread .late i a (omega (arith, b)), ap (markOf S′) e))
+        go i a e (no b) = absurd (omega (arith, next-spread .late i a (omega arith), ap (markOf S′) e))
 
     next-done : Done f base (k + 1) S′
     next-done x p q m d v hm e = split (decLt (markOf S x) k)
       where
         px : In base (S .mark) x
-        px = was x p (omega (arith, q))
+        px = was x p (omega arith)
 
         same : markOf S′ x ≡ markOf S x
         same = K .marks x px
@@ -149,19 +149,19 @@ module _ {f : Floor} {s base k from : ℕ} {S : State} (L : Level f s base k fro
         split : Dec (markOf S x < k) → In base (S′ .mark) d × (markOf S′ d ≤ markOf S′ x + 1)
         split (yes b) =
             let o = L .done x px b m d v hm e in
-            (kept-in K d (o .0), omega (arith, o .1, K .marks d (o .0), same))
+            (kept-in K d (o .0), omega (arith, K .marks d (o .0), same))
         split (no b) =
             let l = L .spread .listed x px in
-            let t : markOf S x ≡ k = omega (arith, b, same, q) in
+            let t : markOf S x ≡ k = omega (arith, same) in
             let o = W .outs (l .0) (l .3 t) (l .1) m hm d v (subst (λ y. stepOf f y m ≡ To d v) (sym (l .2)) e) in
-            (o, omega (arith, next-spread .top d, t, same))
+            (o, omega (arith, next-spread .top d, same))
 
     level-next : Level f s base (k + 1) (S .n) S′
     level-next = record {
       room = W .grew .room;
       spread = next-spread;
       done = next-done;
-      start = K .marks s (omega (arith, L .start)) ∙ L .start;
+      start = K .marks s (omega arith) ∙ L .start;
     }
 
     -- where nothing was added no cell has the next mark
@@ -171,9 +171,9 @@ module _ {f : Floor} {s base k from : ℕ} {S : State} (L : Level f s base k fro
         by : Dec (markOf S′ x ≤ k) → markOf S′ x ≤ k
         by (yes h) = h
         by (no h) =
-            let t : markOf S′ x ≡ k + 1 = omega (arith, h, next-spread .top x) in
-            let l = next-spread .listed x (omega (arith, t, b)) in
-            absurd (omega (arith, l .3 t, l .1, e))
+            let t : markOf S′ x ≡ k + 1 = omega (arith, next-spread .top x) in
+            let l = next-spread .listed x (omega arith) in
+            absurd (omega (arith, l .3 t))
 
     -- a cell that had no mark has the next one or none
     level-goal : (x : ℕ) → markOf S x < base → In base (S′ .mark) x → markOf S′ x ≡ k + 1
@@ -181,14 +181,14 @@ module _ {f : Floor} {s base k from : ℕ} {S : State} (L : Level f s base k fro
       where
         by : Dec (markOf S′ x ≤ k) → markOf S′ x ≡ k + 1
         by (yes h) = absurd (omega (arith, far, was x p h))
-        by (no h) = omega (arith, h, next-spread .top x)
+        by (no h) = omega (arith, next-spread .top x)
 
     full-next : S .n < S′ .n → Full base k S → Full base (k + 1) S′
     full-next l F g p q = by (decLe g k)
       where
         by : Dec (g ≤ k) → (x : ℕ) × (markOf S′ x ≡ g)
-        by (yes h) = let x = F g p h in (x .0, K .marks (x .0) (omega (arith, x .1, p)) ∙ x .1)
-        by (no h) = (cellOf S′ (S .n), next-spread .late (S .n) l (omega arith) ∙ omega (arith, h, q))
+        by (yes h) = let x = F g p h in (x .0, K .marks (x .0) (omega arith) ∙ x .1)
+        by (no h) = (cellOf S′ (S .n), next-spread .late (S .n) l (omega arith) ∙ omega arith)
 
   module _ (z : Sized f) where
     -- a walk of n moves from a cell of ring j leads to a ring of at most j + n
@@ -196,10 +196,10 @@ module _ {f : Floor} {s base k from : ℕ} {S : State} (L : Level f s base k fro
         → In base (S .mark) x × (markOf S x ≤ base + j + n)
     reach (stop t) j i l h = (i, omega arith)
     reach (move {a = a} {b = b} t e w) j i l h =
-        let (m, lm, step) = price-step f z a b (stretched-some fineness 1 (price f a b) (omega (arith, e .0, e .1))) in
+        let (m, lm, step) = price-step f z a b (stretched-some fineness 1 (price f a b) (omega arith)) in
         let o = L .done a i (omega arith) m b (price f a b) lm step in
-        let r = reach w (j + 1) (o .0) (omega (arith, o .1)) (omega arith) in
-        (r .0, omega (arith, r .1))
+        let r = reach w (j + 1) (o .0) (omega arith) (omega arith) in
+        (r .0, omega arith)
 
     level-marked : (r : ℕ) → k ≡ base + r → Marked f s base r S
     level-marked r e = record {
@@ -208,8 +208,8 @@ module _ {f : Floor} {s base k from : ℕ} {S : State} (L : Level f s base k fro
       walks = L .spread .walks;
       costs = L .spread .costs;
       fewest = λ x c n w l.
-          let t = reach w 0 (omega (arith, L .start)) (omega (arith, L .start)) (omega arith) in
-          (t .0, omega (arith, t .1));
+          let t = reach w 0 (omega arith) (omega arith) (omega arith) in
+          (t .0, omega arith);
       listed = λ x p. let l = L .spread .listed x p in (l .0, l .1, l .2);
       early = L .spread .early;
     }
@@ -218,7 +218,7 @@ module _ {f : Floor} {s : ℕ} {gs : List ℕ} {base r k from : ℕ} {S : State}
   pub ringed-segment : r < deepest → base ≤ lastBase → Segment base from (S .n) k S
   ringed-segment h room =
       let G = R .level .spread in
-      record { order = G .upto; end = refl; ring = record { first = omega (arith, R .mark); last = omega (arith, R .mark); room = room }; marked = λ j a b. G .late j b a }
+      record { order = G .upto; end = refl; ring = record { first = omega arith; last = omega arith; room = room }; marked = λ j a b. G .late j b a }
 
   -- the answers: the depth is reached; a goal is in the ring found last; the ring found last is empty
   pub ringed-framed : {depth : ℕ} → Sized f → r ≡ depth → 1 ≤ depth → Framed f s gs depth base r S
@@ -227,7 +227,7 @@ module _ {f : Floor} {s : ℕ} {gs : List ℕ} {base r k from : ℕ} {S : State}
     within = omega arith;
     some = omega arith;
     ends = inl d;
-    nearer = λ g m i. absurd (omega (arith, i, R .far g m));
+    nearer = λ g m i. absurd (omega (arith, R .far g m));
     full = subst (λ y. Full base y S) (R .mark) (R .full);
   }
 
@@ -237,36 +237,36 @@ module _ {f : Floor} {s : ℕ} {gs : List ℕ} {base r k from : ℕ} {S : State}
 
     pub next-blocked : {depth : ℕ} → Sized f → r < depth → S′ .n ≡ S .n → Blocked f s gs depth base r S′
     next-blocked z short q =
-        let none : (x : ℕ) → markOf S′ x ≤ k = λ x. level-empty (R .level) W q x (omega (arith, R .mark)) in record {
-          marked = level-marked L′ z (r + 1) (omega (arith, R .mark));
+        let none : (x : ℕ) → markOf S′ x ≤ k = λ x. level-empty (R .level) W q x (omega arith) in record {
+          marked = level-marked L′ z (r + 1) (omega arith);
           short = short;
-          empty = λ x. omega (arith, none x, R .mark);
+          empty = λ x. omega (arith, none x);
           far = λ g m. away g m (decLe base (markOf S′ g)) (none g);
         }
       where
         away : (g : ℕ) → member g gs ≡ true → Dec (base ≤ markOf S′ g) → markOf S′ g ≤ k → markOf S′ g < base
-        away g m (yes p) l = absurd (omega (arith, l, level-goal (R .level) W g (R .far g m) p))
-        away g m (no p) l = omega (arith, p)
+        away g m (yes p) l = absurd (omega (arith, level-goal (R .level) W g (R .far g m) p))
+        away g m (no p) l = omega arith
 
     -- the next ring is not empty
     module _ (some : S′ .n ≡ S .n → ⊥) where
       full : Full base (k + 1) S′
-      full = full-next (R .level) W (omega (arith, W .grew .kept .grows)) (R .full)
+      full = full-next (R .level) W (omega arith) (R .full)
 
       -- whether a goal is in a ring that is marked, as the code is told it
       module _ {met : Bool} (told : met ≡ any (λ g. leb base (markOf S′ g)) gs) where
         pub ringed-next : met ≡ false → Ringed f s gs base (r + 1) (k + 1) (S .n) S′
-        ringed-next n = record { mark = omega (arith, R .mark); far = λ g m. leb-false _ _ (any-fails _ _ (sym told ∙ n) g m); full = full; level = L′ }
+        ringed-next n = record { mark = omega arith; far = λ g m. leb-false _ _ (any-fails _ _ (sym told ∙ n) g m); full = full; level = L′ }
 
         pub next-framed : {depth : ℕ} → Sized f → r < depth → met ≡ true → Framed f s gs depth base (r + 1) S′
         next-framed z short y =
             let (g, m, t) = any-some _ _ (sym told ∙ y) in
             let on : (x : ℕ) → member x gs ≡ true → In base (S′ .mark) x → markOf S′ x ≡ base + (r + 1) =
-            λ x n i. level-goal (R .level) W x (R .far x n) i ∙ omega (arith, R .mark) in record {
-              marked = level-marked L′ z (r + 1) (omega (arith, R .mark));
+            λ x n i. level-goal (R .level) W x (R .far x n) i ∙ omega arith in record {
+              marked = level-marked L′ z (r + 1) (omega arith);
               within = omega arith;
               some = omega arith;
               ends = inr (g, m, on g m (leb-true _ _ t));
               nearer = on;
-              full = subst (λ y. Full base y S′) (omega (arith, R .mark)) full;
+              full = subst (λ y. Full base y S′) (omega arith) full;
             }

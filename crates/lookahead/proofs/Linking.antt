@@ -34,13 +34,13 @@ module _ {f : Floor} {base : ℕ} {mark cost : List ℕ} {x : ℕ} where
 
     module _ {y v : ℕ} (M : Moved f x j y v) where
       pub led-out : getD mark y 0 < base → Led f base mark cost x j b
-      led-out h = led-nowhere (λ y′ v′ t B. omega (arith, subst (λ k. getD mark k 0 < base) (same-to (sym (M .step) ∙ t) .0) h, B .inside))
+      led-out h = led-nowhere (λ y′ v′ t B. omega (arith, subst (λ k. getD mark k 0 < base) (same-to (sym (M .step) ∙ t) .0) h))
 
       -- by what the move adds
       pub led-slack : {a : ℕ} → a ≡ fine v → (at cost y + a ≡ at cost x → ⊥) → Led f base mark cost x j b
       led-slack adds n = led-nowhere (λ y′ v′ t B.
           let here = subst (Before f base mark cost x) (sym (same-to (sym (M .step) ∙ t) .0)) B in
-          n (omega (arith, adds, price-back M .1, here .exact)))
+          n (omega (arith, price-back M .1)))
 
   pub led-new : {j y v a : ℕ} → Sized f → j < 8 → Moved f x j y v → In base mark y → a ≡ fine v → at cost y + a ≡ at cost x
       → Led f base mark cost x j (record { cell = y; m = opposite j })
@@ -49,13 +49,13 @@ module _ {f : Floor} {base : ℕ} {mark cost : List ℕ} {x : ℕ} where
       record {
         some = λ q. (
           record {
-            before = record { inside = i; move = omega (arith, same, some); exact = omega (arith, same, adds, t) };
+            before = record { inside = i; move = omega arith; exact = omega arith };
             heading = step-heading f z x j y v l (M .step);
             one = opposite-lt j l;
           },
           (v, M .step),
         );
-        none = λ h. absurd (omega (arith, M .at .few));
+        none = λ h. absurd (omega arith);
       }
 
   -- ---- one after another
@@ -81,7 +81,7 @@ module _ {f : Floor} {base : ℕ} {mark cost : List ℕ} {x : ℕ} where
         lowest y B = by (decLe i k) (decLe k i)
           where
             step : (m : ℕ) × (m < 8) × (stepOf f x m ≡ To y (price f x y))
-            step = price-step f z x y (omega (arith, B .move, price-same f x y))
+            step = price-step f z x y (omega (arith, price-same f x y))
 
             found : (k : ℕ) × (k < 8) × (risingMove k ≡ step .0)
             found = rising-all (step .0) (step .1)
@@ -103,6 +103,6 @@ module _ {f : Floor} {base : ℕ} {mark cost : List ℕ} {x : ℕ} where
   -- and some move leads to a cell before x, if there is one
   pub unled-all : {i : ℕ} → Sized f → 8 ≤ i → Unled f base mark cost x i → (y : ℕ) → Before f base mark cost x y → ⊥
   unled-all z h U y B =
-      let (m, l, s) = price-step f z x y (omega (arith, B .move, price-same f x y)) in
+      let (m, l, s) = price-step f z x y (omega (arith, price-same f x y)) in
       let (k, few, e) = rising-all m l in
       U .none k (omega arith) y (price f x y) (ap (stepOf f x) e ∙ s) B

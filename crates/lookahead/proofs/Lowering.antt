@@ -35,10 +35,10 @@ total-set (x ∷ xs) (suc i) v p = omega (arith, total-set xs i v p)
 -- a cost is noted beside the list's i-th cell
 module _ {base : ℕ} {mark list : List ℕ} {n : ℕ} (i note : ℕ) (L : Listing base mark list n) (l : i < n) where
   cell-kept : (j : ℕ) → j < n → getD (set list (i + 4096) note) j 0 ≡ getD list j 0
-  cell-kept j h = getD-set-other list (i + 4096) j note 0 (λ e. omega (arith, L .fits))
+  cell-kept j h = getD-set-other list (i + 4096) j note 0 (λ e. omega arith)
 
   inside-list : i + 4096 < length list
-  inside-list = omega (arith, L .room, L .fits)
+  inside-list = omega arith
 
   note-listing : Listing base mark (set list (i + 4096) note) n
   note-listing = record {
@@ -53,16 +53,16 @@ module _ {base : ℕ} {mark list : List ℕ} {n : ℕ} (i note : ℕ) (L : Listi
   note-noted f A B drop N F j h =
       rw (cell-kept j h)
       (by-store (λ u. Followed f base mark (getD list j 0) 8 u B) list (i + 4096) note (j + 4096) inside-list
-      (λ e. let q : j ≡ i = omega (arith, e) in rw q F)
+      (λ e. let q : j ≡ i = omega arith in rw q F)
       (λ e m k d v s t. omega (arith, N j h m k d v s t, drop d)))
 
   note-calm : (cost : List ℕ) → ((j : ℕ) → j < i → noteAt list j ≤ at cost (getD list j 0)) → note ≤ at cost (getD list i 0)
       → (j : ℕ) → j < i + 1 → noteAt (set list (i + 4096) note) j ≤ at cost (getD (set list (i + 4096) note) j 0)
   note-calm cost p q j h =
-      rw (cell-kept j (omega (arith, l)))
+      rw (cell-kept j (omega arith))
       (by-store (λ u. u ≤ at cost (getD list j 0)) list (i + 4096) note (j + 4096) inside-list
-      (λ e. let t : j ≡ i = omega (arith, e) in rw t q)
-      (λ e. p j (omega (arith, e))))
+      (λ e. let t : j ≡ i = omega arith in rw t q)
+      (λ e. p j (omega arith)))
 
 -- where no move of the window lowers a cost, each is the least
 module _
@@ -72,9 +72,9 @@ module _
     low : {x y c n : ℕ} → Walk (net f) (In base mark) x y c n → at cost x ≤ c + at cost y
     low (stop t) = omega arith
     low (move {a = a} {b = b} t e w) =
-        let some = stretched-some fineness 1 (price f a b) (omega (arith, e .0, e .1)) in
-        let (m, l, step) = price-step f z b a (omega (arith, some, price-same f a b)) in
-        omega (arith, low w, tight b (first-in w) m l a (price f b a) step t, e .1, stretched-move fineness 1 (price f a b) some, price-same f a b)
+        let some = stretched-some fineness 1 (price f a b) (omega arith) in
+        let (m, l, step) = price-step f z b a (omega (arith, price-same f a b)) in
+        omega (arith, low w, tight b (first-in w) m l a (price f b a) step t, stretched-move fineness 1 (price f a b) some, price-same f a b)
 
     least : Walked f s base mark cost → (x : ℕ) → In base mark x → Least (Leads (net f) (In base mark) x s) (at cost x)
     least W x i = record { met = W x i; low = λ k v. omega (arith, low (v .1), start) }
@@ -91,8 +91,8 @@ module _ {f : Floor} {base : ℕ} {mark : List ℕ} where
     costs = q .costs;
     walked = λ s W. q .walked s (p .walked s W);
     drop = λ x. omega (arith, p .drop x, q .drop x);
-    down = omega (arith, p .down, q .down);
-    less = λ e. ⊎-elim (λ z. ⊎-elim inl (λ l. inr (omega (arith, l, q .down))) (p .less z)) (λ l. inr (omega (arith, l, p .down))) (q .less e);
+    down = omega arith;
+    less = λ e. ⊎-elim (λ z. ⊎-elim inl (λ l. inr (omega arith)) (p .less z)) (λ l. inr (omega arith)) (q .less e);
     same = λ e.
         let y = q .same e in
         let x = p .same (y .0) in
@@ -118,7 +118,7 @@ module _ {f : Floor} {base : ℕ} {mark : List ℕ} where
 
   module _ {cost : List ℕ} {c m d v w : ℕ} (C : Costs f base mark cost) (own : at cost c ≡ w) (M : Moved f c m d v) where
     pub eased-out : {b : Bool} → getD mark d 0 < base → Lowered f base mark (Eased f base mark c m w) cost b cost b
-    eased-out e = lowered-none C (own, λ x u s i. absurd (omega (arith, e, subst (In base mark) (sym (same-to (sym (M .step) ∙ s) .0)) i)))
+    eased-out e = lowered-none C (own, λ x u s i. absurd (omega (arith, subst (In base mark) (sym (same-to (sym (M .step) ∙ s) .0)) i)))
 
     -- the cell moved into is lowered, or need not be
     module _ (from : In base mark c) (to : In base mark d) where
@@ -126,11 +126,11 @@ module _ {f : Floor} {base : ℕ} {mark : List ℕ} where
       u = w + fine v
 
       inside : d < length cost
-      inside = omega (arith, M .at .few, C .costs)
+      inside = omega arith
 
       -- what holds of the cell moved into
       at-cell : (A : List ℕ) → at A d ≤ w + fine v → Under f base mark c m w A
-      at-cell A l x y s i = let q = same-to (sym (M .step) ∙ s) in omega (arith, l, q .1, ap (at A) (q .0))
+      at-cell A l x y s i = let q = same-to (sym (M .step) ∙ s) in omega (arith, ap (at A) (q .0))
 
       lowered-set : {b : Bool} → u < at cost d → Lowered f base mark (Eased f base mark c m w) cost b (set cost d u) true
       lowered-set l = record {
@@ -141,13 +141,13 @@ module _ {f : Floor} {base : ℕ} {mark : List ℕ} where
           small = λ x. by-store (λ y. In base mark x → y ≤ dearestFine) cost d u x inside (λ e i. omega (arith, C .small d to)) (λ n i. C .small x i);
         };
         walked = λ s W x. by-store (λ y. In base mark x → Leads (net f) (In base mark) x s y) cost d u x inside
-            (λ e i. let k = W c from in rw e (suc (k .0), restate (omega (arith, own)) refl (move to (edge-back M) (k .1)))) (λ n i. W x i);
+            (λ e i. let k = W c from in rw e (suc (k .0), restate (omega arith) refl (move to (edge-back M) (k .1)))) (λ n i. W x i);
         drop = λ x. by-store (λ y. y ≤ at cost x) cost d u x inside (λ e. rw e (omega arith)) (λ n. omega arith);
         down = omega (arith, total-set cost d u l);
         less = λ e. inr (total-set cost d u l);
         same = λ e. absurd (true≢false e);
         so = (
-          by-store (λ y. y ≡ w) cost d u c inside (λ e. absurd (omega (arith, l, own, ap (at cost) e))) (λ n. own),
+          by-store (λ y. y ≡ w) cost d u c inside (λ e. absurd (omega (arith, ap (at cost) e))) (λ n. own),
           at-cell (set cost d u) (omega (arith, getD-set-same cost d u 0 inside)),
         );
       }
@@ -159,7 +159,7 @@ module _ {f : Floor} {base : ℕ} {mark : List ℕ} where
           by : Lower d u b cost cost′ b′ → Dec (u < at cost d) → Lowered f base mark (Eased f base mark c m w) cost b cost′ b′
           by L (yes l) = let e = L .new l in rw (e .0, e .1) (lowered-set l)
           by L (no n) =
-              let l : at cost d ≤ u = omega (arith, n) in
+              let l : at cost d ≤ u = omega arith in
               let e = L .old l in
               rw (e .0, e .1) (lowered-none C (own, at-cell cost l))
 
@@ -192,7 +192,7 @@ module _ {f : Floor} {base : ℕ} {mark : List ℕ} where
     again-topped {cost = cost} z C top e l = record {
       note = at cost c;
       noted = refl;
-      lowered = lowered-none C (λ m h d v s t. omega (arith, top d t, e, l, stepped f z (getD list i 0) m d v s .least));
+      lowered = lowered-none C (λ m h d v s t. omega (arith, top d t, stepped f z (getD list i 0) m d v s .least));
       calm = λ y. rw (← here) (omega arith);
     }
 
@@ -221,7 +221,7 @@ module _ {f : Floor} {base : ℕ} {mark : List ℕ} where
   relaxed {Z = Z} {list = list} z walk drop p none = record {
     costs = p .lowered .costs;
     listing = p .listing;
-    least = λ s W e. least f z base mark Z s (omega (arith, p .lowered .drop s, drop s, e)) tight (p .lowered .walked s (walk s W));
+    least = λ s W e. least f z base mark Z s (omega (arith, p .lowered .drop s, drop s)) tight (p .lowered .walked s (walk s W));
   }
     where
       tight : (x : ℕ) → In base mark x → Followed f base mark x 8 (at Z x) Z
@@ -229,4 +229,4 @@ module _ {f : Floor} {base : ℕ} {mark : List ℕ} where
           let k = p .listing .listed x h in
           let c : noteAt list (k .0) ≤ at Z x = subst (λ y. noteAt list (k .0) ≤ at Z y) (k .2)
           (subst (λ y. noteAt list (k .0) ≤ at y (getD list (k .0) 0)) (sym (p .lowered .same none .1)) (p .calm none (k .0) (k .1))) in
-          omega (arith, c, p .lowered .so (k .0) (k .1) m l d v (subst (λ y. stepOf f y m ≡ To d v) (sym (k .2)) s) t)
+          omega (arith, p .lowered .so (k .0) (k .1) m l d v (subst (λ y. stepOf f y m ≡ To d v) (sym (k .2)) s) t)

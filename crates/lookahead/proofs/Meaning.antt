@@ -75,7 +75,7 @@ module _ {j : Job} {bytes : List ℕ} {s : ℕ} (Q : Asked j bytes s) where
   -- and free
   walk-free : {x c n : ℕ} → Walk (netOf (fineIn j bytes)) Any x s c n → free f x ≡ true
   walk-free (stop t) = Q .start
-  walk-free (move {a = a} {b = b} t e v) = is-true (free f a) (price-free f a b (stretched-some fineness 1 (price f a b) (omega (arith, e .0, e .1))))
+  walk-free (move {a = a} {b = b} t e v) = is-true (free f a) (price-free f a b (stretched-some fineness 1 (price f a b) (omega arith)))
 
   free-inside : (x : ℕ) → ringOf G d s x ≤ lastOf G d s → free f x ≡ true
   free-inside x h = walk-free (turn (job-window .attained x h .1))
@@ -85,7 +85,7 @@ module _ {j : Job} {bytes : List ℕ} {s : ℕ} (Q : Asked j bytes s) where
   near-free x h = free-inside x h
 
   low-cost : (x : ℕ) → ringOf G d s x ≤ lastOf G d s → fineCost j bytes s x ≤ dearestFine
-  low-cost x h = omega (arith, leg-high job-window (fine dearestPrice) (λ a b c e. omega (arith, e .1, fineIn j bytes .high a b)) x h, h, job-window .depth, Q .deep)
+  low-cost x h = omega (arith, leg-high job-window (fine dearestPrice) (λ a b c e. omega (arith, fineIn j bytes .high a b)) x h, job-window .depth)
 
   pub near-cost : (x : ℕ) → Near j bytes s x → fineCost j bytes s x ≤ dearestFine
   unfolding ringOf lastOf
@@ -94,7 +94,7 @@ module _ {j : Job} {bytes : List ℕ} {s : ℕ} (Q : Asked j bytes s) where
   -- w, of a fine cost
   pub near-coarse : (x : ℕ) → Near j bytes s x → fineCost j bytes s x / fineness ≡ w j bytes (seen j bytes s) x
   unfolding ringOf lastOf legOf
-  near-coarse x h = leg-divided G fineness d s (omega arith) (Q .shallow) start-on not-goal (omega (arith, Q .deep)) x h
+  near-coarse x h = leg-divided G fineness d s (omega arith) (Q .shallow) start-on not-goal (omega arith) x h
 
   -- from a window in the lists to the model's
   module _ (base last : ℕ) (mark cost : List ℕ) (W : Window (netOf (fineIn j bytes)) (Goal (groundIn j bytes)) (j .depth) s last (ringAt base mark) (at cost)) where
@@ -105,10 +105,10 @@ module _ {j : Job} {bytes : List ℕ} {s : ℕ} (Q : Asked j bytes s) where
     Y = subst (λ m. Window (netOf (fineIn j bytes)) (Goal G) d s m (ringAt base mark) (at cost)) last-same W
 
     near-mark : (x : ℕ) → ringOf G d s x ≤ lastOf G d s → getD mark x 0 ≡ base + ringOf G d s x
-    near-mark x h = omega (arith, ring-unique job-window Y x h, h, job-window .depth, Q .deep)
+    near-mark x h = omega (arith, ring-unique job-window Y x h, job-window .depth)
 
     far-mark : (x : ℕ) → lastOf G d s < ringOf G d s x → ringAt base mark x ≤ lastOf G d s → ⊥
-    far-mark x h l = omega (arith, h, l, ring-unique Y job-window x l)
+    far-mark x h l = omega (arith, ring-unique Y job-window x l)
 
     back : (x : ℕ) → ringAt base mark x ≤ lastOf G d s → ringOf G d s x ≡ ringAt base mark x
     back x l = ring-unique Y job-window x l
@@ -129,15 +129,15 @@ module _ {j : Job} {bytes : List ℕ} {s : ℕ} (Q : Asked j bytes s) where
       where
         by : (x : ℕ) → lastOf G d s < ringOf G d s x → Dec (base ≤ getD mark x 0) → getD mark x 0 < base
         by x h (yes i) = absurd (far-mark x h (in-ring base mark x (lastOf G d s) i (omega (arith, top x, last-same))))
-        by x h (no i) = omega (arith, i)
+        by x h (no i) = omega arith
 
     pub mark-near : (x : ℕ) → ringAt base mark x ≤ last → Near j bytes s x
     unfolding ringOf lastOf
-    mark-near x h = let l : ringAt base mark x ≤ lastOf G d s = omega (arith, h, last-same) in omega (arith, back x l, l)
+    mark-near x h = let l : ringAt base mark x ≤ lastOf G d s = omega (arith, last-same) in omega (arith, back x l)
 
     pub near-ring : (x : ℕ) → Near j bytes s x → ringAt base mark x ≤ last
     unfolding ringOf lastOf
-    near-ring x h = omega (arith, ring-unique job-window Y x h, h, last-same)
+    near-ring x h = omega (arith, ring-unique job-window Y x h, last-same)
 
     -- each ring up to the last has a cell
     pub array-full : ((k : ℕ) → base ≤ k → k ≤ base + last → (x : ℕ) × (getD mark x 0 ≡ k)) → emptyRing j bytes (seen j bytes s) last ≡ false
@@ -147,9 +147,9 @@ module _ {j : Job} {bytes : List ℕ} {s : ℕ} (Q : Asked j bytes s) where
         ring-cell : (i : ℕ) → 1 ≤ i → i ≤ last → (x : ℕ) × (x < size f) × (ringOf G d s x ≡ i)
         ring-cell i a h =
             let x = full (base + i) (omega arith) (omega arith) in
-            let e : ringAt base mark (x .0) ≡ i = omega (arith, x .1) in
-            let l : ringAt base mark (x .0) ≤ lastOf G d s = omega (arith, e, h, last-same) in
-            (x .0, inside (x .0) (omega (arith, back (x .0) l, l)), back (x .0) l ∙ e)
+            let e : ringAt base mark (x .0) ≡ i = omega arith in
+            let l : ringAt base mark (x .0) ≤ lastOf G d s = omega (arith, last-same) in
+            (x .0, inside (x .0) (omega (arith, back (x .0) l)), back (x .0) l ∙ e)
 
   -- the window that `look` leaves
   module _ {base last n : ℕ} {mark cost list : List ℕ} (F : Framed (floorOf j bytes) s (goals j) (j .depth) base last (state mark cost list n)) (room : base ≤ lastBase)
@@ -159,7 +159,7 @@ module _ {j : Job} {bytes : List ℕ} {s : ℕ} (Q : Asked j bytes s) where
       W = array-window F (Q .deep) (Q .sized) (Q .benches) R
 
       spent : Spent base mark
-      spent = record { size = F .marked .room .sizes .marks; room = room; below = λ x. omega (arith, F .marked .top x, F .within, Q .deep) }
+      spent = record { size = F .marked .room .sizes .marks; room = room; below = λ x. omega (arith, F .marked .top x) }
 
       pub looked : contract.Window j bytes s base mark cost′ list′ n last
       looked = record {
@@ -171,21 +171,21 @@ module _ {j : Job} {bytes : List ℕ} {s : ℕ} (Q : Asked j bytes s) where
         full = array-full base last mark cost′ W (F .full);
         fits = R .listing .fits;
         cells = λ i h. mark-near base last mark cost′ W (getD list′ i 0) (in-ring base mark (getD list′ i 0) last (R .listing .early i h) (F .marked .top (getD list′ i 0)));
-        listed = λ x h. R .listing .listed x (ring-in base mark x (omega (arith, near-ring base last mark cost′ W x h, F .within, Q .deep)));
+        listed = λ x h. R .listing .listed x (ring-in base mark x (omega (arith, near-ring base last mark cost′ W x h)));
       }
 
   -- number 9's case
   module _ {base r n : ℕ} {mark cost list : List ℕ} (B : Blocked (floorOf j bytes) s (goals j) (j .depth) base r (state mark cost list n)) (room : base ≤ lastBase) where
     goal-far : (y : ℕ) → Goal G y → ringOf G d s y ≡ lastOf G d s → lastOf G d s ≤ r → ⊥
     goal-far y g e h =
-        let (c, v) = job-window .attained y (omega (arith, e)) in
-        let m = B .marked .fewest y c (ringOf G d s y) v (omega (arith, e, h)) in
-        omega (arith, m .0, B .far y (goal-means f (goals j) y g))
+        let (c, v) = job-window .attained y (omega arith) in
+        let m = B .marked .fewest y c (ringOf G d s y) v (omega arith) in
+        omega (arith, B .far y (goal-means f (goals j) y g))
 
     -- ring r + 1 is a ring up to the last
     below : (lastOf G d s ≡ d) ⊎ ((y : ℕ) × Goal G y × (ringOf G d s y ≡ lastOf G d s)) → Dec (lastOf G d s ≤ r) → r < lastOf G d s
-    below e (no h) = omega (arith, h)
-    below (inl e) (yes h) = absurd (omega (arith, e, h, B .short))
+    below e (no h) = omega arith
+    below (inl e) (yes h) = absurd (omega arith)
     below (inr (y, g, e)) (yes h) = absurd (goal-far y g e h)
 
     r-below : r < lastOf G d s
@@ -194,16 +194,16 @@ module _ {j : Job} {bytes : List ℕ} {s : ℕ} (Q : Asked j bytes s) where
     -- and has no cell
     none : (x : ℕ) → x < size f → ringOf G d s x ≡ r + 1 → ⊥
     none x l e =
-        let (c, v) = job-window .attained x (omega (arith, e, r-below)) in
-        let m = B .marked .fewest x c (ringOf G d s x) v (omega (arith, e)) in
+        let (c, v) = job-window .attained x (omega (arith, r-below)) in
+        let m = B .marked .fewest x c (ringOf G d s x) v (omega arith) in
         let back = turn (widen {S′ = Any} (λ y k. tt) (B .marked .walks x (m .0) .1)) in
-        omega (arith, job-window .fewest x _ _ back (omega (arith, B .empty x, r-below)), B .empty x, e)
+        omega (arith, job-window .fewest x _ _ back (omega (arith, B .empty x, r-below)), B .empty x)
 
     pub blocked : Used base mark cost list × (emptyRing j bytes (seen j bytes s) (seen j bytes s .last) ≡ true)
     unfolding ringOf lastOf
     blocked =
         let R = B .marked .room .sizes in (
-          record { marks = record { size = R .marks; room = room; below = λ x. omega (arith, B .empty x, B .short, Q .deep) }; costs = R .costs; cells = R .cells },
+          record { marks = record { size = R .marks; room = room; below = λ x. omega (arith, B .empty x) }; costs = R .costs; cells = R .cells },
           empty-of j bytes (seen j bytes s) (seen j bytes s .last) (r + 1) (omega arith) (omega (arith, r-below)) none,
         )
 
@@ -215,7 +215,7 @@ module _ {j : Job} {bytes : List ℕ} {s : ℕ} (Q : Asked j bytes s) where
 
     far : (x : ℕ) → lastOf G d s < ringOf G d s x → lastOf G d s < ringAt base mark x
     unfolding ringOf lastOf
-    far x h = omega (arith, E .none x h, job-window .depth, Q .deep)
+    far x h = omega (arith, E .none x h, job-window .depth)
 
     pub seen-window : Window (netOf (fineIn j bytes)) (Goal (groundIn j bytes)) (j .depth) s (lastOf (groundIn j bytes) (j .depth) s) (ringAt base mark) (at cost)
     seen-window = window-same (ringAt base mark) (at cost) job-window agree far
@@ -234,7 +234,7 @@ module _ {j : Job} {bytes : List ℕ} {s : ℕ} (Q : Asked j bytes s) where
       where
         by : Dec (Near j bytes s x) → Near j bytes s x
         by (yes h) = h
-        by (no h) = absurd (omega (arith, i, E .none x (omega (arith, h))))
+        by (no h) = absurd (omega (arith, E .none x (omega arith)))
 
     low : (x : ℕ) → lastOf G d s < ringOf G d s x → getD mark x 0 ≤ base + deepest
     unfolding ringOf lastOf
@@ -244,5 +244,5 @@ module _ {j : Job} {bytes : List ℕ} {s : ℕ} (Q : Asked j bytes s) where
     near-high x = by (decLe (ringOf G d s x) (lastOf G d s))
       where
         by : Dec (ringOf G d s x ≤ lastOf G d s) → getD mark x 0 ≤ base + deepest
-        by (yes h) = omega (arith, agree x h .0, h, job-window .depth, Q .deep)
-        by (no h) = low x (omega (arith, h))
+        by (yes h) = omega (arith, agree x h .0, job-window .depth)
+        by (no h) = low x (omega arith)

@@ -38,17 +38,12 @@ module _ (f : Floor) (z : Sized f) (x : ℕ) where
       by : Dec (south n ≤ south m) → ahead f x m < ahead f x n
       by (yes s) =
           let same : row f x + south m - 1 ≡ row f x + south n - 1 = omega (arith, east-le n l) in
-          omega (arith, ap (λ r. r * f .width) same, east-le n l, a .west, b .west)
-      by (no s) = row-higher (f .width) (column f x + east m - 1) (row f x + south m - 1) (column f x + east n - 1) (row f x + south n - 1) (omega (arith, a .west, a .east)) (omega (arith, a .north))
+          omega (arith, ap (λ r. r * f .width) same, east-le n l)
+      by (no s) = row-higher (f .width) (column f x + east m - 1) (row f x + south m - 1) (column f x + east n - 1) (row f x + south n - 1) (omega arith) (omega arith)
 
   pub rising-higher : (i k : ℕ) → i < k → k < 8 → (b u y v : ℕ) → stepOf f x (risingMove i) ≡ To b u → stepOf f x (risingMove k) ≡ To y v → b < y
   rising-higher i k h l b u y v s t =
       let p = stepped f z x (risingMove i) b u s in
       let q = stepped f z x (risingMove k) y v t in
       let more : 3 * south (risingMove i) + east (risingMove i) < 3 * south (risingMove k) + east (risingMove k) = omega (arith, rank i (omega arith), rank k l) in
-      omega (
-        arith,
-        p .cell,
-        q .cell,
-        ahead-higher (risingMove i) (risingMove k) (rising-lt k l) more (allowed-inside f z x (risingMove i) (p .allowed)) (allowed-inside f z x (risingMove k) (q .allowed)),
-      )
+      omega (arith, ahead-higher (risingMove i) (risingMove k) (rising-lt k l) more (allowed-inside f z x (risingMove i) (p .allowed)) (allowed-inside f z x (risingMove k) (q .allowed)))

@@ -31,13 +31,13 @@ module _ {f : Floor} {s : ℕ} {gs : List ℕ} {depth base last : ℕ} {S : Stat
         marks = R .sizes .marks;
         costs = R .sizes .costs;
         free = R .free;
-        small = λ x p. omega (arith, R .cheap x p, F .marked .top x, F .within, deep);
+        small = λ x p. omega (arith, R .cheap x p, F .marked .top x);
       }
 
   pub framed-listing : Listing base (S .mark) (S .list) (S .n)
   framed-listing = record {
     room = F .marked .room .sizes .cells;
-    fits = omega (arith, F .marked .room .sizes .count);
+    fits = omega arith;
     early = F .marked .early;
     listed = F .marked .listed;
   }
@@ -45,10 +45,10 @@ module _ {f : Floor} {s : ℕ} {gs : List ℕ} {depth base last : ℕ} {S : Stat
   -- where no note stands, the place has more than any cost
   pub framed-noted : Noted f base (S .mark) (S .list) (S .n) (S .cost)
   framed-noted i l m lm d v e t =
-      ⊎-elim (λ q. omega (arith, q, framed-costs .small d t)) (λ q. q .1) (F .marked .room .notes i l m d v lm e)
+      ⊎-elim (λ q. omega (arith, framed-costs .small d t)) (λ q. q .1) (F .marked .room .notes i l m d v lm e)
 
   start : costAt S s ≡ 0
-  start = let m = F .marked .fewest s 0 0 (stop tt) (omega arith) in omega (arith, F .marked .room .cheap s (m .0), m .1)
+  start = let m = F .marked .fewest s 0 0 (stop tt) (omega arith) in omega (arith, F .marked .room .cheap s (m .0))
 
   -- the window
   module _ (z : Sized f) (benches : Benched (size f) gs) {cost list : List ℕ} (R : Relaxed f base (S .mark) (S .n) (S .cost) cost list) where
@@ -56,22 +56,22 @@ module _ {f : Floor} {s : ℕ} {gs : List ℕ} {depth base last : ℕ} {S : Stat
     ring = ringAt base (S .mark)
 
     inner : (x : ℕ) → ring x ≤ last → In base (S .mark) x
-    inner x h = ring-in base (S .mark) x (omega (arith, h, F .within, deep))
+    inner x h = ring-in base (S .mark) x (omega arith)
 
     outer : (x : ℕ) → In base (S .mark) x → ring x ≤ last
     outer x p = in-ring base (S .mark) x last p (F .marked .top x)
 
     -- a ring up to last, by its mark
     by-mark : (x : ℕ) → markOf S x ≡ base + last → ring x ≡ last
-    by-mark x e = omega (arith, e)
+    by-mark x e = omega arith
 
     goal-ring : (g : ℕ) → member g gs ≡ true → Dec (base ≤ markOf S g) → last ≤ ring g
     goal-ring g m (yes p) = omega (arith, by-mark g (F .nearer g m p))
-    goal-ring g m (no p) = omega (arith, p, F .within, deep)
+    goal-ring g m (no p) = omega arith
 
     -- a goal of the list is one of the ground
     on-ground : (g : ℕ) → member g gs ≡ true → Goal (groundOf f gs) g
-    on-ground g m = let (k, l, e) = member-place g gs m in goal-is f gs g (omega (arith, e, benches .on k l)) m
+    on-ground g m = let (k, l, e) = member-place g gs m in goal-is f gs g (omega (arith, benches .on k l)) m
 
     ends : (last ≡ depth) ⊎ ((g : ℕ) × (member g gs ≡ true) × (markOf S g ≡ base + last)) → (last ≡ depth) ⊎ ((y : ℕ) × Goal (groundOf f gs) y × (ring y ≡ last))
     ends (inl e) = inl e

@@ -71,9 +71,9 @@ module _ {j : Job} {bytes : List ℕ} {s : ℕ} (Q : Asked j bytes s) {base : �
   some-prior x h o =
       let p = prior-before (fineIn j bytes) d s (Q .shallow) (start-on Q) (not-goal Q) x (into x h) o in
       let near = out-of (p .at) (p .near) in
-      let some = stretched-some fineness 1 (price f (p .at) x) (omega (arith, p .edge .0, p .edge .1)) in
+      let some = stretched-some fineness 1 (price f (p .at) x) (omega arith) in
       let at-price = stretched-move fineness 1 (price f (p .at) x) some in
-      (p .at, record { inside = in-of (p .at) near; move = some; exact = omega (arith, E .costs (p .at) near, E .costs x h, p .exact, p .edge .1, at-price) })
+      (p .at, record { inside = in-of (p .at) near; move = some; exact = omega (arith, E .costs (p .at) near, E .costs x h) })
 
   -- no move leads from s to itself
   moves-none : movesTo j bytes s s ≡ []
@@ -86,8 +86,8 @@ module _ {j : Job} {bytes : List ℕ} {s : ℕ} (Q : Asked j bytes s) {base : �
     fits = omega arith;
     size = l;
     room = omega (arith, E .costs x h, near-cost Q x h);
-    moves = sym (ap (λ r. movesTo j bytes s x ++ r) (drop-of-length-le way {i = mostMoves} (omega (arith, l))) ∙ append-nil (movesTo j bytes s x));
-    low = λ i p. rw (List·getD-eq-default way 0 {n = i} (omega (arith, l))) (omega arith);
+    moves = sym (ap (λ r. movesTo j bytes s x ++ r) (drop-of-length-le way {i = mostMoves} (omega arith)) ∙ append-nil (movesTo j bytes s x));
+    low = λ i p. rw (List·getD-eq-default way 0 {n = i} (omega arith)) (omega arith);
   }
 
   pub collected : {x k cell : ℕ} {way : List ℕ} → cell ≡ s → Collecting j bytes s cost x k cell way → Collected j bytes s x way k
@@ -101,10 +101,10 @@ module _ {j : Job} {bytes : List ℕ} {s : ℕ} (Q : Asked j bytes s) {base : �
   -- copied to the front, they are the route
   pub traced : {x k n : ℕ} {way out out′ : List ℕ} → Collected j bytes s x way k → n ≡ mostMoves - k → out′ ≡ take n (drop k way) ++ drop n out → Traced j bytes s x out out′ n
   traced {x} {k} {n} {way} {out} c e w =
-      let count : n ≡ length (movesTo j bytes s x) = omega (arith, e, c .size, c .fits, ap length (c .moves), length-drop k way) in record {
+      let count : n ≡ length (movesTo j bytes s x) = omega (arith, ap length (c .moves), length-drop k way) in record {
         count = count;
-        written = w ∙ ap (λ l. l ++ drop n out) (take-all n (drop k way) (omega (arith, count, ap length (c .moves))) ∙ sym (c .moves));
-        few = omega (arith, e);
+        written = w ∙ ap (λ l. l ++ drop n out) (take-all n (drop k way) (omega (arith, ap length (c .moves))) ∙ sym (c .moves));
+        few = omega arith;
         moves = λ i. rw (c .moves, getD-drop k way i 0) (c .low (k + i) (omega arith));
       }
 
@@ -114,17 +114,17 @@ module _ {j : Job} {bytes : List ℕ} {s : ℕ} (Q : Asked j bytes s) {base : �
     prior-near = near (b .cell) (P .from .before .inside)
 
     prior-cheap : at cost (b .cell) + fine leastPrice ≤ at cost x
-    prior-cheap = omega (arith, P .from .before .exact, price-low f (b .cell) x (P .from .before .move))
+    prior-cheap = omega (arith, price-low f (b .cell) x (P .from .before .move))
 
     prior-same : priorIn (fineIn j bytes) d s (viewOf (fineIn j bytes) d s) x ≡ b .cell
     prior-same =
         let P′ = P .from .before in
         let at-price = stretched-move fineness 1 (price f (b .cell) x) (P′ .move) in
-        prior-is (fineIn j bytes) d s (Q .shallow) (start-on Q) (not-goal Q) x (b .cell) (into (b .cell) prior-near) (omega (arith, P′ .move, at-price))
-        (omega (arith, P′ .exact, E .costs (b .cell) prior-near, E .costs x (C .near), at-price))
+        prior-is (fineIn j bytes) d s (Q .shallow) (start-on Q) (not-goal Q) x (b .cell) (into (b .cell) prior-near) (omega arith)
+        (omega (arith, E .costs (b .cell) prior-near, E .costs x (C .near)))
         (λ o no p e.
         let some = stretched-some fineness 1 (price f o x) p in
-        P .lowest o (record { inside = in-of o (out-of o no); move = some; exact = omega (arith, e, E .costs o (out-of o no), E .costs x (C .near), stretched-move fineness 1 (price f o x) some) }))
+        P .lowest o (record { inside = in-of o (out-of o no); move = some; exact = omega (arith, E .costs o (out-of o no), E .costs x (C .near), stretched-move fineness 1 (price f o x) some) }))
 
     moves-same : movesTo j bytes s x ≡ movesTo j bytes s (b .cell) ++ b .m ∷ []
     unfolding route
@@ -144,16 +144,16 @@ module _ {j : Job} {bytes : List ℕ} {s : ℕ} (Q : Asked j bytes s) {base : �
     prior-less = omega (arith, prior-cheap)
 
     pub collects-room : 1 ≤ k
-    collects-room = omega (arith, C .room, prior-cheap)
+    collects-room = omega (arith, prior-cheap)
 
     pub collects-more : Collecting j bytes s cost y (k - 1) (b .cell) (set way (k - 1) (b .m))
     collects-more =
-        let t : k - 1 < length way = omega (arith, collects-room, C .size, C .fits) in
+        let t : k - 1 < length way = omega (arith, collects-room) in
         let e : suc (k - 1) ≡ k = omega (arith, collects-room) in record {
           near = prior-near;
-          fits = omega (arith, C .fits);
+          fits = omega arith;
           size = simp length-set (C .size);
-          room = omega (arith, C .room, prior-cheap);
+          room = omega (arith, prior-cheap);
           moves = C .moves ∙ ap (λ i. movesTo j bytes s x ++ drop i way) (sym e) ∙ moves-ahead (k - 1) t;
-          low = λ i p. by-store (λ v. v < 8) way (k - 1) (b .m) i t (λ q. P .from .one) (λ q. C .low i (omega (arith, q)));
+          low = λ i p. by-store (λ v. v < 8) way (k - 1) (b .m) i t (λ q. P .from .one) (λ q. C .low i (omega arith));
         }

@@ -40,13 +40,13 @@ topped-more {best} {k} {v} pos T = record { none = λ l. absurd (omega arith); m
     above : (j : ℕ) → 1 ≤ j → j < k + 1 → Dec (j < k) → getD best j 0 ≤ max v (getD best k 0)
     above j a l (yes h) = omega (arith, T .high j a h)
     above j a l (no h) =
-        let e : j ≡ k = omega (arith, h) in
+        let e : j ≡ k = omega arith in
         omega (arith, ap (λ i. getD best i 0) e)
 
     by : Dec (1 < k) → Dec (v ≤ getD best k 0) → (j : ℕ) × (1 ≤ j) × (j < k + 1) × (getD best j 0 ≡ max v (getD best k 0))
     by d (yes h) = (k, pos, omega arith, omega arith)
-    by (yes d) (no h) = let t = T .met d in (t .0, t .1, omega (arith, t .2), omega (arith, t .3, h))
-    by (no d) (no h) = absurd (omega (arith, h, T .none (omega (arith, d))))
+    by (yes d) (no h) = let t = T .met d in (t .0, t .1, omega arith, omega arith)
+    by (no d) (no h) = absurd (omega (arith, T .none (omega arith)))
 
 -- a value is small, and so is a key
 module _ {base : ℕ} {mark cost table : List ℕ} {p : ℕ} (S : Scores base mark cost table p) (x : ℕ) (i : In base mark x) where
@@ -67,7 +67,7 @@ module _ {base : ℕ} {mark cost table : List ℕ} {p : ℕ} {list : List ℕ} {
     best′ = set best (ringAt base mark c) v
 
     room : ringAt base mark c < length best
-    room = omega (arith, near, B .size)
+    room = omega arith
 
     old : (j : ℕ) → j < i → getD best′ (ringAt base mark (getD list j 0)) 0 ≤ key cost table p (getD list j 0)
     old j l =
@@ -85,8 +85,8 @@ module _ {base : ℕ} {mark cost table : List ℕ} {p : ℕ} {list : List ℕ} {
         by : k ≡ ringAt base mark c → v < unset → Dec (key cost table p c ≤ getD best (ringAt base mark c) 0) → (x : ℕ) × (ringAt base mark x ≡ k) × (key cost table p x ≡ v)
         by q h (yes a) = (c, sym q, omega arith)
         by q h (no a) =
-            let m = B .met (ringAt base mark c) near (omega (arith, h, a)) in
-            (m .0, m .1 ∙ sym q, omega (arith, m .2, a))
+            let m = B .met (ringAt base mark c) near (omega arith) in
+            (m .0, m .1 ∙ sym q, omega arith)
 
     pub bests-more : Bests base mark cost table p list (i + 1) (set best (ringAt base mark c) (min (key cost table p c) (getD best (ringAt base mark c) 0)))
     bests-more =
@@ -102,7 +102,7 @@ module _ {base : ℕ} {mark cost table : List ℕ} {p : ℕ} {list : List ℕ} {
 
     low : (x : ℕ) → ring x ≤ m → getD best (ring x) 0 ≤ key cost table p x
     low x h =
-        let l = L .listed x (ring-in base mark x (omega (arith, h))) in
+        let l = L .listed x (ring-in base mark x (omega arith)) in
         subst (λ y. getD best (ring y) 0 ≤ key cost table p y) (l .2) (B .low (l .0) (l .1))
 
     -- a ring's entry is the key of one of its cells
@@ -115,10 +115,10 @@ module _ {base : ℕ} {mark cost table : List ℕ} {p : ℕ} {list : List ℕ} {
     entry : (k : ℕ) → k ≤ m → Entry k
     entry k h =
         let x = full k h in
-        let i = ring-in base mark (x .0) (omega (arith, x .1)) in
-        let l = subst (λ j. getD best j 0 ≤ key cost table p (x .0)) (x .1) (low (x .0) (omega (arith, x .1))) in
-        let t = B .met k (omega arith) (omega (arith, l, key-lt S (x .0) i)) in
-        record { cell = t .0; on = t .1; small = S .inside (t .0) (ring-in base mark (t .0) (omega (arith, t .1))) .0; is = t .2 }
+        let i = ring-in base mark (x .0) (omega arith) in
+        let l = subst (λ j. getD best j 0 ≤ key cost table p (x .0)) (x .1) (low (x .0) (omega arith)) in
+        let t = B .met k (omega arith) (omega (arith, key-lt S (x .0) i)) in
+        record { cell = t .0; on = t .1; small = S .inside (t .0) (ring-in base mark (t .0) (omega arith)) .0; is = t .2 }
 
     entry-value : (k : ℕ) (h : k ≤ m) → getD best k 0 / 4096 ≡ value cost table p (entry k h .cell)
     entry-value k h = let t = entry k h in ap (λ y. y / 4096) (sym (t .is)) ∙ row-at 4096 (t .cell) (value cost table p (t .cell)) (t .small)
@@ -128,16 +128,16 @@ module _ {base : ℕ} {mark cost table : List ℕ} {p : ℕ} {list : List ℕ} {
 
     -- and no cell of the ring has a lower one
     entry-low : (k : ℕ) (h : k ≤ m) (x : ℕ) → ring x ≡ k → getD best k 0 ≤ key cost table p x
-    entry-low k h x e = subst (λ j. getD best j 0 ≤ key cost table p x) e (low x (omega (arith, e)))
+    entry-low k h x e = subst (λ j. getD best j 0 ≤ key cost table p x) e (low x (omega arith))
 
     small : (x : ℕ) → ring x ≤ m → x < 4096
-    small x h = S .inside x (ring-in base mark x (omega (arith, h))) .0
+    small x h = S .inside x (ring-in base mark x (omega arith)) .0
 
     least : (k : ℕ) → k ≤ m → Least (OnRing p ring (coarseAt cost) (figure table) k) (getD best k 0 / 4096)
     least k h =
         let t = entry k h in record {
           met = (t .cell, t .on, sym (entry-value k h));
-          low = λ u (x, e, f). omega (arith, entry-value k h, entry-low k h x e, t .is, small x (omega (arith, e)));
+          low = λ u (x, e, f). omega (arith, entry-value k h, entry-low k h x e, small x (omega arith));
         }
 
     abbrev target : ℕ
@@ -151,21 +151,21 @@ module _ {base : ℕ} {mark cost table : List ℕ} {p : ℕ} {list : List ℕ} {
           best = λ k. getD best k 0 / 4096;
           bests = λ k a h. least k h;
           greatest = record {
-            met = (g .0, g .1, omega (arith, g .2), ap (λ y. y / 4096) (g .3));
+            met = (g .0, g .1, omega arith, ap (λ y. y / 4096) (g .3));
             high = λ u (k, a, h, e).
                 let s = entry k h in
-                let w = entry (g .0) (omega (arith, g .2)) in
-                omega (arith, e, entry-value k h, s .is, s .small, T .high k a (omega arith), g .3, w .is, w .small, ap (λ y. y / 4096) (g .3), entry-value (g .0) (omega (arith, g .2)));
+                let w = entry (g .0) (omega arith) in
+                omega (arith, entry-value k h, T .high k a (omega arith), ap (λ y. y / 4096) (g .3), entry-value (g .0) (omega arith));
           };
           on-last = ap ring c ∙ t .on;
           chosen = ap (value cost table p) c ∙ sym (entry-value m (omega arith));
-          lowest = λ x e f. omega (arith, c, entry-low m (omega arith) x e, t .is, f, entry-value m (omega arith));
+          lowest = λ x e f. omega (arith, entry-low m (omega arith) x e, entry-value m (omega arith));
         }
 
     -- the new figure is small
     pub weighed-high : 1 ≤ m → (top : ℕ) → Topped best (m + 1) top → top / 4096 ≤ highestNew
     weighed-high some top T =
         let g = T .met (omega arith) in
-        let h : g .0 ≤ m = omega (arith, g .2) in
+        let h : g .0 ≤ m = omega arith in
         let t = entry (g .0) h in
-        omega (arith, ap (λ y. y / 4096) (g .3), entry-value (g .0) h, value-lt S (t .cell) (ring-in base mark (t .cell) (omega (arith, t .on))))
+        omega (arith, ap (λ y. y / 4096) (g .3), entry-value (g .0) h, value-lt S (t .cell) (ring-in base mark (t .cell) (omega arith)))
