@@ -22,7 +22,7 @@ use Rattle.floor.specs.declared.Step.{Step}
 use Rattle.floor.specs.declared.Step.the-variants.{To, Wall}
 use Rattle.floor.specs.Moves.{stepOf}
 use Rattle.floor.proofs.Steps.{Stepped, stepped, wall≢to, same-to}
-use Rattle.lookahead.specs.Marks.{net, State, state, entered, markOf, costAt, cellOf, noteAt, In, Sizes, Room, Spread, Kept, Grew, Reached, Leaving, Extended, Left, Swept, Out}
+use Rattle.lookahead.specs.Marks.{net, State, state, entered, markOf, costAt, cellOf, noteAt, In, Sizes, Room, Spread, Kept, Grew, Reached, Leaving, Extended, Left, Open, Segment, Swept, Out}
 use Rattle.lookahead.proofs.Blanks.{blanks-pos, blanks-set}
 use Rattle.lookahead.proofs.Stores.{by-store}
 
@@ -349,6 +349,15 @@ module _ {f : Floor} {base k c w : ℕ} (i : ℕ) {A B : State} (L : Left f base
       upto = G .upto;
     };
   }
+
+-- the cell at a place of the segment is the one that stood there at the start
+pub swept-open : {f : Floor} {base k from to i c : ℕ} {A B : State} → Room f base A → Segment base from to k A → Swept f base k from i A B
+    → from ≤ i → i < to → c ≡ cellOf B i → Open f base c k (costAt B c) B
+swept-open {base = base} {k = k} {i = i} {c = c} {A = A} R G W l h e =
+    let same = sym (W .grew .kept .cells i (omega (arith, G .end))) ∙ sym e in
+    let own : markOf A c ≡ k = rw same at (G .marked i l h) in
+    let p : In base (A .mark) c = omega (arith, G .ring .first) in
+    record { free = R .free c p; ring = G .ring; marked = W .grew .kept .marks c p ∙ own; costs = refl }
 
 -- no cell yet, and one cell more
 pub swept-none : {f : Floor} {base k from : ℕ} {S : State} → Room f base S → Swept f base k from from S S

@@ -16,12 +16,9 @@ same-test a b c d to from = by (ℕ-discrete a b)
 
 -- a mark is that of the last ring just where the ring is the last
 module _ {j : Job} {bytes : List ℕ} {s base : ℕ} {mark cost : List ℕ} (E : Seen j bytes s base mark cost) {last : ℕ} (l : last ≡ seen j bytes s .last) (x : ℕ) where
-  to-ring : getD mark x 0 ≡ base + last → ring j bytes (seen j bytes s) x ≡ seen j bytes s .last
-  to-ring e = by (decLe (ring j bytes (seen j bytes s) x) (seen j bytes s .last))
-    where
-      by : Dec (Near j bytes s x) → ring j bytes (seen j bytes s) x ≡ seen j bytes s .last
-      by (yes h) = omega (arith, E .marks x h)
-      by (no h) = absurd (omega (arith, E .none x (omega arith)))
+  to-ring : Dec (Near j bytes s x) → getD mark x 0 ≡ base + last → ring j bytes (seen j bytes s) x ≡ seen j bytes s .last
+  to-ring (yes h) e = omega (arith, E .marks x h)
+  to-ring (no h) e = absurd (omega (arith, E .none x (omega arith)))
 
   to-mark : ring j bytes (seen j bytes s) x ≡ seen j bytes s .last → getD mark x 0 ≡ base + last
   to-mark e = omega (arith, E .marks x (omega arith))
@@ -29,7 +26,7 @@ module _ {j : Job} {bytes : List ℕ} {s base : ℕ} {mark cost : List ℕ} (E :
 returns : tie.Need-returns
 returns c =
     let p = c .before .before .before .before .before .before .pre in
-    rw (c .before .wide32 .ensures .0, c .wide322 .ensures .0) (same-test _ _ _ _ (to-ring (p .0) (p .1 .0) _) (to-mark (p .0) (p .1 .0) _))
+    rw (c .before .wide32 .ensures .0, c .wide322 .ensures .0) (same-test _ _ _ _ (to-ring (p .0) (p .1 .0) _ (decLe _ _)) (to-mark (p .0) (p .1 .0) _))
 
 pub on-last-spec : {M : Type 1} → f.Statement.statement M
 on-last-spec = tie.close (tie.spec (λ c. search needs) (λ c. search needs) (λ c κs. search needs) (λ c κs. search needs) (λ c. search needs) returns)

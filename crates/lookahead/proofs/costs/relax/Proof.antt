@@ -21,12 +21,6 @@ Inv-loop width height floor base mark cost₀ list₀ n high cost list =
 abbrev μ-loop : tie.MeasureT-loop
 μ-loop width height floor base mark cost₀ list₀ n high cost list = total cost
 
--- from a place to one before it
-abbrev to-start : tie.At-loop Inv-loop μ-loop → tie.Start Inv-loop μ-loop
-to-start c =
-    let after-shared-slice-known2 = c .before .before .before .before .before .before in
-    after-shared-slice-known2 .before .before
-
 loop-again : tie.Need-loop-again Inv-loop μ-loop
 loop-again c =
     let after-pass = c .before .before .before .before .before in
@@ -38,5 +32,5 @@ loop-again c =
 pub relax-spec : {M : Type 1} → f.Statement.statement M
 relax-spec =
     tie.close (tie.spec Inv-loop μ-loop (λ c κs. let p = c .before .before .before .before .before .before .pre in (search needs, (search needs, λ x h. free-few _ x (p .0) (p .1 .0 .free x h))))
-    (λ c. search needs) (λ c κs. let i = c .before .before .loop .inv in (to-start (c .before .before) .pre .0, (i .0, (i .3, (i .4, i .5))))) (λ c. search (needs, turned)) loop-again
-    (λ c. omega arith) (λ c. omega arith) (λ c. search (needs, relaxed)))
+    (λ c. search needs) (λ c κs. let i = c .before .before .loop .inv in (search needs, (i .0, (i .3, (i .4, i .5))))) (λ c. search (needs, turned)) loop-again (λ c. omega arith) (λ c. omega arith)
+    (λ c. search (needs, relaxed)))

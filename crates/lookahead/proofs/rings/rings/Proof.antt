@@ -15,16 +15,12 @@ Inv-loop width height floor s goals depth base mark₀ cost₀ list₀ from₀ t
 abbrev μ-loop : tie.MeasureT-loop
 μ-loop width height floor s goals depth base mark₀ cost₀ list₀ from₀ to₀ r₀ k₀ mark cost list from to r k = depth - r
 
--- the call's start, from where s is marked and from the loop
-abbrev to-start : tie.After-begin Inv-loop μ-loop → tie.Start Inv-loop μ-loop
-to-start c =
-    let begin-arg = c .before .before .before .before in
-    begin-arg .before .before .before .before
-
+-- the call's start, from the loop
 abbrev start : tie.At-loop Inv-loop μ-loop → tie.Start Inv-loop μ-loop
 start c =
     let after-mark = c .before .before .before .before .before .before in
-    to-start (after-mark .before)
+    let begin-arg = after-mark .before .before .before .before .before in
+    begin-arg .before .before .before .before
 
 -- the ring's marking, from where its lists are known; and the loop before it
 abbrev marking : tie.After-list2 Inv-loop μ-loop → tie.After-spread Inv-loop μ-loop

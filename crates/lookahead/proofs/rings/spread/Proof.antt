@@ -1,9 +1,9 @@
 -- `lookahead::rings::spread` meets its contract. The loop's invariant: the cells at the places from `from` to i are left.
-use Rattle.learning.proofs.Words.{_-_, _≤_, _≡_, refl, sym, _∙_, arith, needs, getD}
+use Rattle.learning.proofs.Words.{_-_, _≤_, _≡_, arith, needs}
 use Rattle.model.proofs.Moves.{free-few}
 use Rattle.floor.specs.Moves.{flat}
-use Rattle.lookahead.proofs.Grow.{swept-none, swept-more}
-use Rattle.lookahead.specs.Marks.{state, In, Swept}
+use Rattle.lookahead.proofs.Grow.{swept-open, swept-none, swept-more}
+use Rattle.lookahead.specs.Marks.{state, Swept}
 use Rattle.lookahead.proofs.rings.spread as f
 use f.Tie as tie
 
@@ -21,26 +21,18 @@ to-start c = c .before .before .before .before .before
 abbrev to-loop : tie.After-wide16 Inv-loop μ-loop → tie.At-loop Inv-loop μ-loop
 to-loop c = c .before .before .before
 
--- the cell at i is the one that stood there at the start, and has the mark k
-marked : (c : tie.After-wide16 Inv-loop μ-loop) → let a = to-start (to-loop c) .args in getD (a .mark .now) (c .wide16 .result) 0 ≡ a .k
-marked c =
-    let l = to-loop c .loop in
-    let same = sym (l .inv .2 .grew .kept .cells (l .i) (omega arith)) ∙ sym (c .wide16 .ensures .0) in
-    rw same at (to-start (to-loop c) .pre .1 .1 .marked (l .i) (l .inv .1) (omega arith))
-
 slice-read-w : tie.Need-slice-read-w Inv-loop μ-loop
 slice-read-w c =
-    let p = to-start (to-loop (c .before)) .pre in
-    omega (arith, free-few _ _ (p .0) (p .1 .0 .free (c .before .wide16 .result) (omega (arith, marked (c .before)))))
+    let l = to-loop (c .before) in
+    let p = to-start l .pre in
+    omega (arith, free-few _ _ (p .0) (swept-open (p .1 .0) (p .1 .1) (l .loop .inv .2) (l .loop .inv .1) (omega arith) (c .before .wide16 .ensures .0) .free))
 
 visit-requires : tie.Need-visit-requires Inv-loop μ-loop
 visit-requires c κs =
     let cell = c .before .before .before .before in
-    let q = to-start (to-loop cell) .pre in
-    let g = to-loop cell .loop .inv .2 .grew in
-    let x = cell .wide16 .result in
-    let p : In (to-start (to-loop cell) .args .base) (to-start (to-loop cell) .args .mark .now) x = omega (arith, marked cell) in
-    (q .0, (g .room, record { free = q .1 .0 .free x p; ring = q .1 .1 .ring; marked = g .kept .marks x p ∙ marked cell; costs = refl }))
+    let l = to-loop cell in
+    let p = to-start l .pre .1 in
+    (search needs, (search needs, swept-open (p .0) (p .1) (l .loop .inv .2) (l .loop .inv .1) (omega arith) (cell .wide16 .ensures .0)))
 
 loop-again : tie.Need-loop-again Inv-loop μ-loop
 loop-again c =
