@@ -122,9 +122,9 @@ module _ {j : Job} {bytes : List ℕ} {s : ℕ} (Q : Asked j bytes s) {base : �
         let at-price = stretched-move fineness 1 (price f (b .cell) x) (P′ .move) in
         prior-is (fineIn j bytes) d s (Q .shallow) (start-on Q) (not-goal Q) x (b .cell) (into (b .cell) prior-near) (omega arith)
         (omega (arith, E .costs (b .cell) prior-near, E .costs x (C .near)))
-        (λ o no p e.
-        let some = stretched-some fineness 1 (price f o x) p in
-        P .lowest o (record { inside = in-of o (out-of o no); move = some; exact = omega (arith, E .costs o (out-of o no), E .costs x (C .near), stretched-move fineness 1 (price f o x) some) }))
+        (λ y ny p e.
+        let some = stretched-some fineness 1 (price f y x) p in
+        P .lowest y (record { inside = in-of y (out-of y ny); move = some; exact = omega (arith, E .costs y (out-of y ny), E .costs x (C .near), stretched-move fineness 1 (price f y x) some) }))
 
     moves-same : movesTo j bytes s x ≡ movesTo j bytes s (b .cell) ++ b .m ∷ []
     unfolding route
