@@ -219,13 +219,13 @@ module _
           upto = omega arith;
         }
 
-      pub grown-grew : Grew f base k S (grown k d (w + fine v) S)
+      grown-grew : Grew f base k S (grown k d u S)
       grown-grew = record { room = grown-room; kept = grown-kept; spread = grown-spread }
 
-      pub grown-out : In base (set (S .mark) d (k + 1)) d × (getD (set (S .cost) d (w + fine v)) d 0 ≤ w + fine v)
+      grown-out : In base mark′ d × (costAt (grown k d u S) d ≤ u)
       grown-out = (rw mark-new (omega arith), omega (arith, cost-new))
 
-      pub grown-stays : getD (set (S .cost) d (w + fine v)) c 0 ≡ w
+      grown-stays : costAt (grown k d u S) c ≡ w
       grown-stays = costs-kept c from-in ∙ C .costs
 
     -- d has one, and its cost is lowered
@@ -250,17 +250,17 @@ module _
           (λ e p. let g = G .costs c from-in in rw e (suc (g .0), restate (omega arith) refl (move to-in (edge-back M) (g .1))))
           (λ n p. G .costs x p)
 
-      pub lower-grew : Grew f base k S (state (S .mark) (set (S .cost) d (w + fine v)) (S .list) (S .n))
+      lower-grew : Grew f base k S L
       lower-grew = record {
         room = lower-room;
         kept = record { marks = λ x p. refl; costs = λ x p. falls x; cells = λ i p. refl; grows = omega arith };
         spread = λ s to G. record { top = G .top; walks = G .walks; costs = lower-costs s to G; listed = G .listed; early = G .early; late = G .late; upto = G .upto };
       }
 
-      pub lower-out : getD (set (S .cost) d (w + fine v)) d 0 ≤ w + fine v
+      lower-out : costAt L d ≤ u
       lower-out = omega (arith, getD-set-same (S .cost) d u 0 inside-cost)
 
-      pub lower-stays : getD (set (S .cost) d (w + fine v)) c 0 ≡ w
+      lower-stays : costAt L c ≡ w
       lower-stays = by-store (λ y. y ≡ w) (S .cost) d u c inside-cost (λ e. absurd (omega (arith, ap (costAt S) e))) (λ n. C .costs)
 
     -- the cell moved into is reached at what the move adds
@@ -330,7 +330,7 @@ module _ {f : Floor} {base k c w : ℕ} (i : ℕ) {A B : State} (L : Left f base
       (λ q. let t : j ≡ i = omega arith in inr (L .out m lm d v (subst (λ y. stepOf f y m ≡ To d v) (ap (cellOf B) t ∙ here) s)))
       (λ q. R .notes j p m d v lm s)
 
-  pub noted-grew : Grew f base k B (state (B .mark) (B .cost) (set (B .list) (i + 4096) w) (B .n))
+  noted-grew : Grew f base k B N
   noted-grew = record {
     room = record {
       sizes = record { marks = R .sizes .marks; costs = R .sizes .costs; cells = simp length-set (R .sizes .cells); count = R .sizes .count };

@@ -58,7 +58,7 @@ module _ {base : ℕ} {mark cost table : List ℕ} {p : ℕ} (S : Scores base ma
 
 -- one cell more is entered
 module _ {base : ℕ} {mark cost table : List ℕ} {p : ℕ} {list : List ℕ} {i c : ℕ} {best : List ℕ}
-    (e : getD list i 0 ≡ c) (near : ringAt base mark c ≤ deepest) (B : Bests base mark cost table p list i best)
+    (e : c ≡ getD list i 0) (near : ringAt base mark c ≤ deepest) (B : Bests base mark cost table p list i best)
   where
     abbrev v : ℕ
     v = min (key cost table p c) (getD best (ringAt base mark c) 0)
@@ -75,7 +75,7 @@ module _ {base : ℕ} {mark cost table : List ℕ} {p : ℕ} {list : List ℕ} {
         (λ q. omega (arith, B .low j l, ap (λ k. getD best k 0) q)) (λ n. B .low j l)
 
     new : getD best′ (ringAt base mark (getD list i 0)) 0 ≤ key cost table p (getD list i 0)
-    new = rw (e, getD-set-same best (ringAt base mark c) v 0 room) (omega arith)
+    new = rw (← e, getD-set-same best (ringAt base mark c) v 0 room) (omega arith)
 
     met′ : (k : ℕ) → k ≤ deepest → getD best′ k 0 < unset → (x : ℕ) × (ringAt base mark x ≡ k) × (key cost table p x ≡ getD best′ k 0)
     met′ k l =

@@ -13,14 +13,10 @@ Inv-loop job floor s base mark cost x way₀ cell₀ k₀ way cell k =
 abbrev μ-loop : tie.MeasureT-loop
 μ-loop job floor s base mark cost x way₀ cell₀ k₀ way cell k = at cost cell
 
-abbrev start : tie.At-loop Inv-loop μ-loop → tie.Start Inv-loop μ-loop
-start c = c .before .before .before .before .before
-
 back-requires : tie.Need-back-requires Inv-loop μ-loop
 back-requires c κs =
-    let p = start (c .before) .pre in
-    let near = c .before .loop .inv .near in
-    (p .0 .sized, (costs-of (p .0) (p .1 .0), (in-of (p .0) (p .1 .0) _ near, some-prior (p .0) (p .1 .0) _ near (c .loop-test .taken))))
+    let p = c .before .before .before .before .before .before .pre in
+    (search needs, (search (needs, costs-of), (search (needs, in-of), some-prior (p .0) (p .1 .0) _ (c .before .loop .inv .near) (c .loop-test .taken))))
 
 pub collect-spec : {M : Type 1} → f.Statement.statement M
 collect-spec =
