@@ -79,6 +79,17 @@ module _
     least : Walked f s base mark cost → (x : ℕ) → In base mark x → Least (Leads (net f) (In base mark) x s) (at cost x)
     least W x i = record { met = W x i; low = λ k v. omega (arith, low (v .1), start) }
 
+-- passes one after another over the list's n cells, from the costs A to the costs B
+pub record Falling (f : Floor) (base : ℕ) (mark : List ℕ) (n high : ℕ) (A B list : List ℕ) : Type 0 where
+  -- they are still those of walks, and none has risen, here or above the highest
+  pub costs : Costs f base mark B
+  pub walked : (s : ℕ) → Walked f s base mark A → Walked f s base mark B
+  pub drop : (x : ℕ) → at B x ≤ at A x
+  pub top : Topmost base mark B high
+  -- the list says at which cost each cell's moves were followed
+  pub listing : Listing base mark list n
+  pub noted : Noted f base mark list n B
+
 module _ {f : Floor} {base : ℕ} {mark : List ℕ} where
   -- nothing is lowered
   pub lowered-none : {P : List ℕ → Type 0} {cost : List ℕ} {b : Bool} → Costs f base mark cost → P cost → Lowered f base mark P cost b cost b
@@ -174,15 +185,7 @@ module _ {f : Floor} {base : ℕ} {mark : List ℕ} where
     again-eased {A} p = record {
       note = at A c;
       noted = refl;
-      lowered = record {
-        costs = p .costs;
-        walked = p .walked;
-        drop = p .drop;
-        down = p .down;
-        less = p .less;
-        same = p .same;
-        so = rw (← here) (p .so .1);
-      };
+      lowered = lowered-more p (lowered-none {P = Easing f base mark c 8 (at A c)} (p .costs) (p .so)) (λ t u. rw (← here) (u .1));
       calm = λ z. rw (← here) (omega arith);
     }
 
@@ -214,14 +217,26 @@ module _ {f : Floor} {base : ℕ} {mark : List ℕ} where
             note-calm i (q .note) (p .listing) l A (p .calm (y .0)) (subst (λ c. q .note ≤ at c (getD list i 0)) (x .1) (q .calm z));
       })
 
-  -- the last pass lowers nothing, so every cost is the least
-  pub relaxed : {n : ℕ} {A B Z list : List ℕ} {b : Bool} → Sized f
-      → ((s : ℕ) → Walked f s base mark A → Walked f s base mark B) → ((x : ℕ) → at B x ≤ at A x)
-      → Passed f base mark n n B Z list b → b ≡ false → Relaxed f base mark n A Z list
-  relaxed {Z = Z} {list = list} z walk drop p none = record {
+  -- one pass more
+  pub falling-more : {n high : ℕ} {A B C list list′ : List ℕ} {b : Bool} → Falling f base mark n high A B list → Passed f base mark n n B C list′ b
+      → Falling f base mark n high A C list′
+  falling-more p q =
+      let e = q .lowered in record {
+        costs = e .costs;
+        walked = λ s W. e .walked s (p .walked s W);
+        drop = λ x. omega (arith, e .drop x, p .drop x);
+        top = λ x h. omega (arith, e .drop x, p .top x h);
+        listing = q .listing;
+        noted = e .so;
+      }
+
+  -- the last lowers nothing, so every cost is the least
+  pub relaxed : {n high : ℕ} {A B Z list list′ : List ℕ} {b : Bool} → Sized f → Falling f base mark n high A B list → Passed f base mark n n B Z list′ b → b ≡ false
+      → Relaxed f base mark n A Z list′
+  relaxed {Z = Z} {list′ = list} z F p none = record {
     costs = p .lowered .costs;
     listing = p .listing;
-    least = λ s W e. least f z base mark Z s (omega (arith, p .lowered .drop s, drop s)) tight (p .lowered .walked s (walk s W));
+    least = λ s W e. least f z base mark Z s (omega (arith, p .lowered .drop s, F .drop s)) tight (p .lowered .walked s (F .walked s W));
   }
     where
       tight : (x : ℕ) → In base mark x → Followed f base mark x 8 (at Z x) Z
