@@ -13,7 +13,7 @@ Inv-loop width height floor base mark cost₀ list₀ n high any₀ i₀ cost li
 abbrev μ-loop : tie.MeasureT-loop
 μ-loop width height floor base mark cost₀ list₀ n high any₀ i₀ cost list any i = n - i
 
--- from a place to one before it
+-- the call's start, from the loop
 abbrev to-start : tie.At-loop Inv-loop μ-loop → tie.Start Inv-loop μ-loop
 to-start c = c .before .before .before .before .before
 
