@@ -43,7 +43,7 @@ module _ {j : Job} {bytes : List ℕ} {s : ℕ} (Q : Asked j bytes s) {table : L
     last-eq = W .last-is
 
     Y : Window (netOf G) (Goal G) (j .depth) s last (ringAt base mark) (coarseAt cost)
-    Y = subst (λ m. Window (netOf G) (Goal G) (j .depth) s m (ringAt base mark) (coarseAt cost)) (sym last-eq) (seen-coarse Q (W .view))
+    Y = rw last-eq (seen-coarse Q (W .view))
 
     near : (x : ℕ) → In base mark x → Near j bytes s x
     near = near-of Q (W .view)

@@ -168,7 +168,7 @@ module _
           by (yes p) =
               rw (entered-note (S .list) (S .n) d (R .sizes .cells) space i p)
               (⊎-elim inl (λ q. inr (stays-in x (q .0), omega (arith, costs-kept x (q .0))))
-              (R .notes i p j x y lj (subst (λ o. stepOf f o j ≡ To x y) (cells-kept i p) e)))
+              (R .notes i p j x y lj (rw (cells-kept i p) at e)))
           by (no p) = let q : i ≡ S .n = omega arith in inl (rw q (entered-blank (S .list) (S .n) d (R .sizes .cells) space))
 
       grown-room : Room f base (grown k d u S)
@@ -272,7 +272,7 @@ module _
       extends : {T : State} → Grew f base k S T → In base (T .mark) d × (costAt T d ≤ w + fine v) → costAt T c ≡ w → Extended f base k c m w S T
       extends {T} G o e = record {
         grew = G;
-        out = λ x y q. let t = same-to (sym (M .step) ∙ q) in (subst (In base (T .mark)) (t .0) (o .0), omega (arith, ap (costAt T) (t .0)));
+        out = λ x y q. let t = same-to (sym (M .step) ∙ q) in (rw (t .0) at (o .0), omega (arith, ap (costAt T) (t .0)));
         stays = e;
       }
 
@@ -325,9 +325,9 @@ module _ {f : Floor} {base k c w : ℕ} (i : ℕ) {A B : State} (L : Left f base
   noted-notes : (j : ℕ) → j < B .n → (m d v : ℕ) → m < 8 → stepOf f (cellOf N j) m ≡ To d v
       → (noteAt (N .list) j ≡ 65535) ⊎ (In base (B .mark) d × (costAt B d ≤ noteAt (N .list) j + fine v))
   noted-notes j p m d v lm e =
-      let s = subst (λ y. stepOf f y m ≡ To d v) (cells j p) e in
+      let s = rw (cells j p) at e in
       by-store (λ y. (y ≡ 65535) ⊎ (In base (B .mark) d × (costAt B d ≤ y + fine v))) (B .list) (i + 4096) w (j + 4096) (omega (arith, R .sizes .cells, short))
-      (λ q. let t : j ≡ i = omega arith in inr (L .out m lm d v (subst (λ y. stepOf f y m ≡ To d v) (ap (cellOf B) t ∙ here) s)))
+      (λ q. let t : j ≡ i = omega arith in inr (L .out m lm d v (rw (ap (cellOf B) t ∙ here) at s)))
       (λ q. R .notes j p m d v lm s)
 
   noted-grew : Grew f base k B N

@@ -134,7 +134,7 @@ module _ {f : Floor} {s base k from : ℕ} {S : State} (L : Level f s base k fro
         go (l .0) (l .1) (l .2) (decLt (l .0) (S .n))
       where
         go : (i : ℕ) → i < S′ .n → cellOf S′ i ≡ x → Dec (i < S .n) → In base (S .mark) x
-        go i a e (yes b) = subst (In base (S .mark)) (sym (K .cells i b) ∙ e) (L .spread .early i b)
+        go i a e (yes b) = rw (sym (K .cells i b) ∙ e) at (L .spread .early i b)
         go i a e (no b) = absurd (omega (arith, next-spread .late i a (omega arith), ap (markOf S′) e))
 
     next-done : Done f base (k + 1) S′
@@ -153,7 +153,7 @@ module _ {f : Floor} {s base k from : ℕ} {S : State} (L : Level f s base k fro
         split (no b) =
             let l = L .spread .listed x px in
             let t : markOf S x ≡ k = omega (arith, same) in
-            let o = W .outs (l .0) (l .3 t) (l .1) m hm d v (subst (λ y. stepOf f y m ≡ To d v) (sym (l .2)) e) in
+            let o = W .outs (l .0) (l .3 t) (l .1) m hm d v (rw (l .2) e) in
             (o, omega (arith, next-spread .top d, same))
 
     level-next : Level f s base (k + 1) (S .n) S′
@@ -228,7 +228,7 @@ module _ {f : Floor} {s : ℕ} {gs : List ℕ} {base r k from : ℕ} {S : State}
     some = omega arith;
     ends = inl d;
     nearer = λ g m i. absurd (omega (arith, R .far g m));
-    full = subst (λ y. Full base y S) (R .mark) (R .full);
+    full = rw (R .mark) at (R .full);
   }
 
   module _ {S′ : State} (W : Swept f base k from (S .n) S S′) where

@@ -34,12 +34,12 @@ module _ {f : Floor} {base : ℕ} {mark cost : List ℕ} {x : ℕ} where
 
     module _ {y v : ℕ} (M : Moved f x j y v) where
       pub led-out : getD mark y 0 < base → Led f base mark cost x j b
-      led-out h = led-nowhere (λ y′ v′ t B. omega (arith, subst (λ k. getD mark k 0 < base) (same-to (sym (M .step) ∙ t) .0) h))
+      led-out h = led-nowhere (λ y′ v′ t B. omega (arith, rw (same-to (sym (M .step) ∙ t) .0) at h))
 
       -- by what the move adds
       pub led-slack : {a : ℕ} → a ≡ fine v → (at cost y + a ≡ at cost x → ⊥) → Led f base mark cost x j b
       led-slack adds n = led-nowhere (λ y′ v′ t B.
-          let here = subst (Before f base mark cost x) (sym (same-to (sym (M .step) ∙ t) .0)) B in
+          let here = rw (sym (same-to (sym (M .step) ∙ t) .0)) at B in
           n (omega (arith, price-back M .1)))
 
   pub led-new : {j y v a : ℕ} → Sized f → j < 8 → Moved f x j y v → In base mark y → a ≡ fine v → at cost y + a ≡ at cost x

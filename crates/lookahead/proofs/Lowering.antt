@@ -81,7 +81,7 @@ module _
 
 -- passes one after another over the list's n cells, from the costs A to the costs B
 pub record Falling (f : Floor) (base : ℕ) (mark : List ℕ) (n high : ℕ) (A B list : List ℕ) : Type 0 where
-  -- they are still those of walks, and none has risen, here or above the highest
+  -- they are still those of walks, none has risen, and none is above the highest
   pub costs : Costs f base mark B
   pub walked : (s : ℕ) → Walked f s base mark A → Walked f s base mark B
   pub drop : (x : ℕ) → at B x ≤ at A x
@@ -129,7 +129,7 @@ module _ {f : Floor} {base : ℕ} {mark : List ℕ} where
 
   module _ {cost : List ℕ} {c m d v w : ℕ} (C : Costs f base mark cost) (own : at cost c ≡ w) (M : Moved f c m d v) where
     pub eased-out : {b : Bool} → getD mark d 0 < base → Lowered f base mark (Eased f base mark c m w) cost b cost b
-    eased-out e = lowered-none C (own, λ x u s i. absurd (omega (arith, subst (In base mark) (sym (same-to (sym (M .step) ∙ s) .0)) i)))
+    eased-out e = lowered-none C (own, λ x u s i. absurd (omega (arith, rw (sym (same-to (sym (M .step) ∙ s) .0)) at i)))
 
     -- the cell moved into is lowered, or need not be
     module _ (from : In base mark c) (to : In base mark d) where
@@ -214,7 +214,7 @@ module _ {f : Floor} {base : ℕ} {mark : List ℕ} where
         calm = λ z.
             let y = q .lowered .same z in
             let x = p .lowered .same (y .0) in
-            note-calm i (q .note) (p .listing) l A (p .calm (y .0)) (subst (λ c. q .note ≤ at c (getD list i 0)) (x .1) (q .calm z));
+            note-calm i (q .note) (p .listing) l A (p .calm (y .0)) (rw (x .1) at (q .calm z));
       })
 
   -- one pass more
@@ -242,6 +242,5 @@ module _ {f : Floor} {base : ℕ} {mark : List ℕ} where
       tight : (x : ℕ) → In base mark x → Followed f base mark x 8 (at Z x) Z
       tight x h m l d v s t =
           let k = p .listing .listed x h in
-          let c : noteAt list (k .0) ≤ at Z x = subst (λ y. noteAt list (k .0) ≤ at Z y) (k .2)
-          (subst (λ y. noteAt list (k .0) ≤ at y (getD list (k .0) 0)) (sym (p .lowered .same none .1)) (p .calm none (k .0) (k .1))) in
-          omega (arith, p .lowered .so (k .0) (k .1) m l d v (subst (λ y. stepOf f y m ≡ To d v) (sym (k .2)) s) t)
+          let c : noteAt list (k .0) ≤ at Z x = rw (sym (p .lowered .same none .1), k .2) at (p .calm none (k .0) (k .1)) in
+          omega (arith, p .lowered .so (k .0) (k .1) m l d v (rw (k .2) s) t)

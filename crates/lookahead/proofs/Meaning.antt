@@ -102,7 +102,7 @@ module _ {j : Job} {bytes : List ℕ} {s : ℕ} (Q : Asked j bytes s) where
     last-same = last-unique W job-window
 
     Y : Window (netOf (fineIn j bytes)) (Goal G) d s (lastOf G d s) (ringAt base mark) (at cost)
-    Y = subst (λ m. Window (netOf (fineIn j bytes)) (Goal G) d s m (ringAt base mark) (at cost)) last-same W
+    Y = rw last-same at W
 
     near-mark : (x : ℕ) → ringOf G d s x ≤ lastOf G d s → getD mark x 0 ≡ base + ringOf G d s x
     near-mark x h = omega (arith, ring-unique job-window Y x h, job-window .depth)

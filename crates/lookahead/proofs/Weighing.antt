@@ -103,7 +103,7 @@ module _ {base : ℕ} {mark cost table : List ℕ} {p : ℕ} {list : List ℕ} {
     low : (x : ℕ) → ring x ≤ m → getD best (ring x) 0 ≤ key cost table p x
     low x h =
         let l = L .listed x (ring-in base mark x (omega arith)) in
-        subst (λ y. getD best (ring y) 0 ≤ key cost table p y) (l .2) (B .low (l .0) (l .1))
+        rw (l .2) at (B .low (l .0) (l .1))
 
     -- a ring's entry is the key of one of its cells
     record Entry (k : ℕ) : Type 0 where
@@ -116,7 +116,7 @@ module _ {base : ℕ} {mark cost table : List ℕ} {p : ℕ} {list : List ℕ} {
     entry k h =
         let x = full k h in
         let i = ring-in base mark (x .0) (omega arith) in
-        let l = subst (λ j. getD best j 0 ≤ key cost table p (x .0)) (x .1) (low (x .0) (omega arith)) in
+        let l = rw (x .1) at (low (x .0) (omega arith)) in
         let t = B .met k (omega arith) (omega (arith, key-lt S (x .0) i)) in
         record { cell = t .0; on = t .1; small = S .inside (t .0) (ring-in base mark (t .0) (omega arith)) .0; is = t .2 }
 
@@ -128,7 +128,7 @@ module _ {base : ℕ} {mark cost table : List ℕ} {p : ℕ} {list : List ℕ} {
 
     -- and no cell of the ring has a lower one
     entry-low : (k : ℕ) (h : k ≤ m) (x : ℕ) → ring x ≡ k → getD best k 0 ≤ key cost table p x
-    entry-low k h x e = subst (λ j. getD best j 0 ≤ key cost table p x) e (low x (omega arith))
+    entry-low k h x e = rw e at (low x (omega arith))
 
     small : (x : ℕ) → ring x ≤ m → x < 4096
     small x h = S .inside x (ring-in base mark x (omega arith)) .0
