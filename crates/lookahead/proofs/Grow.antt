@@ -1,7 +1,7 @@
 -- One cell more gets a mark, or one cost is lowered, or a cost is noted: what was marked stays, and the walk of the cell that is reached is
 -- one move longer than that of the cell it is reached from.
 -- Assumes nothing.
-use mathlib.Core.Path.{_≡_, refl, ap, sym, _∙_, subst}
+use mathlib.Core.Path.{_≡_, refl, ap, sym, _∙_}
 use mathlib.Core.List.{List}
 use mathlib.Core.Bool.{true}
 use mathlib.Core.Logic.{_⊎_, inl, inr, ⊎-elim}
@@ -301,10 +301,9 @@ pub left-none : {f : Floor} {base k c w : ℕ} {S : State} → Room f base S →
 left-none R own = record { grew = grew-refl R; out = λ i l d v e. absurd (omega arith); stays = own }
 
 pub left-more : {f : Floor} {base k c m w : ℕ} {A B C : State} → Left f base k c m w A B → Extended f base k c m w B C → Left f base k c (m + 1) w A C
-left-more {f} {base} {c = c} {m = m} {w = w} {C = C} p q = record {
+left-more p q = record {
   grew = grew-trans (p .grew) (q .grew);
-  out = below-more (λ i. (d v : ℕ) → stepOf f c i ≡ To d v → In base (C .mark) d × (costAt C d ≤ w + fine v)) m
-      (λ i l d v e. let o = p .out i l d v e in (kept-in (q .grew .kept) d (o .0), omega (arith, q .grew .kept .costs d (o .0)))) (q .out);
+  out = below-more _ _ (λ i l d v e. let o = p .out i l d v e in (kept-in (q .grew .kept) d (o .0), omega (arith, q .grew .kept .costs d (o .0)))) (q .out);
   stays = q .stays;
 }
 

@@ -21,8 +21,6 @@ use Rattle.model.specs.Lookahead.{fineness}
 use Rattle.model.proofs.Accepted.{never}
 use Rattle.model.proofs.Lists.{any-some, any-fails}
 use Rattle.model.proofs.Moves.{free-few}
-use Rattle.floor.specs.declared.Step.the-variants.{To}
-use Rattle.floor.specs.Moves.{stepOf}
 use Rattle.floor.proofs.Steps.{price-step}
 use Rattle.lookahead.specs.Contract.{lastBase, Fresh}
 use Rattle.lookahead.specs.Marks.{net, State, begun, markOf, costAt, cellOf, In, Sizes, Room, Spread, Kept, Swept, Segment}

@@ -1,6 +1,6 @@
 -- The lowest cell before another: the first that a move leads to, the moves to the lowest cells being tried first.
 -- Assumes nothing.
-use mathlib.Core.Path.{_≡_, ap, sym, _∙_, subst}
+use mathlib.Core.Path.{_≡_, ap, sym, _∙_}
 use mathlib.Core.List.{List}
 use Prim.Native.Nat.{ℕ, _+_, _≤_, _<_}
 use native.Mathlib.Decide.{decLe}
@@ -70,7 +70,7 @@ module _ {f : Floor} {base : ℕ} {mark cost : List ℕ} {x : ℕ} where
     pub unled-more : 4096 ≤ b .cell → Unled f base mark cost x (i + 1)
     unled-more h = record {
       within = omega arith;
-      none = below-more (λ k. (y v : ℕ) → stepOf f x (risingMove k) ≡ To y v → Before f base mark cost x y → ⊥) i (U .none) (L .none h);
+      none = below-more _ i (U .none) (L .none h);
     }
 
     -- the first that is found is the lowest

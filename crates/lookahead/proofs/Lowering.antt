@@ -1,6 +1,6 @@
 -- Costs that are lowered along moves: they stay the costs of walks, and where no move lowers any, each is the least.
 -- Assumes nothing.
-use mathlib.Core.Path.{_≡_, refl, ap, sym, _∙_, subst}
+use mathlib.Core.Path.{_≡_, refl, ap, sym, _∙_}
 use mathlib.Core.List.{List, [], _∷_}
 use mathlib.Core.Bool.{Bool, true, false, true≢false}
 use mathlib.Core.Logic.{inl, inr, ⊎-elim}
@@ -17,7 +17,7 @@ use Rattle.model.specs.Floor.{Floor, Sized, leastPrice, price}
 use Rattle.model.specs.Lookahead.{fineness, fine}
 use Rattle.model.specs.Grounds.{price-same}
 use Rattle.floor.specs.declared.Step.{Step}
-use Rattle.floor.specs.declared.Step.the-variants.{To, Wall}
+use Rattle.floor.specs.declared.Step.the-variants.{Wall}
 use Rattle.floor.specs.Moves.{stepOf}
 use Rattle.floor.proofs.Steps.{stepped, price-step, wall≢to, same-to}
 use Rattle.lookahead.specs.Marks.{net, noteAt, In}
@@ -119,8 +119,8 @@ module _ {f : Floor} {base : ℕ} {mark : List ℕ} where
   pub eased-more : (c m u : ℕ) {A B C : List ℕ} {a b e : Bool}
       → Lowered f base mark (Easing f base mark c m u) A a B b → Lowered f base mark (Eased f base mark c m u) B b C e
       → Lowered f base mark (Easing f base mark c (m + 1) u) A a C e
-  eased-more c m u {C = C} p q =
-      lowered-more p q (λ t y. (y .0, below-more (λ i. Under f base mark c i u C) m (λ i l d v s h. omega (arith, t .1 i l d v s h, q .drop d)) (y .1)))
+  eased-more c m u p q =
+      lowered-more p q (λ t y. (y .0, below-more _ m (λ i l d v s h. omega (arith, t .1 i l d v s h, q .drop d)) (y .1)))
 
   -- a move that leads nowhere, or out of the window, lowers nothing
   pub eased-wall : (c m : ℕ) {w : ℕ} {cost : List ℕ} {b : Bool} {told : Step} → Costs f base mark cost → at cost c ≡ w → told ≡ stepOf f c m → told ≡ Wall

@@ -1,6 +1,6 @@
 -- The least key of each ring, one cell more at a time, and the greatest of them.
 -- Assumes nothing.
-use mathlib.Core.Path.{_≡_, refl, ap, sym, _∙_, subst}
+use mathlib.Core.Path.{_≡_, refl, ap, sym, _∙_}
 use mathlib.Core.List.{List}
 use Prim.Native.Nat.{ℕ, _+_, _-_, _*_, _/_, _%_, _≤_, _<_, min, max}
 use native.Mathlib.Omega.{arith}
@@ -90,7 +90,7 @@ module _ {base : ℕ} {mark cost table : List ℕ} {p : ℕ} {list : List ℕ} {
 
     pub bests-more : Bests base mark cost table p list (i + 1) (set best (ringAt base mark c) (min (key cost table p c) (getD best (ringAt base mark c) 0)))
     bests-more =
-        record { size = simp length-set (B .size); low = below-more (λ j. getD best′ (ringAt base mark (getD list j 0)) 0 ≤ key cost table p (getD list j 0)) i old new; met = met′ }
+        record { size = simp length-set (B .size); low = below-more _ _ old new; met = met′ }
 
 -- the keys of every ring 1 to m, of which none is empty
 module _ {base : ℕ} {mark cost table : List ℕ} {p : ℕ} {list : List ℕ} {n : ℕ} {best : List ℕ} (m : ℕ)
