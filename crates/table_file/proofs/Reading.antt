@@ -1,28 +1,23 @@
 -- What the reader's tests tell, of the trailer and of the job that it names; and where its loops stand: what is left to judge, or to put, answers like the whole.
-use mathlib.Core.Path.{_≡_, refl, sym, _∙_, ap, ap₂}
-use mathlib.Core.Bool.{Bool, true, false, _&&_}
+use mathlib.Core.Path.{_≡_, refl, sym, _∙_, ap}
+use mathlib.Core.Bool.{true}
 use mathlib.Core.Logic.{⊎-elim}
 use mathlib.Core.List.{List, [], _∷_}
 use Prim.Native.Nat.{ℕ, zero, suc, _+_, _-_, _*_, _≤_, _<_}
 use native.Mathlib.Numerals.{add-one}
 use native.Mathlib.Omega.{arith}
-use lib.Dec.{eqb}
-use borrow.Author.Tests.{eq-eqb, ne-eqb}
 use lib.ListN.{length, getD, take, drop, set, length-drop, length-set}
-use Rattle.answers.specs.Says.{saysVerdict}
 use Rattle.answers.specs.declared.Goals.{Goals}
 use Rattle.answers.specs.declared.Place.the-variants as P
-use Rattle.answers.specs.declared.Refusal.{Refusal}
-use Rattle.answers.specs.declared.Verdict.{Verdict}
 use Rattle.answers.specs.declared.Verdict.the-variants as Vd
-use Rattle.model.specs.Basics.{refuseAt, unless}
-use Rattle.model.specs.Floor.{Floor, size, openingTable, goalsOf}
-use Rattle.model.specs.TableFile.{firstLong, secondLong, trailer, scaleIn, editionIn, countIn, backIn, trailerHolds, checkTrailer, findRecords, goalPlace}
-use Rattle.model.specs.TableFile.{firstNames, secondNames, named, sameJob, cellIn, figureIn, recordFault, judgeRecords, applied, readVerdict, readOf, readTable}
+use Rattle.model.specs.Basics.{refuseAt}
+use Rattle.model.specs.Floor.{Floor, size, goalsOf}
+use Rattle.model.specs.TableFile.{secondLong, editionIn, countIn, backIn, trailerHolds, checkTrailer, findRecords, goalPlace}
+use Rattle.model.specs.TableFile.{cellIn, figureIn, recordFault, judgeRecords, applied, readVerdict}
 use Rattle.model.specs.Opening.{openTable}
 use Rattle.model.proofs.Parts.{rest}
-use Rattle.model.proofs.Files.{openable, judge-more, judge-stop, trailer-tells, trailer-judges, Pointed, pointed, found, found-long}
-use Rattle.table_file.specs.Promises.{Opened, startOf, Reads}
+use Rattle.model.proofs.Files.{Openable, openable, read-gives, judge-more, judge-stop, trailer-tells, trailer-judges, Pointed, pointed, found, found-long}
+use Rattle.table_file.specs.Promises.{Opened}
 
 -- ---- what an opened table gives
 
@@ -32,17 +27,12 @@ opened f q g n e = let o = openable f q g n e in (record { sized = o .sized; sca
 -- ---- the trailer, and the records that it points to
 
 module _ (file : List ℕ) where
-  -- what a sound one gives, and what 13 says by its test
+  -- what a sound one gives, and that 13 asks for it
   pub points : trailerHolds file ≡ true → Pointed file
   points e = pointed file (trailer-tells file .holds e)
 
-  pub check-done : trailerHolds file ≡ true → checkTrailer file ≡ Vd.Done
-  unfolding checkTrailer
-  check-done e = rw e
-
-  pub check-refused : trailerHolds file ≡ false → checkTrailer file ≡ refuseAt 13 P.Nowhere
-  unfolding checkTrailer
-  check-refused e = rw e
+  pub ending-room : trailerHolds file ≡ true → 12 ≤ length file
+  ending-room e = omega (arith, points e .room)
 
   pub checked : checkTrailer file ≡ Vd.Done → trailerHolds file ≡ true
   checked e = trailer-tells file .shown (trailer-judges file .gives e)
@@ -51,15 +41,7 @@ module _ (file : List ℕ) where
   pub second-room : trailerHolds file ≡ true → (editionIn file ≡ 1 → ⊥) → secondLong ≤ length file
   second-room e n = ⊎-elim (λ t. absurd (n (t .edition-is))) (λ t. t .0 .room) (trailer-tells file .holds e)
 
-  -- where the records begin, and that the part found begins there
-  pub start-none : trailerHolds file ≡ false → 0 ≡ startOf file
-  unfolding startOf
-  start-none e = rw e
-
-  pub start-some : (b : ℕ) → b ≡ backIn file → trailerHolds file ≡ true → length file - b ≡ startOf file
-  unfolding startOf
-  start-some b d e = rw (e, d)
-
+  -- the part found begins where the records do
   pub found-part : (b k : ℕ) → b ≡ backIn file → k ≡ countIn file → trailerHolds file ≡ true
       → take (length file - b + 6 * k - (length file - b)) (drop (length file - b) file) ≡ findRecords file
   found-part b k d c e =
@@ -77,23 +59,7 @@ place-used [] i h = absurd (omega arith)
 place-used (x ∷ gs) zero h = refl
 place-used (x ∷ gs) (suc i) h = place-used gs i (omega arith)
 
--- 14: the job by the trailer's edition, and its q
-module _ (f : Floor) (gs file : List ℕ) where
-  pub named-first : editionIn file ≡ 1 → named f gs file ≡ firstNames f gs (trailer firstLong file)
-  named-first e = rw (eq-eqb (editionIn file) 1 e)
-
-  pub named-second : (editionIn file ≡ 1 → ⊥) → named f gs file ≡ secondNames f gs (trailer secondLong file)
-  named-second e = rw (ne-eqb (editionIn file) 1 e)
-
-  pub same-is : (q : ℕ) {b c : Bool} → named f gs file ≡ b → eqb (scaleIn file) q ≡ c → sameJob f q gs file ≡ unless (b && c) 14
-  unfolding sameJob
-  same-is q d e = ap₂ (λ b c. unless (b && c) 14) d e
-
 -- ---- where the loops stand
-
-pub judged-by : (f : Floor) (q : ℕ) (gs file : List ℕ) (n : ℕ) (part : List ℕ) (v : Verdict) → v ≡ judgeRecords f q gs n 0 0 part → n ≡ countIn file → part ≡ findRecords file
-    → v ≡ judgeRecords f q gs (countIn file) 0 0 (findRecords file)
-judged-by f q gs file n part v e a b = e ∙ λ i. judgeRecords f q gs (a i) 0 0 (b i)
 
 -- i of n records are judged: the next cell is low at least, and t is left
 pub record Judging (f : Floor) (q : ℕ) (gs : List ℕ) (n : ℕ) (part : List ℕ) (i low : ℕ) (t : List ℕ) : Type 0 where
@@ -101,13 +67,13 @@ pub record Judging (f : Floor) (q : ℕ) (gs : List ℕ) (n : ℕ) (part : List 
   pub enough : (n - i) * 6 ≤ length t
   pub left : judgeRecords f q gs (n - i) i low t ≡ judgeRecords f q gs n 0 0 part
 
-module _ (f : Floor) (q : ℕ) (gs : List ℕ) (n : ℕ) (part : List ℕ) where
+module _ {f : Floor} {q : ℕ} {gs : List ℕ} {n : ℕ} {part : List ℕ} where
   pub judging : n * 6 ≤ length part → Judging f q gs n part 0 0 part
   judging h = let e : n - 0 ≡ n = omega arith in record { most = omega arith; enough = omega arith; left = rw e }
 
-  module _ (i low : ℕ) (t : List ℕ) (g : Judging f q gs n part i low t) where
-    pub judging-more : (cell : ℕ) → cell ≡ cellIn t → recordFault f q gs low t ≡ 0 → i < n → Judging f q gs n part (i + 1) (cell + 1) (take (length t - 6) (drop 6 t))
-    judging-more cell c e l =
+  module _ {i low : ℕ} {t : List ℕ} (g : Judging f q gs n part i low t) where
+    pub judging-more : {cell : ℕ} → cell ≡ cellIn t → recordFault f q gs low t ≡ 0 → i < n → Judging f q gs n part (i + 1) (cell + 1) (take (length t - 6) (drop 6 t))
+    judging-more {cell} c e l =
         let k : n - i ≡ suc (n - (i + 1)) = omega arith in
         let d : length (drop 6 t) ≡ length t - 6 = length-drop 6 t in
         record {
@@ -116,8 +82,8 @@ module _ (f : Floor) (q : ℕ) (gs : List ℕ) (n : ℕ) (part : List ℕ) where
           left = rw (rest 6 t, add-one i, add-one cell, c) (sym (judge-more f q gs low t (n - suc i) i e) ∙ (let j : n - i ≡ suc (n - suc i) = omega arith in rw j at (g .left)));
         }
 
-    pub judging-stop : (k : ℕ) → k ≡ recordFault f q gs low t → (k ≡ 0 → ⊥) → i < n → refuseAt k (P.Record i) ≡ judgeRecords f q gs n 0 0 part
-    judging-stop k e h l =
+    pub judging-stop : {k : ℕ} → k ≡ recordFault f q gs low t → (k ≡ 0 → ⊥) → i < n → refuseAt k (P.Record i) ≡ judgeRecords f q gs n 0 0 part
+    judging-stop {k} e h l =
         let j : n - i ≡ suc (n - suc i) = omega arith in
         sym (judge-stop f q gs low t (n - suc i) i k (sym e) h) ∙ rw j at (g .left)
 
@@ -132,15 +98,15 @@ pub record Applying (n : ℕ) (part table₀ : List ℕ) (i : ℕ) (t table : Li
   pub same : length table ≡ length table₀
   pub left : applied (n - i) t table ≡ applied n part table₀
 
-module _ (n : ℕ) (part table₀ : List ℕ) where
+module _ {n : ℕ} {part table₀ : List ℕ} where
   pub applying : n * 6 ≤ length part → Applying n part table₀ 0 part table₀
   applying h = let e : n - 0 ≡ n = omega arith in record { most = omega arith; enough = omega arith; same = refl; left = rw e }
 
-  module _ (i : ℕ) (t table : List ℕ) (g : Applying n part table₀ i t table) where
-    pub applying-more : (cell figure : ℕ) (next : List ℕ) → cell ≡ cellIn t → figure ≡ figureIn t → next ≡ set table cell figure → i < n
+  module _ {i : ℕ} {t table : List ℕ} (g : Applying n part table₀ i t table) where
+    pub applying-more : {cell figure : ℕ} {next : List ℕ} → cell ≡ cellIn t → figure ≡ figureIn t → next ≡ set table cell figure → i < n
         → Applying n part table₀ (i + 1) (take (length t - 6) (drop 6 t)) next
     unfolding applied
-    applying-more cell figure next c d e l =
+    applying-more {cell} {figure} c d e l =
         let k : n - i ≡ suc (n - (i + 1)) = omega arith in
         let m : length (drop 6 t) ≡ length t - 6 = length-drop 6 t in
         record {
@@ -154,16 +120,6 @@ module _ (n : ℕ) (part table₀ : List ℕ) where
     unfolding applied
     applying-all h = (let e : n - i ≡ 0 = omega arith in rw e) ∙ g .left
 
--- The reader's answer and table, by its verdict.
-module _ (f : Floor) (q : ℕ) (g : Goals) (file table : List ℕ) (v : Verdict) (e : v ≡ readVerdict f q g file (length table)) where
-  pub read-refused : {r : Refusal} → v ≡ Vd.Refused r → Reads (readVerdict f q g file (length table)) (readTable f q g file table) v table
-  unfolding readTable
-  read-refused t = record { answer = ap saysVerdict e; table = ap (λ (u : Verdict). readOf u f q g file table) (sym t ∙ e) }
-
-  pub read-done : (n : ℕ) (part filled after : List ℕ) → v ≡ Vd.Done → filled ≡ openingTable f q (goalsOf g) → after ≡ applied n part filled → n ≡ countIn file → part ≡ findRecords file
-      → Reads (readVerdict f q g file (length table)) (readTable f q g file table) Vd.Done after
-  unfolding readTable
-  read-done n part filled after t a b c d = record {
-    answer = ap saysVerdict (sym t ∙ e);
-    table = (b ∙ λ i. applied (c i) (d i) (a i)) ∙ ap (λ (u : Verdict). readOf u f q g file table) (sym t ∙ e);
-  }
+-- ---- what an accepted reading gives
+pub read-open : (f : Floor) (q : ℕ) (g : Goals) (file : List ℕ) (n : ℕ) → readVerdict f q g file n ≡ Vd.Done → Openable f q g n × (trailerHolds file ≡ true)
+read-open f q g file n e = let r = read-gives f q g file n e .0 in (openable f q g n (r .opens), checked file (r .checked))

@@ -51,9 +51,9 @@ module _ (file : List ℕ) (held : trailerHolds file ≡ true) where
       (omega (arith, long, renewed-bytes, found-long file (trailer-tells file .holds held)), behind (findRecords file) (renewedTrailer file) buffer mid after at long front h)
 
 -- what an accepted renewing has shown
-pub renew-gives : (file : List ℕ) (room : ℕ) → renewVerdict file room ≡ Vd.Done → (trailerHolds file ≡ true) × (secondLong + 6 * countIn file ≤ room)
+pub renew-gives : (file : List ℕ) (room : ℕ) → renewVerdict file room ≡ Vd.Done → (trailerHolds file ≡ true) × (secondLong + length (findRecords file) ≤ room)
 unfolding renewVerdict
 renew-gives file room e =
     let (sound, roomy) = then-done _ _ e in
     let held = checked file sound in
-    (held, omega (arith, renewed-bytes file held, room-judges _ room .gives roomy))
+    (held, omega (arith, renewed-bytes file held, room-judges _ room .gives roomy, found-long file (trailer-tells file .holds held)))

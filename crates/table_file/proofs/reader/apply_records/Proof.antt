@@ -14,10 +14,9 @@ loop-again : tie.Need-loop-again Inv-loop μ-loop
 loop-again c =
     let figure = c .before .before .before .before in
     let cell = figure .before in
-    let l = cell .before .before .before .loop in
-    applying-more _ _ _ _ _ _ (l .inv) _ _ _ (cell .half-at .ensures .0) (figure .word-at .ensures .0) (c .before .before .before .put-figure .ensures) (omega arith)
+    applying-more (cell .before .before .before .loop .inv) (cell .half-at .ensures .0) (figure .word-at .ensures .0) (c .before .before .before .put-figure .ensures) (omega arith)
 
 pub apply-records-spec : {M : Type 1} → f.Statement.statement M
 apply-records-spec =
-    tie.close (tie.spec Inv-loop μ-loop (λ c. applying _ _ _ (omega arith)) (λ c κs. search needs) (λ c κs. search needs) (λ c κs. search needs) (λ c. search needs) (λ c. search needs)
-    (λ c. search needs) (λ c. search needs) (λ c. search needs) loop-again (λ c. search needs) (λ c. applying-all _ _ _ _ _ _ (c .before .loop .inv) (omega arith)))
+    tie.close (tie.spec Inv-loop μ-loop (λ c. applying (omega arith)) (search needs) (search needs) (search needs) (search needs) (search needs)
+    (search needs) (search needs) (search needs) loop-again (search needs) (λ c. applying-all (c .before .loop .inv) (omega arith)))

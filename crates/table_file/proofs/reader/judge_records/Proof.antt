@@ -1,5 +1,5 @@
 -- `table_file::reader::judge_records` meets its contract: the invariant: `Judging`, the records left answer like all of them.
-use Rattle.learning.proofs.Words.{_-_, _∙_, sym, needs, arith}
+use Rattle.learning.proofs.Words.{_-_, _∙_, needs, arith}
 use Rattle.table_file.specs.Site.{floorAt, goalsAt}
 use Rattle.table_file.proofs.Reading.{Judging, judging, judging-more, judging-stop, judging-all}
 use Rattle.table_file.proofs.reader.judge_records as f
@@ -12,15 +12,14 @@ abbrev μ-loop : tie.MeasureT-loop
 μ-loop site floor part n t₀ i₀ low₀ t i low = n - i
 
 returns : tie.Need-returns Inv-loop μ-loop
-returns c = c .refuse-at .ensures ∙ judging-stop _ _ _ _ _ _ _ _ (c .before .before .before .before .loop .inv) _ (c .before .before .record-fault .ensures) (c .before .if1 .taken) (omega arith)
+returns c = c .refuse-at .ensures ∙ judging-stop (c .before .before .before .before .loop .inv) (c .before .before .record-fault .ensures) (c .before .if1 .taken) (omega arith)
 
 loop-again : tie.Need-loop-again Inv-loop μ-loop
 loop-again c =
     let judged = c .before .before .before in
-    let lawful = sym (judged .record-fault .ensures) ∙ c .before .before .if1 .left in
-    judging-more _ _ _ _ _ _ _ _ (judged .before .before .loop .inv) _ (c .before .half-at .ensures .0) lawful (omega arith)
+    judging-more (judged .before .before .loop .inv) (c .before .half-at .ensures .0) (omega arith) (omega arith)
 
 pub judge-records-spec : {M : Type 1} → f.Statement.statement M
 judge-records-spec =
-    tie.close (tie.spec Inv-loop μ-loop (λ c. judging _ _ _ _ _ (omega arith)) (λ c κs. search needs) (λ c κs. search needs) returns (λ c κs. search needs) (λ c. search needs)
-    (λ c. search needs) (λ c. search needs) (λ c. search needs) (λ c. search needs) (λ c. search needs) loop-again (λ c. judging-all _ _ _ _ _ _ _ _ (c .before .loop .inv) (omega arith)))
+    tie.close (tie.spec Inv-loop μ-loop (λ c. judging (omega arith)) (λ c κs. search needs) (λ c κs. search needs) returns (λ c κs. search needs) (search needs)
+    (search needs) (search needs) (search needs) (search needs) (search needs) loop-again (λ c. judging-all (c .before .loop .inv) (omega arith)))

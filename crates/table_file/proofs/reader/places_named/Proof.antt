@@ -1,5 +1,5 @@
 -- `table_file::reader::places_named` meets its contract. The invariant: the goal places passed are this job's.
-use Rattle.learning.proofs.Words.{ℕ, _+_, _-_, _*_, _<_, _≡_, sym, _∙_, arith, needs, below-more}
+use Rattle.learning.proofs.Words.{ℕ, _+_, _-_, _*_, _<_, _≡_, sym, arith, needs, below-more}
 use Rattle.model.specs.Checks.{mostGoals}
 use Rattle.model.specs.Floor.{goalsOf}
 use Rattle.model.specs.TableFile.{halfAt, goalPlace}
@@ -15,17 +15,12 @@ abbrev μ-loop : tie.MeasureT-loop
 μ-loop goals t i₀ i = mostGoals - i
 
 returns : tie.Need-returns Inv-loop μ-loop
-returns c =
-    let half = c .before .before in
-    refuted (places-named _ _) (λ h. c .if1 .taken (half .half-at .ensures .0 ∙ (h (half .before .before .loop .i) (omega arith) ∙ sym (c .before .goal-place .ensures))))
+returns c = refuted (places-named _ _) (λ h. c .if1 .taken (omega (arith, h (c .before .before .before .before .loop .i) (omega arith))))
 
 loop-again : tie.Need-loop-again Inv-loop μ-loop
-loop-again c =
-    let half = c .before .before in
-    let l = half .before .before .loop in
-    below-more _ (l .i) (l .inv) (sym (half .half-at .ensures .0) ∙ (c .if1 .left ∙ c .before .goal-place .ensures))
+loop-again c = let l = c .before .before .before .before .loop in below-more _ (l .i) (l .inv) (omega arith)
 
 pub places-named-spec : {M : Type 1} → f.Statement.statement M
 places-named-spec =
-    tie.close (tie.spec Inv-loop μ-loop (λ c k h. absurd (omega arith)) (λ c. omega arith) (λ c. omega arith) (λ c κs. search needs) (λ c κs. search needs) returns (λ c. omega arith)
-    (λ c. omega arith) loop-again (λ c. sym (places-named _ _ .shown (λ k h. c .before .loop .inv k (omega arith)))))
+    tie.close (tie.spec Inv-loop μ-loop (λ c k h. absurd (omega arith)) (omega arith) (omega arith) (search needs) (search needs) returns (omega arith)
+    (omega arith) loop-again (λ c. sym (places-named _ _ .shown (λ k h. c .before .loop .inv k (omega arith)))))

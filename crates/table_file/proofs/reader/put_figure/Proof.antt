@@ -4,4 +4,4 @@ use Rattle.table_file.proofs.reader.put_figure as f
 use f.Tie as tie
 
 pub put-figure-spec : {M : Type 1} → f.Statement.statement M
-put-figure-spec = tie.close (tie.spec (λ c. search needs) (λ c. search needs) (λ c. search needs) (λ c. search needs) (λ c. search needs) (λ c. sym (set-out _ _ _ (omega arith))))
+put-figure-spec = tie.close (tie.spec (search needs) (search needs) (search needs) (search needs) (search needs) (λ c. sym (set-out _ _ _ (omega arith))))

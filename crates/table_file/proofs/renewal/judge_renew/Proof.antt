@@ -1,10 +1,9 @@
 -- `table_file::renewal::judge_renew` meets its contract: the trailer's check, then the room.
 use Rattle.learning.proofs.Words.{_≡_, sym, _∙_, true, now, not-true, not-false, needs, arith}
-use Rattle.model.specs.TableFile.{trailerHolds}
+use Rattle.model.specs.TableFile.{trailerHolds, checkTrailer}
 use Rattle.model.specs.Renewal.{renewVerdict}
-use Rattle.model.proofs.Accepted.{then-refused, then-next}
 use Rattle.model.proofs.Writings.{room-judges}
-use Rattle.table_file.proofs.Reading.{points, check-done, check-refused}
+use Rattle.table_file.proofs.Reading.{ending-room}
 use Rattle.table_file.proofs.Renewing.{renewed-bytes}
 use Rattle.table_file.proofs.renewal.judge_renew as f
 use f.Tie as tie
@@ -12,26 +11,19 @@ use f.Tie as tie
 holds : (e : tie.Else1) → trailerHolds (now (e .before .before .before .args .file)) ≡ true
 holds e = sym (e .before .trailer-holds .ensures) ∙ not-false _ (e .if1 .left)
 
-returns : tie.Need-returns
-unfolding renewVerdict
-returns c = c .refuse .ensures ∙ sym (then-refused _ (check-refused _ (sym (c .before .before .trailer-holds .ensures) ∙ not-true _ (c .before .if1 .taken))))
-
 returns-2 : tie.Need-returns-2
-unfolding renewVerdict
+unfolding renewVerdict checkTrailer
 returns-2 c =
-    let counted = c .before .before in
-    let held = holds (counted .before) in
-    c .refuse2 .ensures
-    ∙ sym (then-next _ (check-done _ held) ∙ room-judges _ _ .refused (λ w. omega (arith, w, renewed-bytes _ held, counted .count-in .ensures .0, c .before .if2 .taken)))
+    let held = holds (c .before .before .before) in
+    let long = renewed-bytes _ held in
+    rw held (c .refuse2 .ensures ∙ sym (room-judges _ _ .refused (λ w. omega arith)))
 
 returns-3 : tie.Need-returns-3
-unfolding renewVerdict
-returns-3 c =
-    let counted = c .before in
-    let held = holds (counted .before) in
-    sym (then-next _ (check-done _ held) ∙ room-judges _ _ .done (omega (arith, renewed-bytes _ held, counted .count-in .ensures .0, c .if2 .left)))
+unfolding renewVerdict checkTrailer
+returns-3 c = let held = holds (c .before .before) in let long = renewed-bytes _ held in rw held (sym (room-judges _ _ .done (omega arith)))
 
 pub judge-renew-spec : {M : Type 1} → f.Statement.statement M
+unfolding renewVerdict checkTrailer
 judge-renew-spec =
-    tie.close (tie.spec (λ c κs. search needs) (λ c κs. search needs) returns (λ c κs. omega (arith, points _ (holds c) .room)) (λ c. search needs) (λ c. search needs) (λ c κs. search needs)
-    returns-2 returns-3)
+    tie.close (tie.spec (search needs) (search needs) (λ c. rw (sym (c .before .before .trailer-holds .ensures) ∙ not-true _ (c .before .if1 .taken)) (c .refuse .ensures)) (search (ending-room, holds))
+    (search needs) (search needs) (search needs) returns-2 returns-3)

@@ -15,21 +15,14 @@ letters-are e = e .is-letters .ensures ∙ ap isLetters (e .before .ending-of .e
 
 returns-5 : tie.Need-returns-5
 returns-5 c =
-    let edition = c .before .before .before in
-    let letters = edition .before .before in
+    let letters = c .before .before .before .before .before in
     same-told (le-tells (c .before .before .back-in .result) (length (now (at-start (letters .before) .args .file)))) (holds-tells _ _ _)
-    (λ l. record {
-      room = omega arith;
-      letters = sym (letters-are (letters .before)) ∙ not-false _ (letters .if2 .left);
-      edition-is = sym (edition .before .edition-in .ensures) ∙ edition .if3 .left;
-      even = omega arith;
-      within = omega (arith, l);
-    })
-    (λ t. omega (arith, t .within))
+    (λ l. record { room = omega arith; letters = sym (letters-are (letters .before)) ∙ not-false _ (letters .if2 .left); edition-is = omega arith; even = omega arith; within = omega arith })
+    (λ t. omega arith)
 
 pub holds-as-spec : {M : Type 1} → f.Statement.statement M
 holds-as-spec =
-    tie.close (tie.spec (λ c. refuted (holds-tells _ _ _) (λ t. omega (arith, t .room))) (λ c κs. search needs) (λ c κs. search needs)
-    (λ c. refuted (holds-tells _ _ _) (λ t. never (t .letters) (sym (letters-are (c .before)) ∙ not-true _ (c .if2 .taken)))) (λ c κs. search needs)
-    (λ c. refuted (holds-tells _ _ _) (λ t. c .if3 .taken (c .before .edition-in .ensures ∙ t .edition-is))) (λ c κs. search needs) (λ c κs. search needs) (λ c. search needs)
-    (λ c. search needs) (λ c. refuted (holds-tells _ _ _) (λ t. omega (arith, t .even))) returns-5)
+    tie.close (tie.spec (λ c. refuted (holds-tells _ _ _) (λ t. omega arith)) (search needs) (search needs)
+    (λ c. refuted (holds-tells _ _ _) (λ t. never (t .letters) (sym (letters-are (c .before)) ∙ not-true _ (c .if2 .taken)))) (search needs)
+    (λ c. refuted (holds-tells _ _ _) (λ t. omega arith)) (search needs) (search needs) (search needs)
+    (search needs) (λ c. refuted (holds-tells _ _ _) (λ t. omega arith)) returns-5)

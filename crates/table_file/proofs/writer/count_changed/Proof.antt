@@ -1,5 +1,5 @@
 -- `table_file::writer::count_changed` meets its contract: the invariant: `Counting`, n of the cells passed differ.
-use Rattle.learning.proofs.Words.{_-_, _*_, sym, _∙_, ⊎-elim, length, needs, arith}
+use Rattle.learning.proofs.Words.{_-_, _*_, ⊎-elim, length, needs, arith}
 use Rattle.table_file.specs.Site.{floorAt, goalsAt}
 use Rattle.model.proofs.Cells.{cells-le}
 use Rattle.table_file.proofs.Writing.{Counting, counting, counting-same, counting-more, counting-all}
@@ -14,20 +14,15 @@ abbrev μ-loop : tie.MeasureT-loop
 
 loop-again : tie.Need-loop-again Inv-loop μ-loop
 loop-again c =
-    let l = c .before .before .before .before .before .loop in
-    let read = c .before .before .wide32 .ensures .0 in
-    let opens = c .before .opening-of .ensures .0 in
-    ⊎-elim
-    (λ w. rw (w .1) (counting-more _ _ _ _ _ _ _ (l .inv) (λ e. w .0 .taken (read ∙ (e ∙ sym opens))) (omega arith)))
-    (λ w. rw (w .1) (counting-same _ _ _ _ _ _ _ (l .inv) (sym read ∙ (w .0 .left ∙ opens)) (omega arith)))
-    (c .if1 .came)
+    let inv = c .before .before .before .before .before .loop .inv in
+    ⊎-elim (λ w. rw (w .1) (counting-more inv (λ e. w .0 .taken (omega arith)) (omega arith))) (λ w. rw (w .1) (counting-same inv (omega arith) (omega arith))) (c .if1 .came)
 
 returns : tie.Need-returns Inv-loop μ-loop
 returns c =
     let z = c .before .before .before .before .pre .0 .sized in
-    (counting-all _ _ _ _ _ _ _ (c .before .loop .inv) (omega arith), omega (arith, cells-le _ _ (z .narrow) (z .low)))
+    (counting-all (c .before .loop .inv) (omega arith), omega (arith, cells-le _ _ (z .narrow) (z .low)))
 
 pub count-changed-spec : {M : Type 1} → f.Statement.statement M
 count-changed-spec =
-    tie.close (tie.spec Inv-loop μ-loop (λ c. counting _ _ _ _ _) (λ c. search needs) (λ c. search needs) (λ c κs. search needs) (λ c κs. search needs) (λ c. search needs)
-    (λ c. search needs) (λ c. search needs) loop-again returns)
+    tie.close (tie.spec Inv-loop μ-loop (λ c. counting) (search needs) (search needs) (search needs) (λ c κs. search needs) (search needs)
+    (search needs) (search needs) loop-again returns)

@@ -19,6 +19,6 @@ returns c =
 
 pub judge-unlike-spec : {M : Type 1} → f.Statement.statement M
 judge-unlike-spec =
-    tie.close (tie.spec Inv-loop μ-loop (λ c. (omega arith, λ k h. absurd (omega arith))) (λ c κs. search needs) (λ c κs. search needs) returns (λ c. search needs) (λ c. search needs)
+    tie.close (tie.spec Inv-loop μ-loop (λ c. (omega arith, λ k h. absurd (omega arith))) (λ c κs. search needs) (search needs) returns (search needs) (search needs)
     (λ c. (omega arith, below-more _ _ (c .before .before .before .loop .inv .1) (sym (c .before .is-unlike .ensures) ∙ c .if1 .left)))
     (λ c. sym (naming-done _ _ 16 (λ k h. c .before .loop .inv .1 k (omega arith)))))

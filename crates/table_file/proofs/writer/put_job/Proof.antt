@@ -1,7 +1,6 @@
 -- `table_file::writer::put_job` meets its contract: two pairs of bytes, the goal places and a pair, one after another.
-use Rattle.learning.proofs.Words.{_%_, refl, _∙_, [], _∷_, _++_, now, needs, arith}
-use Rattle.notation.specs.Puts.{put}
-use Rattle.notation.proofs.Puts.{put-then}
+use Rattle.learning.proofs.Words.{_%_, [], _∷_, needs, arith}
+use Rattle.table_file.proofs.Writing.{put-four}
 use Rattle.table_file.specs.Site.{goalsAt, placesOf}
 use Rattle.table_file.proofs.writer.put_job as f
 use f.Tie as tie
@@ -15,14 +14,11 @@ returns c =
     let a = sizes .before .before .before .args in
     let s = a .site in
     let n = count .before .goals-in in
-    put-then (a .at) _ (s .width % 256 ∷ s .height % 256 ∷ n .result % 256 ∷ 0 ∷ placesOf (goalsAt s)) (s .q % 256 ∷ 2 ∷ []) _ _ _
-    (put-then (a .at) _ (s .width % 256 ∷ s .height % 256 ∷ n .result % 256 ∷ 0 ∷ []) (placesOf (goalsAt s)) _ _ _
-    (put-then (a .at) _ (s .width % 256 ∷ s .height % 256 ∷ []) (n .result % 256 ∷ 0 ∷ []) _ _ _ (sizes .put-pair .ensures) (count .put-pair2 .ensures) refl (omega arith))
-    (places .put-places .ensures) refl (omega arith))
-    (last .put-pair3 .ensures) refl (omega arith)
-    ∙ λ i. put (a .at) (s .width % 256 ∷ s .height % 256 ∷ n .ensures i % 256 ∷ 0 ∷ (placesOf (goalsAt s) ++ (s .q % 256 ∷ 2 ∷ []))) (now (a .out))
+    rw (← (n .ensures))
+    (put-four (a .at) (s .width % 256 ∷ s .height % 256 ∷ []) (n .result % 256 ∷ 0 ∷ []) (placesOf (goalsAt s)) (s .q % 256 ∷ 2 ∷ []) _
+    (sizes .put-pair .ensures) (count .put-pair2 .ensures) (places .put-places .ensures) (last .put-pair3 .ensures) (omega arith))
 
 pub put-job-spec : {M : Type 1} → f.Statement.statement M
 put-job-spec =
-    tie.close (tie.spec (λ c κs. search needs) (λ c. search needs) (λ c κs. search needs) (λ c κs. search needs) (λ c. search needs) (λ c κs. search needs) (λ c. search needs)
-    (λ c κs. search needs) (λ c. search needs) returns)
+    tie.close (tie.spec (search needs) (search needs) (search needs) (search needs) (search needs) (search needs) (search needs)
+    (search needs) (search needs) returns)

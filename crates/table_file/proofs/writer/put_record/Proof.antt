@@ -12,4 +12,4 @@ returns c =
     put-then (a .at) _ (half (a .cell)) (word (a .figure)) _ _ _ (cell .put-half .ensures) (c .before .before .put-word .ensures) refl (omega arith)
 
 pub put-record-spec : {M : Type 1} → f.Statement.statement M
-put-record-spec = tie.close (tie.spec (λ c κs. search needs) (λ c. search needs) (λ c κs. search needs) (λ c. search needs) returns)
+put-record-spec = tie.close (tie.spec (search needs) (search needs) (search needs) (search needs) returns)

@@ -13,4 +13,4 @@ returns c =
     put-then (a .at) _ (jobOf (a .site)) (backOf (a .count)) _ _ _ (job .put-job .ensures) (back .put-back .ensures) refl (omega arith)
 
 pub put-trailer-spec : {M : Type 1} → f.Statement.statement M
-put-trailer-spec = tie.close (tie.spec (λ c κs. search needs) (λ c. search needs) (λ c κs. search needs) (λ c. search needs) returns)
+put-trailer-spec = tie.close (tie.spec (search needs) (search needs) (search needs) (search needs) returns)
