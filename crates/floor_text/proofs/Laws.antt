@@ -17,8 +17,9 @@ use Rattle.answers.specs.declared.Refusal.{Refusal}
 use Rattle.answers.specs.declared.Verdict.the-variants as Vd
 use Rattle.answers.specs.declared.FloorRead.the-variants as Fr
 use Rattle.model.specs.Basics.{choose, every, refuseAt}
-use Rattle.model.specs.FloorText.{begins, sizeBytes, header, heightIn, widthIn, rowsIn, afterHeight, afterWidth, typeAndHeight, andWidth, andMap}
+use Rattle.model.specs.FloorText.{begins, header, heightIn, widthIn, rowsIn, afterHeight, afterWidth, typeAndHeight, andWidth, andMap}
 use Rattle.model.specs.FloorText.{isLetter, byteOf, rowHolds, rows, cellsOf, readFloor, floorVerdict}
+use Rattle.model.proofs.Accepted.{Judges, le-tells, is-tells, and-tells, told, unless-judges}
 use Rattle.model.proofs.Parts.{rest}
 use Rattle.model.proofs.FloorTexts.{rows-fault, rows-more, length-cells}
 use Rattle.floor_text.specs.Reads.{Sound, Reads}
@@ -43,10 +44,10 @@ pub record Begun (w t : List ℕ) (i : ℕ) : Type 0 where
   pub most : i ≤ length w
   pub left : begins (drop i w) (drop i t) ≡ begins w t
 
-pub begun : (w t : List ℕ) → Begun w t 0
-begun w t = record { most = omega arith; left = refl }
+pub begun : {w t : List ℕ} → Begun w t 0
+begun = record { most = omega arith; left = refl }
 
-module _ (w t : List ℕ) (i : ℕ) (g : Begun w t i) where
+module _ {w t : List ℕ} {i : ℕ} (g : Begun w t i) where
   pub begun-more : getD t i 0 ≡ getD w i 0 → (i < length w) × (i < length t) → Begun w t (i + 1)
   begun-more e h = record {
     most = omega arith;
@@ -73,14 +74,14 @@ pub record Lettered (w : ℕ) (t : List ℕ) (i : ℕ) : Type 0 where
   pub most : i ≤ w
   pub left : every isLetter (take (w - i) (drop i t)) ≡ every isLetter (take w t)
 
-pub lettered : (w : ℕ) (t : List ℕ) → Lettered w t 0
-lettered w t = record { most = omega arith; left = let e : w - 0 ≡ w = omega arith in rw e }
+pub lettered : {w : ℕ} {t : List ℕ} → Lettered w t 0
+lettered {w} = record { most = omega arith; left = let e : w - 0 ≡ w = omega arith in rw e }
 
 pub row-short : (w : ℕ) (t : List ℕ) → length t ≤ w → false ≡ rowHolds w t
 unfolding rowHolds
 row-short w t h = simp (lt-leb (suc w) (length t) (omega arith))
 
-module _ (w : ℕ) (t : List ℕ) (i : ℕ) (g : Lettered w t i) where
+module _ {w : ℕ} {t : List ℕ} {i : ℕ} (g : Lettered w t i) where
   pub lettered-more : isLetter (getD t i 0) ≡ true → (i < w) × (i < length t) → Lettered w t (i + 1)
   lettered-more e h = record { most = omega arith; left = rw e at (sym (row-at w t i h)) ∙ g .left }
 
@@ -102,10 +103,10 @@ pub record Rowed (w h : ℕ) (text t : List ℕ) (row : ℕ) : Type 0 where
   pub most : row ≤ h
   pub left : rows w (h - row) (5 + row) t ≡ rows w h 5 text
 
-pub rowed : (w h : ℕ) (text : List ℕ) → Rowed w h text text 0
-rowed w h text = record { most = omega arith; left = let e : h - 0 ≡ h = omega arith in rw e }
+pub rowed : {w h : ℕ} {text : List ℕ} → Rowed w h text text 0
+rowed {h = h} = record { most = omega arith; left = let e : h - 0 ≡ h = omega arith in rw e }
 
-module _ (w h : ℕ) (text t : List ℕ) (row : ℕ) (g : Rowed w h text t row) where
+module _ {w h : ℕ} {text t : List ℕ} {row : ℕ} (g : Rowed w h text t row) where
   pub rowed-more : rowHolds w t ≡ true → row < h → Rowed w h text (take (length t - (w + 1)) (drop (w + 1) t)) (row + 1)
   rowed-more e l = record {
     most = omega arith;
@@ -134,12 +135,12 @@ pub record Stored (ls part₀ part : List ℕ) (i : ℕ) : Type 0 where
   pub same : length part ≡ length part₀
   pub so-far : part ≡ map byteOf (take i ls) ++ drop i part₀
 
-pub stored : (ls part : List ℕ) → Stored ls part part 0
-stored ls part = record { most = omega arith; same = refl; so-far = refl }
+pub stored : {ls part : List ℕ} → Stored ls part part 0
+stored = record { most = omega arith; same = refl; so-far = refl }
 
-module _ (ls part₀ part : List ℕ) (i : ℕ) (g : Stored ls part₀ part i) where
-  pub stored-more : (v : ℕ) → v ≡ byteOf (getD ls i 0) → (i < length ls) × (length part₀ ≡ length ls) → Stored ls part₀ (set part i v) (i + 1)
-  stored-more v e h = record {
+module _ {ls part₀ part : List ℕ} {i : ℕ} (g : Stored ls part₀ part i) where
+  pub stored-more : {v : ℕ} → v ≡ byteOf (getD ls i 0) → (i < length ls) × (length part₀ ≡ length ls) → Stored ls part₀ (set part i v) (i + 1)
+  stored-more {v} e h = record {
     most = omega arith;
     same = length-set part i v ∙ g .same;
     so-far =
@@ -161,42 +162,23 @@ cells-more w (suc n) t =
     let e : drop (n * (w + 1)) (drop (suc w) t) ≡ drop (suc n * (w + 1)) t = drop-drop (n * (w + 1)) (suc w) t ∙ ap (λ (k : ℕ). drop k t) (sym z) in
     rw (cells-more w n (drop (suc w) t), e, append-assoc)
 
--- The header, by its lines.
-module _ (text : List ℕ) where
-  abbrev no : Type 0
-  no = header text ≡ refuseAt 11 P.Nowhere
+-- What an accepted header has shown, line by line.
+pub record Headed (text : List ℕ) : Type 0 where
+  pub typed : begins typeAndHeight text ≡ true
+  pub high : 1 ≤ heightIn text
+  pub worded : begins andWidth (afterHeight text) ≡ true
+  pub wide : 1 ≤ widthIn text
+  pub mapped : begins andMap (afterWidth text) ≡ true
 
-  pub no-type : begins typeAndHeight text ≡ false → no
-  unfolding header
-  no-type a = simp a
-
-  module _ (h : ℕ) (a : begins typeAndHeight text ≡ true) (e : h ≡ heightIn text) where
-    pub no-height : h ≡ 0 → no
-    unfolding header
-    no-height z = simp (a, lt-leb 1 (heightIn text) (omega (arith, e)))
-
-    pub no-width-line : begins andWidth (afterHeight text) ≡ false → 1 ≤ h → no
-    unfolding header
-    no-width-line b l = simp (a, le-leb 1 (heightIn text) (omega (arith, e)), b)
-
-    module _ (w : ℕ) (b : begins andWidth (afterHeight text) ≡ true) (f : w ≡ widthIn text) where
-      pub no-width : w ≡ 0 → 1 ≤ h → no
-      unfolding header
-      no-width z l = simp (a, le-leb 1 (heightIn text) (omega (arith, e)), b, lt-leb 1 (widthIn text) (omega (arith, f)))
-
-      pub no-map : begins andMap (afterWidth text) ≡ false → (1 ≤ h) × (1 ≤ w) → no
-      unfolding header
-      no-map m l = simp (a, le-leb 1 (heightIn text) (omega (arith, e)), b, le-leb 1 (widthIn text) (omega (arith, f)), m)
-
-      pub sound : begins andMap (afterWidth text) ≡ true → (1 ≤ h) × (1 ≤ w) × (h ≤ 64) × (w ≤ 64) → Sound text w h
-      unfolding header
-      sound m l = record {
-        accepted = simp (a, le-leb 1 (heightIn text) (omega (arith, e)), b, le-leb 1 (widthIn text) (omega (arith, f)), m);
-        width = f;
-        height = e;
-        narrow = l .3;
-        low = l .2;
-      }
+pub header-judges : (text : List ℕ) → Judges (header text) 11 (Headed text)
+unfolding header
+header-judges text =
+    unless-judges _ 11
+    (told
+    (and-tells (and-tells (and-tells (and-tells (is-tells (begins typeAndHeight text)) (le-tells 1 (heightIn text))) (is-tells (begins andWidth (afterHeight text)))) (le-tells 1 (widthIn text)))
+    (is-tells (begins andMap (afterWidth text))))
+    (λ h. record { typed = h .0 .0 .0 .0; high = h .0 .0 .0 .1; worded = h .0 .0 .1; wide = h .0 .1; mapped = h .1 })
+    (λ h. ((((h .typed, h .high), h .worded), h .wide), h .mapped)))
 
 -- The public call, by what the header, the room and the rows say.
 pub header-refused : (text buffer : List ℕ) → header text ≡ refuseAt 11 P.Nowhere → Reads (readFloor text buffer) (Fr.Refused (record { number = 11; place = P.Nowhere })) buffer
@@ -236,9 +218,9 @@ pub record Filled (w h : ℕ) (text out₀ t out : List ℕ) (row : ℕ) : Type 
   pub left : t ≡ drop (row * (w + 1)) text
   pub so-far : out ≡ cellsOf w row text ++ drop (row * w) out₀
 
-pub filled : (w h : ℕ) (text out : List ℕ) → (w * h ≤ length out) × (h * (w + 1) ≤ length text) → Filled w h text out text out 0
+pub filled : {w h : ℕ} {text out : List ℕ} → (w * h ≤ length out) × (h * (w + 1) ≤ length text) → Filled w h text out text out 0
 unfolding cellsOf
-filled w h text out l = record {
+filled {w} l = record {
   most = omega arith;
   room = l .0;
   long = l .1;
@@ -247,7 +229,7 @@ filled w h text out l = record {
   so-far = let z : 0 * w ≡ 0 = omega arith in rw z;
 }
 
-module _ (w h : ℕ) (text out₀ t out : List ℕ) (row : ℕ) (g : Filled w h text out₀ t out row) where
+module _ {w h : ℕ} {text out₀ t out : List ℕ} {row : ℕ} (g : Filled w h text out₀ t out row) where
   -- a row is left to read, and room for its cells
   pub row-left : row < h → (row * w + w ≤ length out) × (w + 1 ≤ length t)
   row-left l =
@@ -256,9 +238,9 @@ module _ (w h : ℕ) (text out₀ t out : List ℕ) (row : ℕ) (g : Filled w h 
       let d : length t ≡ length text - row * (w + 1) = ap length (g .left) ∙ length-drop (row * (w + 1)) text in
       (omega (arith, g .room, g .same), omega (arith, g .long))
 
-  pub filled-more : (zs : List ℕ) → zs ≡ map byteOf (take w t) → row < h
+  pub filled-more : {zs : List ℕ} → zs ≡ map byteOf (take w t) → row < h
       → Filled w h text out₀ (take (length t - (w + 1)) (drop (w + 1) t)) (take (row * w) out ++ (zs ++ drop (row * w + w - row * w) (drop (row * w) out))) (row + 1)
-  filled-more zs e l =
+  filled-more {zs} e l =
       let r = row-left l in
       let a : row * (w + 1) ≤ length text = omega (arith, mul-le-mul-right (w + 1) (g .most), g .long) in
       let n : length (cellsOf w row text) ≡ row * w = length-cells w row text a in
@@ -288,7 +270,3 @@ module _ (w h : ℕ) (text out₀ t out : List ℕ) (row : ℕ) (g : Filled w h 
       let e : row ≡ h = omega (arith, g .most) in
       let z : w * h ≡ h * w = mul-comm w h in
       rw z (rw e at (g .so-far))
-
--- the text after the width's line, by what the code calls
-pub width-passed : (text p q : List ℕ) (w s : ℕ) → p ≡ drop (6 + s) q → s ≡ sizeBytes w → q ≡ afterHeight text → w ≡ widthIn text → p ≡ afterWidth text
-width-passed text p q w s a b c d = a ∙ λ i. drop (6 + (b ∙ ap sizeBytes d) i) (c i)

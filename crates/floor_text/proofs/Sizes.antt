@@ -117,7 +117,7 @@ module _ (t : List ℕ) where
   pub size-zero : first ≡ 48 → 0 ≡ sizeIn t
   size-zero e = sym (no-first (inl (omega arith)))
 
-  module _ (r : Run) (e : r ≡ runAt 64 t 0) (n : first ≡ 48 → ⊥) where
+  module _ {r : Run} (e : r ≡ runAt 64 t 0) (n : first ≡ 48 → ⊥) where
     by-run : sizeBy (r .after) (r .value) (getD t (r .after) 0) ≡ sizeIn t
     by-run =
         let d : r .after ≡ digitsIn t = omega (arith, ap (λ x. x .after) e) in

@@ -33,13 +33,13 @@ pub record Lettering (out₀ : List ℕ) (at : ℕ) (cells out : List ℕ) (i : 
   -- they stand there, and all else is as it was
   pub so-far : out ≡ sets out₀ at (take i (map letterOf cells))
 
-module _ (out₀ : List ℕ) (at : ℕ) (cells : List ℕ) where
+module _ {out₀ : List ℕ} {at : ℕ} {cells : List ℕ} where
   pub lettering : Lettering out₀ at cells out₀ 0
   lettering = record { most = omega arith; same = refl; so-far = refl }
 
-  module _ (out : List ℕ) (i : ℕ) (g : Lettering out₀ at cells out i) (room : at + length cells < length out₀) where
-    pub lettering-more : (v : ℕ) → v ≡ letterOf (getD cells i 0) → i < length cells → Lettering out₀ at cells (set out (at + i) v) (i + 1)
-    lettering-more v e h =
+  module _ {out : List ℕ} {i : ℕ} (g : Lettering out₀ at cells out i) (room : at + length cells < length out₀) where
+    pub lettering-more : {v : ℕ} → v ≡ letterOf (getD cells i 0) → i < length cells → Lettering out₀ at cells (set out (at + i) v) (i + 1)
+    lettering-more {v} e h =
         let n : length (map letterOf cells) ≡ length cells = length-map cells letterOf in
         record {
           most = omega arith;
@@ -67,11 +67,11 @@ pub record Rowing (out₀ : List ℕ) (at w h : ℕ) (floor out t : List ℕ) (e
   -- and make the whole
   pub left : sets out end (rowsOf w (h - row) t) ≡ sets out₀ at (rowsOf w h floor)
 
-module _ (out₀ : List ℕ) (at w h : ℕ) (floor : List ℕ) where
+module _ {out₀ : List ℕ} {at w h : ℕ} {floor : List ℕ} where
   pub rowing : (h * w ≤ length floor) × (at + length (rowsOf w h floor) ≤ length out₀) → Rowing out₀ at w h floor out₀ floor at 0
   rowing l = let e : h - 0 ≡ h = omega arith in record { most = omega arith; cells = rw e (l .0); same = refl; room = l .1; next = rw e; left = rw e }
 
-  module _ (out t : List ℕ) (end row : ℕ) (g : Rowing out₀ at w h floor out t end row) (l : row < h) where
+  module _ {out t : List ℕ} {end row : ℕ} (g : Rowing out₀ at w h floor out t end row) (l : row < h) where
     abbrev first : List ℕ
     first = map letterOf (take w t) ++ (LF ∷ [])
 
@@ -109,9 +109,9 @@ module _ (out₀ : List ℕ) (at w h : ℕ) (floor : List ℕ) where
           left = printed-then first others P (record { written = refl; next = refl }) .written ∙ (ap (sets out end) (sym rows-left) ∙ g .left);
         })
 
-  pub rowing-all : (out t : List ℕ) (end row : ℕ) → Rowing out₀ at w h floor out t end row → h ≤ row → Printed out₀ at (rowsOf w h floor) out end
+  pub rowing-all : {out t : List ℕ} {end row : ℕ} → Rowing out₀ at w h floor out t end row → h ≤ row → Printed out₀ at (rowsOf w h floor) out end
   unfolding rowsOf
-  rowing-all out t end row g l =
+  rowing-all {row = row} g l =
       let e : h - row ≡ 0 = omega arith in
       record { written = rw e at (g .left); next = omega (arith, rw e at (g .next)) }
 
@@ -132,7 +132,7 @@ head-then-rows f = simp append-assoc
 pub room-for-both : (f : Floor) → length (textOf f) ≡ length (headOf (f .width) (f .height)) + length (rowsOf (f .width) (f .height) (f .bytes))
 room-for-both f = ap length (sym (head-then-rows f)) ∙ length-append (headOf (f .width) (f .height)) (rowsOf (f .width) (f .height) (f .bytes))
 
-module _ (f : Floor) (buffer : List ℕ) (v : Verdict) (e : v ≡ textVerdict f (length buffer)) where
+module _ (f : Floor) (buffer : List ℕ) {v : Verdict} (e : v ≡ textVerdict f (length buffer)) where
   pub write-refused : (r : Refusal) → v ≡ Vd.Refused r → Writes (writeFloor f buffer) (Wr.Refused r) buffer
   unfolding writeFloor
   write-refused = writes-refused (textOf f) buffer e

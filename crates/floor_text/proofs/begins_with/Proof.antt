@@ -12,6 +12,6 @@ abbrev μ-loop : tie.MeasureT-loop
 
 pub begins-with-spec : {M : Type 1} → f.Statement.statement M
 begins-with-spec =
-    tie.close (tie.spec Inv-loop μ-loop (λ c. sym (begins-short _ _ (omega arith))) (λ c. begun _ _) (λ c. search needs) (λ c. search needs)
-    (λ c. begun-not _ _ _ (c .before .before .before .before .loop .inv) (c .if2 .taken) (omega arith)) (λ c. search needs) (λ c. search needs)
-    (λ c. begun-more _ _ _ (c .before .before .before .before .loop .inv) (c .if2 .left) (omega arith)) (λ c. begun-all _ _ _ (c .before .loop .inv) (omega arith)))
+    tie.close (tie.spec Inv-loop μ-loop (λ c. sym (begins-short _ _ (omega arith))) (λ c. begun) (search needs) (search needs)
+    (λ c. begun-not (c .before .before .before .before .loop .inv) (c .if2 .taken) (omega arith)) (search needs) (search needs)
+    (λ c. begun-more (c .before .before .before .before .loop .inv) (c .if2 .left) (omega arith)) (λ c. begun-all (c .before .loop .inv) (omega arith)))

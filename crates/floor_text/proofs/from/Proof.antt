@@ -6,5 +6,5 @@ use f.Tie as tie
 
 pub from-spec : {M : Type 1} → f.Statement.statement M
 from-spec =
-    tie.close (tie.spec (λ c. search needs) (λ c. search needs) (λ c. search needs) (λ c. rest (c .before .before .args .at) (c .before .before .args .text .now)) (λ c. search needs)
-    (λ c. search needs) (λ c. search needs) (λ c. rest-end (c .before .before .args .at) (c .before .before .args .text .now) (omega arith)))
+    tie.close (tie.spec (search needs) (search needs) (search needs) (λ c. rest (c .before .before .args .at) (c .before .before .args .text .now)) (search needs)
+    (search needs) (search needs) (λ c. rest-end (c .before .before .args .at) (c .before .before .args .text .now) (omega arith)))

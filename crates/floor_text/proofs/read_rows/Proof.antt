@@ -35,4 +35,4 @@ returns-3 c =
 pub read-rows-spec : {M : Type 1} → f.Statement.statement M
 read-rows-spec =
     tie.close (tie.spec (λ c. omega (arith, mul-le-mul (c .before .before .pre .narrow) (c .before .before .pre .low))) (λ c. no-room _ _ _ _ (c .before .before .before .pre) (omega arith))
-    (λ c κs. search needs) (λ c κs. search needs) (λ c κs. search needs) (λ c. search needs) (λ c. search needs) store-rows-requires returns-2 (λ c. search needs) returns-3)
+    (search needs) (search needs) (search needs) (search needs) (search needs) store-rows-requires returns-2 (search needs) returns-3)

@@ -12,6 +12,6 @@ abbrev μ-loop : tie.MeasureT-loop
 
 pub store-row-spec : {M : Type 1} → f.Statement.statement M
 store-row-spec =
-    tie.close (tie.spec Inv-loop μ-loop (λ c. stored _ _) (λ c. search needs) (λ c κs. search needs) (λ c. search needs) (λ c. search needs) (λ c. search needs)
-    (λ c. stored-more _ _ _ _ (c .before .before .before .loop .inv) _ (c .byte-of .ensures) (omega arith)) (λ c. search needs)
-    (λ c. stored-all _ _ _ _ (c .before .loop .inv) (omega arith)))
+    tie.close (tie.spec Inv-loop μ-loop (λ c. stored) (search needs) (search needs) (search needs) (search needs) (search needs)
+    (λ c. stored-more (c .before .before .before .loop .inv) (c .byte-of .ensures) (omega arith)) (search needs)
+    (λ c. stored-all (c .before .loop .inv) (omega arith)))

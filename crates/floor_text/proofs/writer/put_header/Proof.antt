@@ -16,10 +16,10 @@ first e = e .before .before .before .before .before
 
 -- room for the second line and the third
 room : (e : tie.After-put-line) → e .put-line .result + (10 + length (sizeLine (begun e .args .width))) ≤ length (e .put-line .last .0)
-room e = let a = begun e .args in omega (arith, length-head (a .width) (a .height), e .put-line .ensures .next, e .put-line .kept .0)
+room e = let a = begun e .args in omega (arith, length-head (a .width) (a .height))
 
 bytes-requires : tie.Need-bytes-requires
-bytes-requires c κs = let second = c .before .before .before .before in omega (arith, room (first second), second .put-line2 .ensures .next, second .put-line2 .kept .0)
+bytes-requires c κs = let second = c .before .before .before .before in omega (arith, room (first second))
 
 returns : tie.Need-returns
 returns c =
@@ -31,5 +31,5 @@ returns c =
 
 pub put-header-spec : {M : Type 1} → f.Statement.statement M
 put-header-spec =
-    tie.close (tie.spec (λ c. search needs) (λ c κs. let a = c .before .before .before .args in omega (arith, length-head (a .width) (a .height))) (λ c. search needs)
-    (λ c κs. omega (arith, room (c .before .before .before .before))) (λ c. search needs) bytes-requires (λ c. search needs) returns)
+    tie.close (tie.spec (search needs) (λ c κs. let a = c .before .before .before .args in omega (arith, length-head (a .width) (a .height))) (search needs)
+    (λ c κs. omega (arith, room (c .before .before .before .before))) (search needs) bytes-requires (search needs) returns)

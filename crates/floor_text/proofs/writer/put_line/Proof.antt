@@ -8,14 +8,14 @@ use f.Tie as tie
 
 -- once the word is put: room for the digits and the LF
 room : (e : tie.After-bytes) → let n = e .before .before .before .before .args .n in e .bytes .result + (length (decimal n) + 1) ≤ length (e .bytes .last .0)
-room e = let n = e .before .before .before .before .args .n in omega (arith, e .bytes .ensures .next, e .bytes .kept .0, length-append (decimal n) (LF ∷ []))
+room e = let n = e .before .before .before .before .args .n in omega (arith, length-append (decimal n) (LF ∷ []))
 
 -- the digits are put
 abbrev worded : tie.After-decimal → tie.After-bytes
 worded e = e .before .before .before .before
 
 byte-requires : tie.Need-byte-requires
-byte-requires c κs = let numbered = c .before .before .before in omega (arith, room (worded numbered), numbered .decimal .ensures .next, numbered .decimal .kept .0)
+byte-requires c κs = let numbered = c .before .before .before in omega (arith, room (worded numbered))
 
 returns : tie.Need-returns
 returns c =
@@ -25,4 +25,4 @@ returns c =
     (printed-then (decimal (a .n)) (LF ∷ []) (numbered .decimal .ensures) (c .before .before .byte .ensures))
 
 pub put-line-spec : {M : Type 1} → f.Statement.statement M
-put-line-spec = tie.close (tie.spec (λ c κs. search needs) (λ c κs. omega (arith, room (c .before .before .before))) byte-requires (λ c. search needs) returns)
+put-line-spec = tie.close (tie.spec (search needs) (λ c κs. omega (arith, room (c .before .before .before))) byte-requires (search needs) returns)

@@ -15,7 +15,7 @@ ahead : (e : tie.In-loop Inv-loop μ-loop) →
     let l = e .before .loop in
     let w = e .before .before .before .before .args .width in
     (w ≤ length (l .t .now)) × (l .end + w < length (l .out))
-ahead e = row-ahead _ _ _ _ _ _ _ _ _ (e .before .loop .inv) (omega arith)
+ahead e = row-ahead (e .before .loop .inv) (omega arith)
 
 whole-row : (e : tie.In-loop Inv-loop μ-loop) → let w = e .before .before .before .before .args .width in w ≡ length (take w (e .before .loop .t .now))
 whole-row e = sym (length-take-le _ _ (ahead e .0))
@@ -23,11 +23,11 @@ whole-row e = sym (length-take-le _ _ (ahead e .0))
 loop-again : tie.Need-loop-again Inv-loop μ-loop
 loop-again c =
     let in-loop = c .before .before .before .before .before .before in
-    rowing-more _ _ _ _ _ _ _ _ _ (in-loop .before .loop .inv) (omega arith) (c .before .before .before .put-row .ensures)
+    rowing-more (in-loop .before .loop .inv) (omega arith) (c .before .before .before .put-row .ensures)
 
 pub put-rows-spec : {M : Type 1} → f.Statement.statement M
 put-rows-spec =
-    tie.close (tie.spec Inv-loop μ-loop (λ c. rowing _ _ _ _ _ (omega arith)) (λ c. whole-row (c .before .before))
+    tie.close (tie.spec Inv-loop μ-loop (λ c. rowing (omega arith)) (λ c. whole-row (c .before .before))
     (λ c κs. let in-loop = c .before .before in omega (arith, ahead in-loop, whole-row in-loop)) (λ c. omega (arith, ahead (c .before .before .before .before .before)))
-    (λ c. omega (arith, ahead (c .before .before .before .before .before))) (λ c. omega (arith, ahead (c .before .before .before .before .before))) (λ c. search needs) (λ c. search needs)
-    loop-again (λ c. omega arith) (λ c. rowing-all _ _ _ _ _ _ _ _ _ (c .before .loop .inv) (omega arith)))
+    (λ c. omega (arith, ahead (c .before .before .before .before .before))) (λ c. omega (arith, ahead (c .before .before .before .before .before))) (search needs) (search needs)
+    loop-again (omega arith) (λ c. rowing-all (c .before .loop .inv) (omega arith)))

@@ -8,9 +8,9 @@ small : (c : tie.After-size-bytes2) → let a = c .before .before .args in a .he
 small c = let wide : c .before .before .args .width + 1 ≤ 65 = omega arith in mul-le-mul (c .before .before .pre .1) wide
 
 returns : tie.Need-returns
-returns c bytes s = omega (arith, length-text _ s, c .size-bytes2 .ensures .0, c .before .size-bytes .ensures .0)
+returns c bytes s = omega (arith, length-text _ s)
 
 pub text-bytes-spec : {M : Type 1} → f.Statement.statement M
 text-bytes-spec =
-    tie.close (tie.spec (λ c κs. search needs) (λ c. search needs) (λ c κs. search needs) (λ c. search needs) (λ c. search needs) (λ c. omega (arith, small c)) (λ c. omega (arith, small c))
+    tie.close (tie.spec (search needs) (search needs) (search needs) (search needs) (search needs) (λ c. omega (arith, small c)) (λ c. omega (arith, small c))
     returns)

@@ -27,16 +27,16 @@ put-rows-requires c κs =
     let headed = c .before .before .before in
     let e = at-passed headed in (
       omega (arith, passed e .0 .cells, mul-comm (begun e .args .width) (begun e .args .height)),
-      omega (arith, passed e, room-for-both (floor e), headed .put-header .ensures .next, headed .put-header .kept .0),
+      omega (arith, passed e, room-for-both (floor e)),
     )
 
 returns-2 : tie.Need-returns-2
 returns-2 c =
     let headed = c .before .before .before .before .before .before in
     let e = at-passed headed in
-    write-done _ _ _ (e .before .before .judge-text .ensures) (e .enum-told .given .1) (passed e .1) (headed .put-header .ensures) (c .before .before .put-rows .ensures)
+    write-done _ _ (e .before .before .judge-text .ensures) (e .enum-told .given .1) (passed e .1) (headed .put-header .ensures) (c .before .before .put-rows .ensures)
 
 pub write-floor-spec : {M : Type 1} → f.Statement.statement M
 write-floor-spec =
-    tie.close (tie.spec (λ c κs. search needs) (λ c. search needs) (λ c. search needs) (λ c κs. let e = c .before in omega (arith, passed e, room-for-both (floor e))) put-rows-requires
-    (λ c. write-refused _ _ _ (c .before .before .before .judge-text .ensures) (c .before .v .given .0 .0) (c .before .v .given .1)) (λ c. search needs) returns-2)
+    tie.close (tie.spec (search needs) (search needs) (search needs) (λ c κs. let e = c .before in omega (arith, passed e, room-for-both (floor e))) put-rows-requires
+    (λ c. write-refused _ _ (c .before .before .before .judge-text .ensures) (c .before .v .given .0 .0) (c .before .v .given .1)) (search needs) returns-2)
