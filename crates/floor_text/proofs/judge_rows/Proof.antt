@@ -11,21 +11,12 @@ Inv-loop width height text t₀ row₀ t row = Rowed width height text t row
 abbrev μ-loop : tie.MeasureT-loop
 μ-loop width height text t₀ row₀ t row = height - row
 
-returns : tie.Need-returns Inv-loop μ-loop
-returns c = rowed-fault (c .before .before .before .loop .inv) (sym (c .before .row-holds .ensures) ∙ not-true _ (c .if1 .taken)) (omega arith)
-
-loop-again : tie.Need-loop-again Inv-loop μ-loop
-loop-again c = rowed-more (c .before .before .before .before .loop .inv) (sym (c .before .before .row-holds .ensures) ∙ not-false _ (c .before .if1 .left)) (omega arith)
-
-returns-2 : tie.Need-returns-2 Inv-loop μ-loop
-returns-2 c = rw (eq-eqb _ 0 (c .if2 .taken)) at (rowed-all (c .before .before .loop .inv) (omega arith))
-
-returns-3 : tie.Need-returns-3 Inv-loop μ-loop
-returns-3 c = rw (ne-eqb _ 0 (c .if2 .left)) at (rowed-all (c .before .before .loop .inv) (omega arith))
-
 pub judge-rows-spec : {M : Type 1} → f.Statement.statement M
 judge-rows-spec =
-    tie.close (tie.spec Inv-loop μ-loop (λ c. rowed) (search needs) (search needs) returns (search needs)
+    tie.close (tie.spec Inv-loop μ-loop (λ c. rowed) (search needs) (search needs)
+    (λ c. rowed-fault (c .before .before .before .loop .inv) (sym (c .before .row-holds .ensures) ∙ not-true _ (c .if1 .taken)) (omega arith)) (search needs)
     (λ c. omega (arith, row-gives _ _ (sym (c .before .row-holds .ensures) ∙ not-false _ (c .if1 .left)) .0))
-    (λ c. omega (arith, row-gives _ _ (sym (c .before .row-holds .ensures) ∙ not-false _ (c .if1 .left)) .0)) (search needs) (search needs) (search needs) loop-again returns-2
-    (search needs) returns-3)
+    (λ c. omega (arith, row-gives _ _ (sym (c .before .row-holds .ensures) ∙ not-false _ (c .if1 .left)) .0)) (search needs) (search needs) (search needs)
+    (λ c. rowed-more (c .before .before .before .before .loop .inv) (sym (c .before .before .row-holds .ensures) ∙ not-false _ (c .before .if1 .left)) (omega arith))
+    (λ c. rw (eq-eqb _ 0 (c .if2 .taken)) at (rowed-all (c .before .before .loop .inv) (omega arith))) (search needs)
+    (λ c. rw (ne-eqb _ 0 (c .if2 .left)) at (rowed-all (c .before .before .loop .inv) (omega arith))))

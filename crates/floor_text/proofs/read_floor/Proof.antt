@@ -4,12 +4,7 @@ use Rattle.floor_text.proofs.Laws.{header-refused}
 use Rattle.floor_text.proofs.read_floor as f
 use f.Tie as tie
 
-read-rows-requires : tie.Need-read-rows-requires
-read-rows-requires c κs =
-    rw (c .before .before .h .given .1) at (c .before .before .before .before .read-header .ensures)
-
-returns : tie.Need-returns
-returns c = header-refused _ _ (rw (c .enum-told .given .1) at (c .before .before .read-header .ensures))
-
 pub read-floor-spec : {M : Type 1} → f.Statement.statement M
-read-floor-spec = tie.close (tie.spec (search needs) (search needs) (search needs) read-rows-requires returns (search needs) (λ c. search needs))
+read-floor-spec =
+    tie.close (tie.spec (search needs) (search needs) (search needs) (λ c κs. rw (c .before .before .h .given .1) at (c .before .before .before .before .read-header .ensures))
+    (λ c. header-refused _ _ (rw (c .enum-told .given .1) at (c .before .before .read-header .ensures))) (search needs) (λ c. search needs))

@@ -21,11 +21,6 @@ store-rows-requires c κs =
     let e = c .before .before .before in
     (begun e .pre .narrow, begun e .pre .low, omega arith, rows-there _ _ 5 _ (sym (e .judge-rows .ensures) ∙ c .before .enum-told .given .1))
 
-returns-2 : tie.Need-returns-2
-returns-2 c =
-    let e = c .before .before .before in
-    rows-refused _ _ _ _ (begun e .pre) (omega arith) (c .before .v .given .0 .0) (sym (judged e) ∙ c .before .v .given .1)
-
 returns-3 : tie.Need-returns-3
 returns-3 c =
     let told = c .before .before .before .before in
@@ -35,4 +30,5 @@ returns-3 c =
 pub read-rows-spec : {M : Type 1} → f.Statement.statement M
 read-rows-spec =
     tie.close (tie.spec (λ c. omega (arith, mul-le-mul (c .before .before .pre .narrow) (c .before .before .pre .low))) (λ c. no-room _ _ _ _ (c .before .before .before .pre) (omega arith))
-    (search needs) (search needs) (search needs) (search needs) (search needs) store-rows-requires returns-2 (search needs) returns-3)
+    (search needs) (search needs) (search needs) (search needs) (search needs) store-rows-requires
+    (λ c. let e = c .before .before .before in rows-refused _ _ _ _ (begun e .pre) (omega arith) (c .before .v .given .0 .0) (sym (judged e) ∙ c .before .v .given .1)) (search needs) returns-3)

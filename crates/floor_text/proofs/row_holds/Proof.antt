@@ -10,13 +10,9 @@ Inv-loop width text i₀ i = Lettered width text i
 abbrev μ-loop : tie.MeasureT-loop
 μ-loop width text i₀ i = width - i
 
-returns-2 : tie.Need-returns-2 Inv-loop μ-loop
-returns-2 c = row-not (c .before .before .before .before .loop .inv) (sym (c .before .is-letter .ensures) ∙ not-true _ (c .if2 .taken)) (omega arith)
-
-loop-again : tie.Need-loop-again Inv-loop μ-loop
-loop-again c = lettered-more (c .before .before .before .before .loop .inv) (sym (c .before .is-letter .ensures) ∙ not-false _ (c .if2 .left)) (omega arith)
-
 pub row-holds-spec : {M : Type 1} → f.Statement.statement M
 row-holds-spec =
-    tie.close (tie.spec Inv-loop μ-loop (λ c. row-short _ _ (omega arith)) (λ c. lettered) (search needs) (search needs) returns-2 (search needs) (search needs)
-    loop-again (search needs) (λ c. row-end (c .before .before .loop .inv) (omega arith)))
+    tie.close (tie.spec Inv-loop μ-loop (λ c. row-short _ _ (omega arith)) (λ c. lettered) (search needs) (search needs)
+    (λ c. row-not (c .before .before .before .before .loop .inv) (sym (c .before .is-letter .ensures) ∙ not-true _ (c .if2 .taken)) (omega arith)) (search needs) (search needs)
+    (λ c. lettered-more (c .before .before .before .before .loop .inv) (sym (c .before .is-letter .ensures) ∙ not-false _ (c .if2 .left)) (omega arith)) (search needs)
+    (λ c. row-end (c .before .before .loop .inv) (omega arith)))

@@ -24,11 +24,8 @@ returns-2 c =
     let long = counted .text-bytes .ensures _ (sized (counted .before)) in
     c .refuse .ensures ∙ sym (by-room (counted .before) ∙ room-judges _ _ .refused (λ h. omega arith))
 
-returns-3 : tie.Need-returns-3
-returns-3 c = let long = c .before .text-bytes .ensures _ (sized (c .before .before)) in sym (by-room (c .before .before) ∙ room-judges _ _ .done (omega arith))
-
 pub judge-text-spec : {M : Type 1} → f.Statement.statement M
 unfolding textVerdict
 judge-text-spec =
-    tie.close (tie.spec (search needs) (search needs) (search needs) (λ c. then-stops _ (c .before .before .sizes .ensures) (c .enum-told2 .given .1))
-    (λ c κs. omega (arith, sized c)) (search needs) returns-2 returns-3)
+    tie.close (tie.spec (search needs) (search needs) (search needs) (λ c. then-stops _ (c .before .before .sizes .ensures) (c .enum-told2 .given .1)) (λ c κs. omega (arith, sized c))
+    (search needs) returns-2 (λ c. let long = c .before .text-bytes .ensures _ (sized (c .before .before)) in sym (by-room (c .before .before) ∙ room-judges _ _ .done (omega arith))))

@@ -18,9 +18,6 @@ first e = e .before .before .before .before .before
 room : (e : tie.After-put-line) → e .put-line .result + (10 + length (sizeLine (begun e .args .width))) ≤ length (e .put-line .last .0)
 room e = let a = begun e .args in omega (arith, length-head (a .width) (a .height))
 
-bytes-requires : tie.Need-bytes-requires
-bytes-requires c κs = let second = c .before .before .before .before in omega (arith, room (first second))
-
 returns : tie.Need-returns
 returns c =
     let third = c .before .before in
@@ -32,4 +29,4 @@ returns c =
 pub put-header-spec : {M : Type 1} → f.Statement.statement M
 put-header-spec =
     tie.close (tie.spec (search needs) (λ c κs. let a = c .before .before .before .args in omega (arith, length-head (a .width) (a .height))) (search needs)
-    (λ c κs. omega (arith, room (c .before .before .before .before))) (search needs) bytes-requires (search needs) returns)
+    (λ c κs. omega (arith, room (c .before .before .before .before))) (search needs) (λ c κs. omega (arith, room (first (c .before .before .before .before)))) (search needs) returns)

@@ -14,9 +14,6 @@ room e = let n = e .before .before .before .before .args .n in omega (arith, len
 abbrev worded : tie.After-decimal → tie.After-bytes
 worded e = e .before .before .before .before
 
-byte-requires : tie.Need-byte-requires
-byte-requires c κs = let numbered = c .before .before .before in omega (arith, room (worded numbered))
-
 returns : tie.Need-returns
 returns c =
     let numbered = c .before .before .before .before .before .before in
@@ -25,4 +22,4 @@ returns c =
     (printed-then (decimal (a .n)) (LF ∷ []) (numbered .decimal .ensures) (c .before .before .byte .ensures))
 
 pub put-line-spec : {M : Type 1} → f.Statement.statement M
-put-line-spec = tie.close (tie.spec (search needs) (λ c κs. omega (arith, room (c .before .before .before))) byte-requires (search needs) returns)
+put-line-spec = tie.close (tie.spec (search needs) (λ c κs. omega (arith, room (c .before .before .before))) (λ c κs. omega (arith, room (worded (c .before .before .before)))) (search needs) returns)

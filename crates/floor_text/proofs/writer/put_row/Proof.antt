@@ -10,11 +10,8 @@ Inv-loop out₀ at cells i₀ out i = Lettering out₀ at cells out i
 abbrev μ-loop : tie.MeasureT-loop
 μ-loop out₀ at cells i₀ out i = length cells - i
 
-returns : tie.Need-returns Inv-loop μ-loop
-returns c = let stopped = c .before .before .before .before .before in lettering-all (stopped .loop .inv) (omega arith) (omega arith) (c .before .before .byte .ensures)
-
 pub put-row-spec : {M : Type 1} → f.Statement.statement M
 put-row-spec =
     tie.close (tie.spec Inv-loop μ-loop (λ c. lettering) (search needs) (search needs) (search needs) (search needs) (search needs) (search needs)
-    (λ c. lettering-more (c .before .before .before .loop .inv) (omega arith) (c .letter-of .ensures) (omega arith)) (search needs) (search needs)
-    (search needs) returns)
+    (λ c. lettering-more (c .before .before .before .loop .inv) (omega arith) (c .letter-of .ensures) (omega arith)) (search needs) (search needs) (search needs)
+    (λ c. let stopped = c .before .before .before .before .before in lettering-all (stopped .loop .inv) (omega arith) (omega arith) (c .before .before .byte .ensures)))

@@ -7,10 +7,7 @@ use f.Tie as tie
 small : (c : tie.After-size-bytes2) → let a = c .before .before .args in a .height * (a .width + 1) ≤ 4160
 small c = let wide : c .before .before .args .width + 1 ≤ 65 = omega arith in mul-le-mul (c .before .before .pre .1) wide
 
-returns : tie.Need-returns
-returns c bytes s = omega (arith, length-text _ s)
-
 pub text-bytes-spec : {M : Type 1} → f.Statement.statement M
 text-bytes-spec =
     tie.close (tie.spec (search needs) (search needs) (search needs) (search needs) (search needs) (λ c. omega (arith, small c)) (λ c. omega (arith, small c))
-    returns)
+    (λ c bytes s. omega (arith, length-text _ s)))

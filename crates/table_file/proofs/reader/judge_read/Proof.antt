@@ -31,18 +31,11 @@ by-table : (e : tie.Else2) → let a = at-start (at-trailer e .before .before) .
 unfolding readVerdict checkTrailer checkAhead
 by-table e = let held = at-trailer e in rw (opens (held .before .before), holds held, ← (e .before .back-in .ensures), le-leb _ _ (e .if2 .left))
 
-returns-2 : tie.Need-returns-2
-unfolding readVerdict checkTrailer
-returns-2 c = rw (opens (c .before .before .before), sym (c .before .before .trailer-holds .ensures) ∙ not-true _ (c .before .if1 .taken)) (c .refuse .ensures)
-
 returns-3 : tie.Need-returns-3
 unfolding readVerdict checkTrailer checkAhead
 returns-3 c =
     let back = c .before .before in
     rw (opens (back .before .before .before), holds (back .before), ← (back .back-in .ensures), lt-leb _ _ (c .before .if2 .taken)) (c .refuse2 .ensures)
-
-returns-4 : tie.Need-returns-4
-returns-4 c = rw (by-table (c .before .before .before)) (then-stops _ (c .before .before .same-job .ensures _) (c .enum-told4 .given .1))
 
 judge-records-requires : tie.Need-judge-records-requires
 judge-records-requires c κs =
@@ -56,8 +49,10 @@ returns-5 c =
     (then-goes _ (same .before .before .same-job .ensures _) (same .enum-told3 .given .1) (c .judge-records .ensures))
 
 pub judge-read-spec : {M : Type 1} → f.Statement.statement M
-unfolding readVerdict
+unfolding checkTrailer readVerdict
 judge-read-spec =
-    tie.close (tie.spec (search needs) (search needs) (search needs) (λ c. then-stops _ (c .before .before .open-table .ensures) (c .enum-told2 .given .1)) (search needs) (search needs) returns-2
-    (search (ending-room, holds)) (search needs) returns-3 (search holds) (search needs) (search needs) returns-4
-    (search (ending-room, holds)) (search needs) judge-records-requires returns-5)
+    tie.close (tie.spec (search needs) (search needs) (search needs) (λ c. then-stops _ (c .before .before .open-table .ensures) (c .enum-told2 .given .1)) (search needs) (search needs)
+    (λ c. rw (opens (c .before .before .before), sym (c .before .before .trailer-holds .ensures) ∙ not-true _ (c .before .if1 .taken)) (c .refuse .ensures)) (search (ending-room, holds))
+    (search needs) returns-3 (search holds) (search needs) (search needs)
+    (λ c. rw (by-table (c .before .before .before)) (then-stops _ (c .before .before .same-job .ensures _) (c .enum-told4 .given .1))) (search (ending-room, holds)) (search needs)
+    judge-records-requires returns-5)

@@ -11,15 +11,10 @@ Inv-loop site floor part n t₀ i₀ low₀ t i low = Judging (floorAt site floo
 abbrev μ-loop : tie.MeasureT-loop
 μ-loop site floor part n t₀ i₀ low₀ t i low = n - i
 
-returns : tie.Need-returns Inv-loop μ-loop
-returns c = c .refuse-at .ensures ∙ judging-stop (c .before .before .before .before .loop .inv) (c .before .before .record-fault .ensures) (c .before .if1 .taken) (omega arith)
-
-loop-again : tie.Need-loop-again Inv-loop μ-loop
-loop-again c =
-    let judged = c .before .before .before in
-    judging-more (judged .before .before .loop .inv) (c .before .half-at .ensures .0) (omega arith) (omega arith)
-
 pub judge-records-spec : {M : Type 1} → f.Statement.statement M
 judge-records-spec =
-    tie.close (tie.spec Inv-loop μ-loop (λ c. judging (omega arith)) (λ c κs. search needs) (λ c κs. search needs) returns (λ c κs. search needs) (search needs)
-    (search needs) (search needs) (search needs) (search needs) (search needs) loop-again (λ c. judging-all (c .before .loop .inv) (omega arith)))
+    tie.close (tie.spec Inv-loop μ-loop (λ c. judging (omega arith)) (λ c κs. search needs) (λ c κs. search needs)
+    (λ c. c .refuse-at .ensures ∙ judging-stop (c .before .before .before .before .loop .inv) (c .before .before .record-fault .ensures) (c .before .if1 .taken) (omega arith))
+    (λ c κs. search needs) (search needs) (search needs) (search needs) (search needs) (search needs) (search needs)
+    (λ c. let judged = c .before .before .before in judging-more (judged .before .before .loop .inv) (c .before .half-at .ensures .0) (omega arith) (omega arith))
+    (λ c. judging-all (c .before .loop .inv) (omega arith)))

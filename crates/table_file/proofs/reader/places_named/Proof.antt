@@ -14,13 +14,8 @@ Inv-loop goals t i₀ i = (k : ℕ) → k < i → halfAt t (4 + 2 * k) ≡ goalP
 abbrev μ-loop : tie.MeasureT-loop
 μ-loop goals t i₀ i = mostGoals - i
 
-returns : tie.Need-returns Inv-loop μ-loop
-returns c = refuted (places-named _ _) (λ h. c .if1 .taken (omega (arith, h (c .before .before .before .before .loop .i) (omega arith))))
-
-loop-again : tie.Need-loop-again Inv-loop μ-loop
-loop-again c = let l = c .before .before .before .before .loop in below-more _ (l .i) (l .inv) (omega arith)
-
 pub places-named-spec : {M : Type 1} → f.Statement.statement M
 places-named-spec =
-    tie.close (tie.spec Inv-loop μ-loop (λ c k h. absurd (omega arith)) (omega arith) (omega arith) (search needs) (search needs) returns (omega arith)
-    (omega arith) loop-again (λ c. sym (places-named _ _ .shown (λ k h. c .before .loop .inv k (omega arith)))))
+    tie.close (tie.spec Inv-loop μ-loop (λ c k h. absurd (omega arith)) (omega arith) (omega arith) (search needs) (search needs)
+    (λ c. refuted (places-named _ _) (λ h. c .if1 .taken (omega (arith, h (c .before .before .before .before .loop .i) (omega arith))))) (omega arith) (omega arith)
+    (λ c. let l = c .before .before .before .before .loop in below-more _ (l .i) (l .inv) (omega arith)) (λ c. sym (places-named _ _ .shown (λ k h. c .before .loop .inv k (omega arith)))))

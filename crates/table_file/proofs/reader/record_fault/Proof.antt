@@ -19,11 +19,6 @@ opens : (e : tie.After-opening) → let a = at-start e .args in
     opening (floorAt (a .site) (a .floor .now)) (a .site .q) (goalsAt (a .site)) (cellIn (a .part .now)) ≡ e .opening .result
 opens e = cc (e .opening .ensures (at-start e .args .floor .now))
 
-returns-3 : tie.Need-returns-3
-returns-3 c =
-    let e = c .before in
-    sym (faulty-is _ _ _ _ _ (not-above-before (omega arith) (cc (not-false (e .before .is-free .result) (e .if2 .left))) (omega arith)))
-
 returns-4 : tie.Need-returns-4
 returns-4 c =
     let e = at-free (c .before) in
@@ -50,5 +45,6 @@ returns-6 c =
 pub record-fault-spec : {M : Type 1} → f.Statement.statement M
 record-fault-spec =
     tie.close (tie.spec (search needs) (search needs) (λ c. sym (faulty-is _ _ _ _ _ (off-the-floor (omega arith)))) (search needs)
-    (λ c. sym (faulty-is _ _ _ _ _ (blocked (omega arith) (cc (not-true (c .before .is-free .result) (c .if2 .taken)))))) returns-3 (search needs) (λ c κs. search needs) returns-4
-    returns-5 returns-6)
+    (λ c. sym (faulty-is _ _ _ _ _ (blocked (omega arith) (cc (not-true (c .before .is-free .result) (c .if2 .taken))))))
+    (λ c. let e = c .before in sym (faulty-is _ _ _ _ _ (not-above-before (omega arith) (cc (not-false (e .before .is-free .result) (e .if2 .left))) (omega arith)))) (search needs)
+    (λ c κs. search needs) returns-4 returns-5 returns-6)

@@ -15,12 +15,10 @@ by-scale e bytes =
     let named = e .before .before .before in
     rw (sym (named .before .names .ensures bytes) ∙ not-false _ (named .if1 .left), ← (e .before .before .ending-of .ensures .0), ← (e .wide8 .ensures .0))
 
-returns : tie.Need-returns
-unfolding sameJob
-returns c bytes = rw (sym (c .before .before .names .ensures bytes) ∙ not-true _ (c .before .if1 .taken)) (c .refuse .ensures)
-
 pub same-job-spec : {M : Type 1} → f.Statement.statement M
+unfolding sameJob
 same-job-spec =
-    tie.close (tie.spec (λ c κs. search needs) (search needs) returns (λ c κs. ending-room _ (c .before .before .before .pre)) (search needs) (search needs)
-    (search needs) (λ c bytes. rw (by-scale (c .before .before .before) bytes, ne-eqb _ _ (c .before .if2 .taken)) (c .refuse2 .ensures))
+    tie.close (tie.spec (λ c κs. search needs) (search needs) (λ c bytes. rw (sym (c .before .before .names .ensures bytes) ∙ not-true _ (c .before .if1 .taken)) (c .refuse .ensures))
+    (λ c κs. ending-room _ (c .before .before .before .pre)) (search needs) (search needs) (search needs)
+    (λ c bytes. rw (by-scale (c .before .before .before) bytes, ne-eqb _ _ (c .before .if2 .taken)) (c .refuse2 .ensures))
     (λ c bytes. rw (by-scale (c .before .before) bytes, eq-eqb _ _ (c .if2 .left))))

@@ -11,19 +11,10 @@ use f.Tie as tie
 holds : (e : tie.Else1) → trailerHolds (now (e .before .before .before .args .file)) ≡ true
 holds e = sym (e .before .trailer-holds .ensures) ∙ not-false _ (e .if1 .left)
 
-returns-2 : tie.Need-returns-2
-unfolding renewVerdict checkTrailer
-returns-2 c =
-    let held = holds (c .before .before .before) in
-    let long = renewed-bytes _ held in
-    rw held (c .refuse2 .ensures ∙ sym (room-judges _ _ .refused (λ w. omega arith)))
-
-returns-3 : tie.Need-returns-3
-unfolding renewVerdict checkTrailer
-returns-3 c = let held = holds (c .before .before) in let long = renewed-bytes _ held in rw held (sym (room-judges _ _ .done (omega arith)))
-
 pub judge-renew-spec : {M : Type 1} → f.Statement.statement M
-unfolding renewVerdict checkTrailer
+unfolding checkTrailer renewVerdict
 judge-renew-spec =
-    tie.close (tie.spec (search needs) (search needs) (λ c. rw (sym (c .before .before .trailer-holds .ensures) ∙ not-true _ (c .before .if1 .taken)) (c .refuse .ensures)) (search (ending-room, holds))
-    (search needs) (search needs) (search needs) returns-2 returns-3)
+    tie.close (tie.spec (search needs) (search needs) (λ c. rw (sym (c .before .before .trailer-holds .ensures) ∙ not-true _ (c .before .if1 .taken)) (c .refuse .ensures))
+    (search (ending-room, holds)) (search needs) (search needs) (search needs)
+    (λ c. let held = holds (c .before .before .before) in let long = renewed-bytes _ held in rw held (c .refuse2 .ensures ∙ sym (room-judges _ _ .refused (λ w. omega arith))))
+    (λ c. let held = holds (c .before .before) in let long = renewed-bytes _ held in rw held (sym (room-judges _ _ .done (omega arith)))))

@@ -17,12 +17,7 @@ loop-again c =
     let inv = c .before .before .before .before .before .loop .inv in
     ⊎-elim (λ w. rw (w .1) (counting-more inv (λ e. w .0 .taken (omega arith)) (omega arith))) (λ w. rw (w .1) (counting-same inv (omega arith) (omega arith))) (c .if1 .came)
 
-returns : tie.Need-returns Inv-loop μ-loop
-returns c =
-    let z = c .before .before .before .before .pre .0 .sized in
-    (counting-all (c .before .loop .inv) (omega arith), omega (arith, cells-le _ _ (z .narrow) (z .low)))
-
 pub count-changed-spec : {M : Type 1} → f.Statement.statement M
 count-changed-spec =
-    tie.close (tie.spec Inv-loop μ-loop (λ c. counting) (search needs) (search needs) (search needs) (λ c κs. search needs) (search needs)
-    (search needs) (search needs) loop-again returns)
+    tie.close (tie.spec Inv-loop μ-loop (λ c. counting) (search needs) (search needs) (search needs) (λ c κs. search needs) (search needs) (search needs) (search needs) loop-again
+    (λ c. let z = c .before .before .before .before .pre .0 .sized in (counting-all (c .before .loop .inv) (omega arith), omega (arith, cells-le _ _ (z .narrow) (z .low)))))

@@ -37,13 +37,6 @@ by-room : (e : tie.After-enum-told5) → let a = at-start (at-opened (at-within 
 unfolding writeVerdict
 by-room e = let w = at-within e in rw (opens (at-opened w), within w, sym (e .before .before .judge-unlike .ensures) ∙ e .enum-told5 .given .1)
 
-returns-3 : tie.Need-returns-3
-unfolding writeVerdict
-returns-3 c = let w = c .before .before .before in rw (opens (at-opened w), within w) (then-stops _ (c .before .before .judge-unlike .ensures) (c .enum-told6 .given .1))
-
-returns-4 : tie.Need-returns-4
-returns-4 c = sym (by-room (c .before) ∙ ample _ _ _ _ _ _ (opened _ _ _ _ (opens (at-opened (at-within (c .before)))) .1) (omega arith))
-
 returns-5 : tie.Need-returns-5
 returns-5 c =
     let counted = c .before .before in
@@ -52,8 +45,10 @@ returns-5 c =
 pub judge-write-spec : {M : Type 1} → f.Statement.statement M
 unfolding writeVerdict
 judge-write-spec =
-    tie.close (tie.spec (search needs) (search needs) (search needs) (λ c. then-stops _ (c .before .before .open-table .ensures) (c .enum-told2 .given .1)) (search needs) (search needs) (search needs)
-    (λ c. rw (opens (c .before .before .before)) (then-stops _ (figures-are (c .before .before)) (c .enum-told4 .given .1)))
-    (λ c κs. opened _ _ _ _ (opens (at-opened c))) (search needs) (search needs) returns-3 (search needs) (search needs) returns-4
+    tie.close (tie.spec (search needs) (search needs) (search needs) (λ c. then-stops _ (c .before .before .open-table .ensures) (c .enum-told2 .given .1)) (search needs) (search needs)
+    (search needs) (λ c. rw (opens (c .before .before .before)) (then-stops _ (figures-are (c .before .before)) (c .enum-told4 .given .1))) (λ c κs. opened _ _ _ _ (opens (at-opened c)))
+    (search needs) (search needs)
+    (λ c. let w = c .before .before .before in rw (opens (at-opened w), within w) (then-stops _ (c .before .before .judge-unlike .ensures) (c .enum-told6 .given .1))) (search needs)
+    (search needs) (λ c. sym (by-room (c .before) ∙ ample _ _ _ _ _ _ (opened _ _ _ _ (opens (at-opened (at-within (c .before)))) .1) (omega arith)))
     (λ c κs. opened _ _ _ _ (opens (at-opened (at-within (c .before))))) (search needs) (search needs) (search needs) returns-5
     (λ c. sym (by-room (c .before .before .before) ∙ roomy _ _ _ _ _ _ (c .before .count-changed .ensures .0) (omega arith))))

@@ -21,10 +21,6 @@ passed : (e : tie.After-enum-told) →
     Writable (flat (a .width) (a .height) (now (a .floor))) (a .q) (goalsOf (a .goals)) (now (a .table)) (length (now (a .buffer)))
 passed e = writable _ _ _ _ _ (sym (e .before .before .judge-write .ensures) ∙ e .enum-told .given .1)
 
-returns : tie.Need-returns
-unfolding writeTable
-returns c = writes-refused _ _ (c .before .before .before .judge-write .ensures) (c .before .v .given .0 .0) (c .before .v .given .1)
-
 returns-2 : tie.Need-returns-2
 unfolding writeTable
 returns-2 c =
@@ -36,7 +32,9 @@ returns-2 c =
     (whole _ _ _ _ _ _ _ (n .0) (n .1) (trailer .put-trailer .ensures) (passed checked .opens))
 
 pub write-table-spec : {M : Type 1} → f.Statement.statement M
+unfolding writeTable
 write-table-spec =
     tie.close (tie.spec (search needs) (search needs) (search needs) (λ c κs. let p = passed (c .before) in (p .opens, (p .cells, omega arith)))
     (λ c. omega (arith, passed (at-passed (c .before .before .before)))) (λ c κs. omega (arith, passed (at-passed (c .before .before .before))))
-    (λ c. omega (arith, passed (at-passed (at-records (c .before .before))))) (λ c. omega (arith, passed (at-passed (at-records (c .before .before))))) returns (search needs) returns-2)
+    (λ c. omega (arith, passed (at-passed (at-records (c .before .before))))) (λ c. omega (arith, passed (at-passed (at-records (c .before .before)))))
+    (λ c. writes-refused _ _ (c .before .before .before .judge-write .ensures) (c .before .v .given .0 .0) (c .before .v .given .1)) (search needs) returns-2)
