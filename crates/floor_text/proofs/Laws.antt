@@ -185,7 +185,7 @@ pub header-refused : (text buffer : List ℕ) → header text ≡ refuseAt 11 P.
 unfolding readFloor floorVerdict
 header-refused text buffer e = rw e (record { answer = refl; buffer = refl })
 
-module _ (text buffer : List ℕ) (w h : ℕ) (s : Sound text w h) where
+module _ {text : List ℕ} (buffer : List ℕ) {w h : ℕ} (s : Sound text w h) where
   pub no-room : length buffer < w * h → Reads (readFloor text buffer) (Fr.Refused (record { number = 2; place = P.Nowhere })) buffer
   unfolding readFloor floorVerdict
   no-room l =
@@ -202,9 +202,9 @@ module _ (text buffer : List ℕ) (w h : ℕ) (s : Sound text w h) where
         let z = rw (s .width, s .height) at e in
         rw (s .accepted, roomy, z) (record { answer = refl; buffer = refl })
 
-    pub rows-read : (after : List ℕ) → rows w h 5 (rowsIn text) ≡ Vd.Done → after ≡ cellsOf w h (rowsIn text) ++ drop (w * h) buffer → Reads (readFloor text buffer) (Fr.Sizes w h) after
+    pub rows-read : {after : List ℕ} → rows w h 5 (rowsIn text) ≡ Vd.Done → after ≡ cellsOf w h (rowsIn text) ++ drop (w * h) buffer → Reads (readFloor text buffer) (Fr.Sizes w h) after
     unfolding readFloor floorVerdict
-    rows-read after e k =
+    rows-read e k =
         let z = rw (s .width, s .height) at e in
         let y = rw (s .width, s .height) at k in
         rw (s .accepted, roomy, z) (record { answer = λ i. saysFloorRead (Fr.Sizes (s .width i) (s .height i)); buffer = y })

@@ -9,10 +9,11 @@ use Rattle.answers.specs.declared.Refusal.{Refusal}
 use Rattle.answers.specs.declared.Verdict.{Verdict}
 use Rattle.answers.specs.declared.Verdict.the-variants as Vd
 use Rattle.answers.specs.declared.Written.the-variants as Wr
-use Rattle.model.specs.Floor.{Floor}
+use Rattle.model.specs.Floor.{Floor, Sized}
 use Rattle.model.specs.FloorText.{LF, andWidth, andMap, typeAndHeight}
 use Rattle.model.specs.FloorWritten.{letterOf, rowsOf, sizeLine, textOf, textVerdict, writeFloor}
 use Rattle.model.specs.Writing.{Writes}
+use Rattle.model.proofs.FloorTexts.{text-gives}
 use Rattle.model.proofs.Parts.{rest}
 use Rattle.model.proofs.Writings.{writes-refused, writes-done}
 use Rattle.notation.specs.Printing.{Printed}
@@ -128,20 +129,23 @@ head-then-rows : (f : Floor) → headOf (f .width) (f .height) ++ rowsOf (f .wid
 unfolding textOf
 head-then-rows f = simp append-assoc
 
--- so room for the text is room for its header, and for its rows after it
-pub room-for-both : (f : Floor) → length (textOf f) ≡ length (headOf (f .width) (f .height)) + length (rowsOf (f .width) (f .height) (f .bytes))
+room-for-both : (f : Floor) → length (textOf f) ≡ length (headOf (f .width) (f .height)) + length (rowsOf (f .width) (f .height) (f .bytes))
 room-for-both f = ap length (sym (head-then-rows f)) ∙ length-append (headOf (f .width) (f .height)) (rowsOf (f .width) (f .height) (f .bytes))
+
+-- what an accepted writing has shown: room for the header, and for the rows after it
+pub text-fits : (f : Floor) (room : ℕ) → textVerdict f room ≡ Vd.Done → Sized f × (length (headOf (f .width) (f .height)) + length (rowsOf (f .width) (f .height) (f .bytes)) ≤ room)
+text-fits f room e = let g = text-gives f room e in (g .0, omega (arith, g .1, room-for-both f))
 
 module _ (f : Floor) (buffer : List ℕ) {v : Verdict} (e : v ≡ textVerdict f (length buffer)) where
   pub write-refused : (r : Refusal) → v ≡ Vd.Refused r → Writes (writeFloor f buffer) (Wr.Refused r) buffer
   unfolding writeFloor
   write-refused = writes-refused (textOf f) buffer e
 
-  pub write-done : {mid after : List ℕ} {at end : ℕ} → v ≡ Vd.Done → length (textOf f) ≤ length buffer → Printed buffer 0 (headOf (f .width) (f .height)) mid at
+  pub write-done : {mid after : List ℕ} {at end : ℕ} → v ≡ Vd.Done → Printed buffer 0 (headOf (f .width) (f .height)) mid at
       → Printed mid at (rowsOf (f .width) (f .height) (f .bytes)) after end → Writes (writeFloor f buffer) (Wr.Length end) after
   unfolding writeFloor
-  write-done h l P Q =
+  write-done h P Q =
       let T = rw (head-then-rows f) at (printed-then (headOf (f .width) (f .height)) (rowsOf (f .width) (f .height) (f .bytes)) P Q) in
       let z : 0 + length (textOf f) ≡ length (textOf f) = omega arith in
-      let whole = rw z at (sets-eq (textOf f) buffer 0 (omega arith)) in
+      let whole = rw z at (sets-eq (textOf f) buffer 0 (omega (arith, text-gives f _ (sym e ∙ h) .1))) in
       writes-done (textOf f) buffer e _ _ h (T .next ∙ z) (T .written ∙ whole)

@@ -1,6 +1,5 @@
 -- `floor_text::read_header` meets its contract: each test is a field of `Headed`.
-use Rattle.learning.proofs.Words.{sym, _∙_, ap, not-true, not-false, needs, arith}
-use Rattle.model.specs.FloorText.{begins, andWidth, andMap}
+use Rattle.learning.proofs.Words.{sym, _∙_, not-true, not-false, needs, arith}
 use Rattle.model.proofs.Accepted.{never}
 use Rattle.floor_text.proofs.Laws.{header-judges}
 use Rattle.floor_text.proofs.read_header as f
@@ -8,32 +7,28 @@ use f.Tie as tie
 
 returns-3 : tie.Need-returns-3
 returns-3 c =
-    let word = c .before .begins-with2 .ensures ∙ ap (begins andWidth) (c .before .before .after-height .ensures) in
-    header-judges _ .refused (λ h. never (h .worded) (sym word ∙ not-true _ (c .if3 .taken)))
+    header-judges _ .refused (λ h. never (h .worded) (cc (not-true (c .before .begins-with2 .result) (c .if3 .taken))))
 
 returns-5 : tie.Need-returns-5
 returns-5 c =
-    let word = c .before .begins-with3 .ensures ∙ ap (begins andMap) (c .before .before .after-width .ensures) in
-    header-judges _ .refused (λ h. never (h .mapped) (sym word ∙ not-true _ (c .if5 .taken)))
+    header-judges _ .refused (λ h. never (h .mapped) (cc (not-true (c .before .begins-with3 .result) (c .if5 .taken))))
 
 returns-6 : tie.Need-returns-6
 returns-6 c =
-    let wide = c .before .before .before .before .before in
-    let worded = wide .before in
-    let high = worded .before .before .before .before .before in
-    let typed = high .before in
+    let worded = c .before .before .before .before .before .before in
+    let typed = worded .before .before .before .before .before .before in
     record {
       accepted = header-judges _ .done (record {
         typed = sym (typed .before .begins-with .ensures) ∙ not-false _ (typed .if1 .left);
         high = omega arith;
-        worded = sym (worded .before .begins-with2 .ensures ∙ ap (begins andWidth) (worded .before .before .after-height .ensures)) ∙ not-false _ (worded .if3 .left);
+        worded = cc (not-false (worded .before .begins-with2 .result) (worded .if3 .left));
         wide = omega arith;
-        mapped = sym (c .before .begins-with3 .ensures ∙ ap (begins andMap) (c .before .before .after-width .ensures)) ∙ not-false _ (c .if5 .left);
+        mapped = cc (not-false (c .before .begins-with3 .result) (c .if5 .left));
       });
-      width = wide .width-in .ensures .0;
-      height = high .height-in .ensures .0;
-      narrow = wide .width-in .ensures .1;
-      low = high .height-in .ensures .1;
+      width = omega arith;
+      height = omega arith;
+      narrow = omega arith;
+      low = omega arith;
     }
 
 pub read-header-spec : {M : Type 1} → f.Statement.statement M
