@@ -5,14 +5,6 @@ use Rattle.floor_text.proofs.Laws.{header-judges}
 use Rattle.floor_text.proofs.read_header as f
 use f.Tie as tie
 
-returns-3 : tie.Need-returns-3
-returns-3 c =
-    header-judges _ .refused (λ h. never (h .worded) (cc (not-true (c .before .begins-with2 .result) (c .if3 .taken))))
-
-returns-5 : tie.Need-returns-5
-returns-5 c =
-    header-judges _ .refused (λ h. never (h .mapped) (cc (not-true (c .before .begins-with3 .result) (c .if5 .taken))))
-
 returns-6 : tie.Need-returns-6
 returns-6 c =
     let worded = c .before .before .before .before .before .before in
@@ -34,5 +26,6 @@ returns-6 c =
 pub read-header-spec : {M : Type 1} → f.Statement.statement M
 read-header-spec =
     tie.close (tie.spec (search needs) (search needs) (λ c. header-judges _ .refused (λ h. never (h .typed) (sym (c .before .begins-with .ensures) ∙ not-true _ (c .if1 .taken)))) (search needs)
-    (λ c. header-judges _ .refused (λ h. omega arith)) (search needs) (search needs) (search needs) returns-3
-    (search needs) (λ c. header-judges _ .refused (λ h. omega arith)) (search needs) (search needs) (search needs) returns-5 returns-6)
+    (λ c. header-judges _ .refused (λ h. omega arith)) (search needs) (search needs) (search needs)
+    (λ c. header-judges _ .refused (λ h. never (h .worded) (cc (not-true (c .before .begins-with2 .result) (c .if3 .taken))))) (search needs) (λ c. header-judges _ .refused (λ h. omega arith))
+    (search needs) (search needs) (search needs) (λ c. header-judges _ .refused (λ h. never (h .mapped) (cc (not-true (c .before .begins-with3 .result) (c .if5 .taken))))) returns-6)

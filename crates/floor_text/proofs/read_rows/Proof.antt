@@ -9,14 +9,10 @@ use f.Tie as tie
 abbrev begun : tie.After-judge-rows → tie.Start
 begun e = e .before .before .before .before .before .before
 
-store-rows-requires : tie.Need-store-rows-requires
-store-rows-requires c κs =
-    let e = c .before .before .before in
-    (omega arith, omega arith, omega arith, rows-there _ _ 5 _ (sym (e .judge-rows .ensures) ∙ c .before .enum-told .given .1))
-
 pub read-rows-spec : {M : Type 1} → f.Statement.statement M
 read-rows-spec =
     tie.close (tie.spec (λ c. omega (arith, mul-le-mul (c .before .before .pre .narrow) (c .before .before .pre .low))) (λ c. no-room _ (c .before .before .before .pre) (omega arith))
-    (search needs) (search needs) (search needs) (search needs) (search needs) store-rows-requires
+    (search needs) (search needs) (search needs) (search needs) (search needs)
+    (λ c κs. let e = c .before .before .before in (omega arith, omega arith, omega arith, rows-there _ _ 5 _ (sym (e .judge-rows .ensures) ∙ c .before .enum-told .given .1)))
     (λ c. rows-refused _ (begun (c .before .before .before) .pre) (omega arith) (c .before .v .given .0 .0) (cc)) (search needs)
     (λ c. rows-read _ (begun (c .before .before .before .before .before .before) .pre) (omega arith) (cc) (cc)))

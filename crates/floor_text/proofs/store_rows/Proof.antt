@@ -17,15 +17,11 @@ left : (e : tie.In-loop Inv-loop μ-loop) →
     (l .row * w + w ≤ length (l .buffer)) × (w + 1 ≤ length (l .t .now))
 left e = row-left (e .before .loop .inv) (omega arith)
 
-loop-again : tie.Need-loop-again Inv-loop μ-loop
-loop-again c =
-    let in-loop = c .before .before .before .before .before .before in
-    filled-more (in-loop .before .loop .inv) (c .before .before .before .store-row .ensures) (omega arith)
-
 pub store-rows-spec : {M : Type 1} → f.Statement.statement M
 store-rows-spec =
-    tie.close (tie.spec Inv-loop μ-loop (λ c. filled (omega arith)) (λ c. omega (arith, left c)) (λ c. omega (arith, left c))
-    (λ c. sym (length-take-le _ _ (omega (arith, left (c .before))))) (omega arith) (λ c. omega (arith, left (c .before))) (λ c. omega (arith, left (c .before)))
-    (λ c κs. simp (length-take, length-drop) (omega (arith, left (c .before .before)))) (search needs) (λ c. omega (arith, left (c .before .before .before .before .before)))
-    (λ c. omega (arith, left (c .before .before .before .before .before))) (λ c. omega (arith, left (c .before .before .before .before .before))) (search needs) (search needs)
-    loop-again (omega arith) (λ c. filled-all (c .before .loop .inv) (omega arith)))
+    tie.close (tie.spec Inv-loop μ-loop (λ c. filled (omega arith)) (λ c. omega (arith, left c)) (λ c. omega (arith, left c)) (λ c. sym (length-take-le _ _ (omega (arith, left (c .before)))))
+    (omega arith) (λ c. omega (arith, left (c .before))) (λ c. omega (arith, left (c .before))) (λ c κs. simp (length-take, length-drop) (omega (arith, left (c .before .before)))) (search needs)
+    (λ c. omega (arith, left (c .before .before .before .before .before))) (λ c. omega (arith, left (c .before .before .before .before .before)))
+    (λ c. omega (arith, left (c .before .before .before .before .before))) (search needs) (search needs)
+    (λ c. let in-loop = c .before .before .before .before .before .before in filled-more (in-loop .before .loop .inv) (c .before .before .before .store-row .ensures) (omega arith)) (omega arith)
+    (λ c. filled-all (c .before .loop .inv) (omega arith)))

@@ -9,15 +9,9 @@ use Rattle.table_file.proofs.Reading.{opened, ending-room, records-long
 use Rattle.table_file.proofs.reader.judge_read as f
 use f.Tie as tie
 
--- the places: at the start, once the trailer holds, and once nothing stands ahead
+-- the start, from where the table is opened
 abbrev at-start : tie.After-enum-told → tie.Start
 at-start e = e .before .before .before .before .before
-
-abbrev at-trailer : tie.Else2 → tie.Else1
-at-trailer e = e .before .before
-
-abbrev at-whole : tie.After-enum-told3 → tie.Else2
-at-whole e = e .before .before .before
 
 opens : (e : tie.After-enum-told) → let a = at-start e .args in openTable (floorAt (a .site) (now (a .floor))) (a .site .q) (a .site .goals) (a .figures) ≡ Done
 opens e = sym (e .before .before .open-table .ensures) ∙ e .enum-told .given .1
@@ -26,10 +20,10 @@ holds : (e : tie.Else1) → trailerHolds (now (at-start (e .before .before) .arg
 holds e = sym (e .before .trailer-holds .ensures) ∙ not-false _ (e .if1 .left)
 
 -- once nothing stands ahead, the table that the trailer points to decides
-by-table : (e : tie.Else2) → let a = at-start (at-trailer e .before .before) .args in let f = floorAt (a .site) (now (a .floor)) in
+by-table : (e : tie.Else2) → let a = at-start (e .before .before .before .before) .args in let f = floorAt (a .site) (now (a .floor)) in
     readVerdict f (a .site .q) (a .site .goals) (now (a .file)) (a .figures) ≡ judgeTable f (a .site .q) (goalsAt (a .site)) (now (a .file))
 unfolding readVerdict checkTrailer checkAhead
-by-table e = let held = at-trailer e in rw (opens (held .before .before), holds held, ← (e .before .back-in .ensures), le-leb _ _ (e .if2 .left))
+by-table e = let held = e .before .before in rw (opens (held .before .before), holds held, ← (e .before .back-in .ensures), le-leb _ _ (e .if2 .left))
 
 returns-3 : tie.Need-returns-3
 unfolding readVerdict checkTrailer checkAhead
@@ -37,15 +31,10 @@ returns-3 c =
     let back = c .before .before in
     rw (opens (back .before .before .before), holds (back .before), ← (back .back-in .ensures), lt-leb _ _ (c .before .if2 .taken)) (c .refuse2 .ensures)
 
-judge-records-requires : tie.Need-judge-records-requires
-judge-records-requires c κs =
-    let held = at-trailer (at-whole (c .before .before)) in
-    (opened _ _ _ _ (opens (held .before .before)) .0, records-long _ _ _ (c .before .count-in .ensures .0) (c .find-records .ensures .0) (holds held))
-
 returns-5 : tie.Need-returns-5
 returns-5 c =
     let same = c .before .before .before in
-    rw (by-table (at-whole same), ← (c .before .before .count-in .ensures .0), ← (c .before .find-records .ensures .0))
+    rw (by-table (same .before .before .before), ← (c .before .before .count-in .ensures .0), ← (c .before .find-records .ensures .0))
     (then-goes _ (same .before .before .same-job .ensures _) (same .enum-told3 .given .1) (c .judge-records .ensures))
 
 pub judge-read-spec : {M : Type 1} → f.Statement.statement M
@@ -55,4 +44,4 @@ judge-read-spec =
     (λ c. rw (opens (c .before .before .before), sym (c .before .before .trailer-holds .ensures) ∙ not-true _ (c .before .if1 .taken)) (c .refuse .ensures)) (search (ending-room, holds))
     (search needs) returns-3 (search holds) (search needs) (search needs)
     (λ c. rw (by-table (c .before .before .before)) (then-stops _ (c .before .before .same-job .ensures _) (c .enum-told4 .given .1))) (search (ending-room, holds)) (search needs)
-    judge-records-requires returns-5)
+    (λ c κs. let whole = c .before .before .before .before .before in (opened _ _ _ _ (opens (whole .before .before .before .before)) .0, search (records-long, holds))) returns-5)

@@ -28,19 +28,11 @@ opens e = sym (e .before .before .open-table .ensures) ∙ e .enum-told .given .
 figures-are : (e : tie.After-figures) → let a = at-start (e .before) .args in e .figures .result ≡ figures (floorAt (a .site) (now (a .floor))) (now (a .table))
 figures-are e = e .figures .ensures _ (sym (opened _ _ _ _ (opens (e .before)) .1))
 
-within : (e : tie.After-enum-told3) → let a = at-start (at-opened e) .args in figures (floorAt (a .site) (now (a .floor))) (now (a .table)) ≡ Done
-within e = sym (figures-are (e .before .before)) ∙ e .enum-told3 .given .1
-
 -- past all other checks the room decides
 by-room : (e : tie.After-enum-told5) → let a = at-start (at-opened (at-within e)) .args in let f = floorAt (a .site) (now (a .floor)) in
     writeVerdict f (a .site .q) (a .site .goals) (now (a .table)) (a .room) ≡ fileRoom (length (fileOf f (a .site .q) (goalsAt (a .site)) (now (a .table)))) (a .room)
 unfolding writeVerdict
-by-room e = let w = at-within e in rw (opens (at-opened w), within w, sym (e .before .before .judge-unlike .ensures) ∙ e .enum-told5 .given .1)
-
-returns-5 : tie.Need-returns-5
-returns-5 c =
-    let counted = c .before .before in
-    c .refuse .ensures ∙ sym (by-room (counted .before .before) ∙ no-room _ _ _ _ _ _ (counted .count-changed .ensures .0) (omega arith))
+by-room e = let w = at-within e in rw (opens (at-opened w), sym (figures-are (w .before .before)) ∙ w .enum-told3 .given .1, sym (e .before .before .judge-unlike .ensures) ∙ e .enum-told5 .given .1)
 
 pub judge-write-spec : {M : Type 1} → f.Statement.statement M
 unfolding writeVerdict
@@ -48,7 +40,9 @@ judge-write-spec =
     tie.close (tie.spec (search needs) (search needs) (search needs) (λ c. then-stops _ (c .before .before .open-table .ensures) (c .enum-told2 .given .1)) (search needs) (search needs)
     (search needs) (λ c. rw (opens (c .before .before .before)) (then-stops _ (figures-are (c .before .before)) (c .enum-told4 .given .1))) (λ c κs. opened _ _ _ _ (opens (at-opened c)))
     (search needs) (search needs)
-    (λ c. let w = c .before .before .before in rw (opens (at-opened w), within w) (then-stops _ (c .before .before .judge-unlike .ensures) (c .enum-told6 .given .1))) (search needs)
-    (search needs) (λ c. sym (by-room (c .before) ∙ ample _ _ _ _ _ _ (opened _ _ _ _ (opens (at-opened (at-within (c .before)))) .1) (omega arith)))
-    (λ c κs. opened _ _ _ _ (opens (at-opened (at-within (c .before))))) (search needs) (search needs) (search needs) returns-5
+    (λ c. let w = c .before .before .before in rw (opens (at-opened w), sym (figures-are (w .before .before)) ∙ w .enum-told3 .given .1)
+    (then-stops _ (c .before .before .judge-unlike .ensures) (c .enum-told6 .given .1)))
+    (search needs) (search needs) (λ c. sym (by-room (c .before) ∙ ample _ _ _ _ _ _ (opened _ _ _ _ (opens (at-opened (at-within (c .before)))) .1) (omega arith)))
+    (λ c κs. opened _ _ _ _ (opens (at-opened (at-within (c .before))))) (search needs) (search needs) (search needs)
+    (λ c. let counted = c .before .before in c .refuse .ensures ∙ sym (by-room (counted .before .before) ∙ no-room _ _ _ _ _ _ (counted .count-changed .ensures .0) (omega arith)))
     (λ c. sym (by-room (c .before .before .before) ∙ roomy _ _ _ _ _ _ (c .before .count-changed .ensures .0) (omega arith))))
