@@ -1,14 +1,14 @@
 -- Laws of the floor text's definitions, one for each way through the code's tests.
 -- A loop's invariant says that what is left to judge answers like the whole.
 use mathlib.Core.Path.{_≡_, refl, sym, _∙_, ap}
-use mathlib.Core.Bool.{Bool, true, false, _&&_}
+use mathlib.Core.Bool.{Bool, true, false, not, _&&_}
 use mathlib.Core.List.{List, [], _∷_, _++_, map, append-assoc, append-nil}
 use Prim.Native.Nat.{ℕ, zero, suc, _+_, _-_, _*_, _≤_, _<_}
 use native.Mathlib.Numerals.{add-one}
 use native.Mathlib.Nat.{mul-le-mul-right, mul-comm}
 use native.Mathlib.Omega.{arith}
 use lib.Dec.{leb, eqb}
-use borrow.Author.Tests.{lt-leb, le-leb, eq-eqb, ne-eqb}
+use borrow.Author.Tests.{lt-leb, le-leb, eq-eqb, ne-eqb, not-true, not-false}
 use lib.ListN.{length, take, drop, set, getD, length-append, length-drop, length-map, length-set, drop-of-length-le}
 use lib.Seq.{drop-cons, take-suc, take-all, set-at, drop-drop, take-at, drop-at, length-take-le}
 use Rattle.answers.specs.Says.{saysFloorRead}
@@ -29,11 +29,11 @@ and-false true = refl
 and-false false = refl
 
 -- Whether a text begins with these bytes.
-pub begins-short : (w t : List ℕ) → length t < length w → begins w t ≡ false
+pub begins-short : (w t : List ℕ) → length t < length w → false ≡ begins w t
 unfolding begins
 begins-short [] t h = absurd (omega arith)
 begins-short (x ∷ xs) [] h = refl
-begins-short (x ∷ xs) (y ∷ ys) h = rw (begins-short xs ys (omega arith)) (and-false (eqb x y))
+begins-short (x ∷ xs) (y ∷ ys) h = rw (← (begins-short xs ys (omega arith))) (sym (and-false (eqb x y)))
 
 begins-at : (w t : List ℕ) (i : ℕ) → (i < length w) × (i < length t) → begins (drop i w) (drop i t) ≡ (eqb (getD w i 0) (getD t i 0) && begins (drop (i + 1) w) (drop (i + 1) t))
 unfolding begins
@@ -48,14 +48,14 @@ pub begun : {w t : List ℕ} → Begun w t 0
 begun = record { most = omega arith; left = refl }
 
 module _ {w t : List ℕ} {i : ℕ} (g : Begun w t i) where
-  pub begun-more : getD t i 0 ≡ getD w i 0 → (i < length w) × (i < length t) → Begun w t (i + 1)
-  begun-more e h = record {
+  pub begun-more : getD t i 0 ≡ getD w i 0 → i < length w → length w ≤ length t → Begun w t (i + 1)
+  begun-more e h k = record {
     most = omega arith;
-    left = let s = begins-at w t i h in rw (eq-eqb (getD w i 0) (getD t i 0) (sym e)) at (sym s) ∙ g .left;
+    left = let s = begins-at w t i (omega arith) in rw (eq-eqb (getD w i 0) (getD t i 0) (sym e)) at (sym s) ∙ g .left;
   }
 
-  pub begun-not : (getD t i 0 ≡ getD w i 0 → ⊥) → (i < length w) × (i < length t) → false ≡ begins w t
-  begun-not e h = sym (rw (ne-eqb (getD w i 0) (getD t i 0) (λ z. e (sym z))) at (begins-at w t i h)) ∙ g .left
+  pub begun-not : (getD t i 0 ≡ getD w i 0 → ⊥) → i < length w → length w ≤ length t → false ≡ begins w t
+  begun-not e h k = sym (rw (ne-eqb (getD w i 0) (getD t i 0) (λ z. e (sym z))) at (begins-at w t i (omega arith))) ∙ g .left
 
   pub begun-all : length w ≤ i → true ≡ begins w t
   unfolding begins
@@ -82,13 +82,13 @@ unfolding rowHolds
 row-short w t h = simp (lt-leb (suc w) (length t) (omega arith))
 
 module _ {w : ℕ} {t : List ℕ} {i : ℕ} (g : Lettered w t i) where
-  pub lettered-more : isLetter (getD t i 0) ≡ true → (i < w) × (i < length t) → Lettered w t (i + 1)
-  lettered-more e h = record { most = omega arith; left = rw e at (sym (row-at w t i h)) ∙ g .left }
+  pub lettered-more : {b : Bool} → b ≡ isLetter (getD t i 0) → not b ≡ false → i < w → w < length t → Lettered w t (i + 1)
+  lettered-more e n h k = record { most = omega arith; left = rw (sym e ∙ not-false _ n) at (sym (row-at w t i (omega arith))) ∙ g .left }
 
-  pub row-not : isLetter (getD t i 0) ≡ false → (i < w) × (w < length t) → false ≡ rowHolds w t
+  pub row-not : {b : Bool} → b ≡ isLetter (getD t i 0) → not b ≡ true → i < w → w < length t → false ≡ rowHolds w t
   unfolding rowHolds
-  row-not e h =
-      let z : every isLetter (take w t) ≡ false = sym (g .left) ∙ rw e at (row-at w t i (omega arith)) in
+  row-not e n h k =
+      let z : every isLetter (take w t) ≡ false = sym (g .left) ∙ rw (sym e ∙ not-true _ n) at (row-at w t i (omega arith)) in
       simp (le-leb (suc w) (length t) (omega arith), z)
 
   pub row-end : (w ≤ i) × (w < length t) → eqb (getD t w 0) 10 ≡ rowHolds w t
@@ -107,22 +107,28 @@ pub rowed : {w h : ℕ} {text : List ℕ} → Rowed w h text text 0
 rowed {h = h} = record { most = omega arith; left = let e : h - 0 ≡ h = omega arith in rw e }
 
 module _ {w h : ℕ} {text t : List ℕ} {row : ℕ} (g : Rowed w h text t row) where
-  pub rowed-more : rowHolds w t ≡ true → row < h → Rowed w h text (take (length t - (w + 1)) (drop (w + 1) t)) (row + 1)
-  rowed-more e l = record {
+  pub rowed-more : {b : Bool} → b ≡ rowHolds w t → not b ≡ false → row < h → Rowed w h text (take (length t - (w + 1)) (drop (w + 1) t)) (row + 1)
+  rowed-more e n l = record {
     most = omega arith;
     left =
-        let n : h - row ≡ suc (h - (row + 1)) = omega arith in
+        let k : h - row ≡ suc (h - (row + 1)) = omega arith in
         let m : 5 + (row + 1) ≡ suc (5 + row) = omega arith in
-        let z = rw n at (g .left) in
-        rw (rest (w + 1) t, m, add-one w) (sym (rows-more w (h - (row + 1)) (5 + row) t e) ∙ z);
+        let z = rw k at (g .left) in
+        rw (rest (w + 1) t, m, add-one w) (sym (rows-more w (h - (row + 1)) (5 + row) t (sym e ∙ not-false _ n)) ∙ z);
   }
 
-  pub rowed-fault : rowHolds w t ≡ false → row < h → refuseAt 12 (P.Line (5 + row)) ≡ rows w h 5 text
-  rowed-fault e l = rows-fault w (h - row) (5 + row) t e (omega arith) ∙ g .left
+  pub rowed-fault : {b : Bool} → b ≡ rowHolds w t → not b ≡ true → row < h → refuseAt 12 (P.Line (5 + row)) ≡ rows w h 5 text
+  rowed-fault e n l = rows-fault w (h - row) (5 + row) t (sym e ∙ not-true _ n) (omega arith) ∙ g .left
 
-  pub rowed-all : h ≤ row → choose (eqb (length t) 0) Vd.Done (refuseAt 12 (P.Line (5 + row))) ≡ rows w h 5 text
+  rowed-all : h ≤ row → choose (eqb (length t) 0) Vd.Done (refuseAt 12 (P.Line (5 + row))) ≡ rows w h 5 text
   unfolding rows
   rowed-all l = (let n : h - row ≡ 0 = omega arith in rw n) ∙ g .left
+
+  pub rowed-done : h ≤ row → length t ≡ 0 → Vd.Done ≡ rows w h 5 text
+  rowed-done l e = rw (eq-eqb (length t) 0 e) at (rowed-all l)
+
+  pub rowed-over : h ≤ row → (length t ≡ 0 → ⊥) → refuseAt 12 (P.Line (5 + row)) ≡ rows w h 5 text
+  rowed-over l e = rw (ne-eqb (length t) 0 e) at (rowed-all l)
 
 -- The cells of one row, and of one row more.
 map-append : (xs ys : List ℕ) → map byteOf (xs ++ ys) ≡ map byteOf xs ++ map byteOf ys

@@ -1,5 +1,5 @@
 -- `floor_text::begins_with` meets its contract: the invariant: `Begun`, i bytes are the same.
-use Rattle.learning.proofs.Words.{_-_, length, sym, needs, arith}
+use Rattle.learning.proofs.Words.{_-_, length, needs}
 use Rattle.floor_text.proofs.Laws.{Begun, begun, begun-more, begun-not, begun-all, begins-short}
 use Rattle.floor_text.proofs.begins_with as f
 use f.Tie as tie
@@ -12,6 +12,6 @@ abbrev μ-loop : tie.MeasureT-loop
 
 pub begins-with-spec : {M : Type 1} → f.Statement.statement M
 begins-with-spec =
-    tie.close (tie.spec Inv-loop μ-loop (λ c. sym (begins-short _ _ (omega arith))) (λ c. begun) (search needs) (search needs)
-    (λ c. begun-not (c .before .before .before .before .loop .inv) (c .if2 .taken) (omega arith)) (search needs) (search needs)
-    (λ c. begun-more (c .before .before .before .before .loop .inv) (c .if2 .left) (omega arith)) (λ c. begun-all (c .before .loop .inv) (omega arith)))
+    tie.close (tie.spec Inv-loop μ-loop (λ c. search begins-short) (λ c. search begun) (search needs) (search needs)
+    (λ c. search begun-not) (search needs) (search needs)
+    (λ c. search begun-more) (λ c. search begun-all))

@@ -1,6 +1,6 @@
 -- `floor_text::judge_rows` meets its contract: the invariant: `Rowed`, the rows left answer like all of them.
-use Rattle.learning.proofs.Words.{_-_, sym, _∙_, eq-eqb, ne-eqb, not-true, not-false, needs, arith}
-use Rattle.floor_text.proofs.Laws.{Rowed, rowed, rowed-more, rowed-fault, rowed-all}
+use Rattle.learning.proofs.Words.{_-_, sym, _∙_, not-false, needs, arith}
+use Rattle.floor_text.proofs.Laws.{Rowed, rowed, rowed-more, rowed-fault, rowed-done, rowed-over}
 use Rattle.model.proofs.FloorTexts.{row-gives}
 use Rattle.floor_text.proofs.judge_rows as f
 use f.Tie as tie
@@ -13,10 +13,10 @@ abbrev μ-loop : tie.MeasureT-loop
 
 pub judge-rows-spec : {M : Type 1} → f.Statement.statement M
 judge-rows-spec =
-    tie.close (tie.spec Inv-loop μ-loop (λ c. rowed) (search needs) (search needs)
-    (λ c. rowed-fault (c .before .before .before .loop .inv) (sym (c .before .row-holds .ensures) ∙ not-true _ (c .if1 .taken)) (omega arith)) (search needs)
+    tie.close (tie.spec Inv-loop μ-loop (λ c. search rowed) (search needs) (search needs)
+    (λ c. search rowed-fault) (search needs)
     (λ c. omega (arith, row-gives _ _ (sym (c .before .row-holds .ensures) ∙ not-false _ (c .if1 .left)) .0))
     (λ c. omega (arith, row-gives _ _ (sym (c .before .row-holds .ensures) ∙ not-false _ (c .if1 .left)) .0)) (search needs) (search needs) (search needs)
-    (λ c. rowed-more (c .before .before .before .before .loop .inv) (sym (c .before .before .row-holds .ensures) ∙ not-false _ (c .before .if1 .left)) (omega arith))
-    (λ c. rw (eq-eqb _ 0 (c .if2 .taken)) at (rowed-all (c .before .before .loop .inv) (omega arith))) (search needs)
-    (λ c. rw (ne-eqb _ 0 (c .if2 .left)) at (rowed-all (c .before .before .loop .inv) (omega arith))))
+    (λ c. search rowed-more)
+    (λ c. search rowed-done) (search needs)
+    (λ c. search rowed-over))

@@ -11,7 +11,7 @@ begun e = e .before .before .before .before .before .before
 
 pub read-rows-spec : {M : Type 1} → f.Statement.statement M
 read-rows-spec =
-    tie.close (tie.spec (λ c. omega (arith, mul-le-mul (c .before .before .pre .narrow) (c .before .before .pre .low))) (λ c. no-room _ (c .before .before .before .pre) (omega arith))
+    tie.close (tie.spec (λ c. omega (arith, mul-le-mul (c .before .before .pre .narrow) (c .before .before .pre .low))) (λ c. search no-room)
     (search needs) (search needs) (search needs) (search needs) (search needs)
     (λ c κs. let e = c .before .before .before in (omega arith, omega arith, omega arith, rows-there _ _ 5 _ (sym (e .judge-rows .ensures) ∙ c .before .enum-told .given .1)))
     (λ c. rows-refused _ (begun (c .before .before .before) .pre) (omega arith) (c .before .v .given .0 .0) (cc)) (search needs)

@@ -1,5 +1,5 @@
 -- `floor_text::row_holds` meets its contract: the invariant: `Lettered`, i letters are passed.
-use Rattle.learning.proofs.Words.{_-_, not-true, not-false, sym, _∙_, needs, arith}
+use Rattle.learning.proofs.Words.{_-_, needs}
 use Rattle.floor_text.proofs.Laws.{Lettered, lettered, lettered-more, row-short, row-not, row-end}
 use Rattle.floor_text.proofs.row_holds as f
 use f.Tie as tie
@@ -12,7 +12,7 @@ abbrev μ-loop : tie.MeasureT-loop
 
 pub row-holds-spec : {M : Type 1} → f.Statement.statement M
 row-holds-spec =
-    tie.close (tie.spec Inv-loop μ-loop (λ c. row-short _ _ (omega arith)) (λ c. lettered) (search needs) (search needs)
-    (λ c. row-not (c .before .before .before .before .loop .inv) (sym (c .before .is-letter .ensures) ∙ not-true _ (c .if2 .taken)) (omega arith)) (search needs) (search needs)
-    (λ c. lettered-more (c .before .before .before .before .loop .inv) (sym (c .before .is-letter .ensures) ∙ not-false _ (c .if2 .left)) (omega arith)) (search needs)
-    (λ c. row-end (c .before .before .loop .inv) (omega arith)))
+    tie.close (tie.spec Inv-loop μ-loop (λ c. search row-short) (λ c. search lettered) (search needs) (search needs)
+    (λ c. search row-not) (search needs) (search needs)
+    (λ c. search lettered-more) (search needs)
+    (λ c. search row-end))

@@ -1,5 +1,5 @@
 -- `floor_text::store_row` meets its contract: the invariant: `Stored`, i letters are stored.
-use Rattle.learning.proofs.Words.{_-_, length, needs, arith}
+use Rattle.learning.proofs.Words.{_-_, length, needs}
 use Rattle.floor_text.proofs.Laws.{Stored, stored, stored-more, stored-all}
 use Rattle.floor_text.proofs.store_row as f
 use f.Tie as tie
@@ -12,6 +12,6 @@ abbrev μ-loop : tie.MeasureT-loop
 
 pub store-row-spec : {M : Type 1} → f.Statement.statement M
 store-row-spec =
-    tie.close (tie.spec Inv-loop μ-loop (λ c. stored) (search needs) (search needs) (search needs) (search needs) (search needs)
-    (λ c. stored-more (c .before .before .before .loop .inv) (c .byte-of .ensures) (omega arith)) (search needs)
-    (λ c. stored-all (c .before .loop .inv) (omega arith)))
+    tie.close (tie.spec Inv-loop μ-loop (λ c. search stored) (search needs) (search needs) (search needs) (search needs) (search needs)
+    (λ c. search stored-more) (search needs)
+    (λ c. search stored-all))

@@ -19,9 +19,9 @@ left e = row-left (e .before .loop .inv) (omega arith)
 
 pub store-rows-spec : {M : Type 1} → f.Statement.statement M
 store-rows-spec =
-    tie.close (tie.spec Inv-loop μ-loop (λ c. filled (omega arith)) (λ c. omega (arith, left c)) (λ c. omega (arith, left c)) (λ c. sym (length-take-le _ _ (omega (arith, left (c .before)))))
+    tie.close (tie.spec Inv-loop μ-loop (λ c. search filled) (λ c. omega (arith, left c)) (λ c. omega (arith, left c)) (λ c. sym (length-take-le _ _ (omega (arith, left (c .before)))))
     (omega arith) (λ c. omega (arith, left (c .before))) (λ c. omega (arith, left (c .before))) (λ c κs. simp (length-take, length-drop) (omega (arith, left (c .before .before)))) (search needs)
     (λ c. omega (arith, left (c .before .before .before .before .before))) (λ c. omega (arith, left (c .before .before .before .before .before)))
     (λ c. omega (arith, left (c .before .before .before .before .before))) (search needs) (search needs)
-    (λ c. let in-loop = c .before .before .before .before .before .before in filled-more (in-loop .before .loop .inv) (c .before .before .before .store-row .ensures) (omega arith)) (omega arith)
-    (λ c. filled-all (c .before .loop .inv) (omega arith)))
+    (λ c. search filled-more) (omega arith)
+    (λ c. search filled-all))

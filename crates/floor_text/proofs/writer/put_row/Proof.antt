@@ -1,5 +1,5 @@
 -- `floor_text::writer::put_row` meets its contract: the invariant: `Lettering`, i letters are put.
-use Rattle.learning.proofs.Words.{_-_, length, needs, arith}
+use Rattle.learning.proofs.Words.{_-_, length, needs}
 use Rattle.floor_text.proofs.Writing.{Lettering, lettering, lettering-more, lettering-all}
 use Rattle.floor_text.proofs.writer.put_row as f
 use f.Tie as tie
@@ -12,6 +12,6 @@ abbrev μ-loop : tie.MeasureT-loop
 
 pub put-row-spec : {M : Type 1} → f.Statement.statement M
 put-row-spec =
-    tie.close (tie.spec Inv-loop μ-loop (λ c. lettering) (search needs) (search needs) (search needs) (search needs) (search needs) (search needs)
-    (λ c. lettering-more (c .before .before .before .loop .inv) (omega arith) (c .letter-of .ensures) (omega arith)) (search needs) (search needs) (search needs)
-    (λ c. let stopped = c .before .before .before .before .before in lettering-all (stopped .loop .inv) (omega arith) (omega arith) (c .before .before .byte .ensures)))
+    tie.close (tie.spec Inv-loop μ-loop (λ c. search lettering) (search needs) (search needs) (search needs) (search needs) (search needs) (search needs)
+    (λ c. search lettering-more) (search needs) (search needs) (search needs)
+    (λ c. search lettering-all))

@@ -22,8 +22,8 @@ whole-row e = sym (length-take-le _ _ (ahead e .0))
 
 pub put-rows-spec : {M : Type 1} → f.Statement.statement M
 put-rows-spec =
-    tie.close (tie.spec Inv-loop μ-loop (λ c. rowing (omega arith)) (λ c. whole-row (c .before .before))
+    tie.close (tie.spec Inv-loop μ-loop (λ c. search rowing) (λ c. whole-row (c .before .before))
     (λ c κs. let in-loop = c .before .before in omega (arith, ahead in-loop, whole-row in-loop)) (λ c. omega (arith, ahead (c .before .before .before .before .before)))
     (λ c. omega (arith, ahead (c .before .before .before .before .before))) (λ c. omega (arith, ahead (c .before .before .before .before .before))) (search needs) (search needs)
-    (λ c. let in-loop = c .before .before .before .before .before .before in rowing-more (in-loop .before .loop .inv) (omega arith) (c .before .before .before .put-row .ensures)) (omega arith)
-    (λ c. rowing-all (c .before .loop .inv) (omega arith)))
+    (λ c. search rowing-more) (omega arith)
+    (λ c. search rowing-all))

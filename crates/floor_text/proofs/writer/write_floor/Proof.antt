@@ -13,13 +13,7 @@ passed : (e : tie.After-enum-told) → let a = e .before .before .before .before
     Sized (flat (a .width) (a .height) (now (a .floor))) × (length (headOf (a .width) (a .height)) + length (rowsOf (a .width) (a .height) (now (a .floor))) ≤ length (now (a .buffer)))
 passed e = text-fits _ _ (sym (e .before .before .judge-text .ensures) ∙ e .enum-told .given .1)
 
-returns-2 : tie.Need-returns-2
-returns-2 c =
-    let headed = c .before .before .before .before .before .before in
-    let e = headed .before .before in
-    write-done _ _ (e .before .before .judge-text .ensures) (e .enum-told .given .1) (headed .put-header .ensures) (c .before .before .put-rows .ensures)
-
 pub write-floor-spec : {M : Type 1} → f.Statement.statement M
 write-floor-spec =
     tie.close (tie.spec (search needs) (search needs) (search needs) (λ c κs. omega (arith, passed (c .before))) (λ c κs. omega (arith, passed (c .before .before .before .before .before)))
-    (λ c. write-refused _ _ (c .before .before .before .judge-text .ensures) (c .before .v .given .0 .0) (c .before .v .given .1)) (search needs) returns-2)
+    (λ c. search write-refused) (search needs) (λ c. search write-done))
