@@ -9,6 +9,7 @@ use native.Mathlib.Omega.{arith}
 use lib.ListN.{length, getD, take, drop, set, length-drop, length-set}
 use Rattle.answers.specs.declared.Goals.{Goals}
 use Rattle.answers.specs.declared.Place.the-variants as P
+use Rattle.answers.specs.declared.Verdict.{Verdict}
 use Rattle.answers.specs.declared.Verdict.the-variants as Vd
 use Rattle.model.specs.Basics.{refuseAt}
 use Rattle.model.specs.Floor.{Floor, size, goalsOf}
@@ -38,8 +39,8 @@ module _ (file : List ℕ) where
   checked e = trailer-tells file .shown (trailer-judges file .gives e)
 
   -- what is not of edition 1 has room for a trailer of edition 2
-  pub second-room : trailerHolds file ≡ true → (editionIn file ≡ 1 → ⊥) → secondLong ≤ length file
-  second-room e n = ⊎-elim (λ t. absurd (n (t .edition-is))) (λ t. t .0 .room) (trailer-tells file .holds e)
+  pub second-room : {n : ℕ} → trailerHolds file ≡ true → n ≡ editionIn file → (n ≡ 1 → ⊥) → secondLong ≤ length file
+  second-room e d n = ⊎-elim (λ t. absurd (n (d ∙ t .edition-is))) (λ t. t .0 .room) (trailer-tells file .holds e)
 
   -- the part found begins where the records do
   pub found-part : (b k : ℕ) → b ≡ backIn file → k ≡ countIn file → trailerHolds file ≡ true
@@ -72,20 +73,20 @@ module _ {f : Floor} {q : ℕ} {gs : List ℕ} {n : ℕ} {part : List ℕ} where
   judging h = let e : n - 0 ≡ n = omega arith in record { most = omega arith; enough = omega arith; left = rw e }
 
   module _ {i low : ℕ} {t : List ℕ} (g : Judging f q gs n part i low t) where
-    pub judging-more : {cell : ℕ} → cell ≡ cellIn t → recordFault f q gs low t ≡ 0 → i < n → Judging f q gs n part (i + 1) (cell + 1) (take (length t - 6) (drop 6 t))
-    judging-more {cell} c e l =
+    pub judging-more : {cell k : ℕ} → cell ≡ cellIn t → k ≡ recordFault f q gs low t → k ≡ 0 → i < n → Judging f q gs n part (i + 1) (cell + 1) (take (length t - 6) (drop 6 t))
+    judging-more {cell} c d e l =
         let k : n - i ≡ suc (n - (i + 1)) = omega arith in
-        let d : length (drop 6 t) ≡ length t - 6 = length-drop 6 t in
+        let m : length (drop 6 t) ≡ length t - 6 = length-drop 6 t in
         record {
           most = omega arith;
           enough = rw (rest 6 t) (omega (arith, g .enough));
-          left = rw (rest 6 t, add-one i, add-one cell, c) (sym (judge-more f q gs low t (n - suc i) i e) ∙ (let j : n - i ≡ suc (n - suc i) = omega arith in rw j at (g .left)));
+          left = rw (rest 6 t, add-one i, add-one cell, c) (sym (judge-more f q gs low t (n - suc i) i (sym d ∙ e)) ∙ (let j : n - i ≡ suc (n - suc i) = omega arith in rw j at (g .left)));
         }
 
-    pub judging-stop : {k : ℕ} → k ≡ recordFault f q gs low t → (k ≡ 0 → ⊥) → i < n → refuseAt k (P.Record i) ≡ judgeRecords f q gs n 0 0 part
-    judging-stop {k} e h l =
+    pub judging-stop : {k : ℕ} {v : Verdict} → k ≡ recordFault f q gs low t → (k ≡ 0 → ⊥) → i < n → v ≡ refuseAt k (P.Record i) → v ≡ judgeRecords f q gs n 0 0 part
+    judging-stop {k} e h l r =
         let j : n - i ≡ suc (n - suc i) = omega arith in
-        sym (judge-stop f q gs low t (n - suc i) i k (sym e) h) ∙ rw j at (g .left)
+        r ∙ (sym (judge-stop f q gs low t (n - suc i) i k (sym e) h) ∙ rw j at (g .left))
 
     pub judging-all : n ≤ i → Vd.Done ≡ judgeRecords f q gs n 0 0 part
     unfolding judgeRecords
@@ -103,10 +104,10 @@ module _ {n : ℕ} {part table₀ : List ℕ} where
   applying h = let e : n - 0 ≡ n = omega arith in record { most = omega arith; enough = omega arith; same = refl; left = rw e }
 
   module _ {i : ℕ} {t table : List ℕ} (g : Applying n part table₀ i t table) where
-    pub applying-more : {cell figure : ℕ} {next : List ℕ} → cell ≡ cellIn t → figure ≡ figureIn t → next ≡ set table cell figure → i < n
+    pub applying-more : {cell figure : ℕ} {next : List ℕ} → next ≡ set table cell figure → cell ≡ cellIn t → figure ≡ figureIn t → i < n
         → Applying n part table₀ (i + 1) (take (length t - 6) (drop 6 t)) next
     unfolding applied
-    applying-more {cell} {figure} c d e l =
+    applying-more {cell} {figure} e c d l =
         let k : n - i ≡ suc (n - (i + 1)) = omega arith in
         let m : length (drop 6 t) ≡ length t - 6 = length-drop 6 t in
         record {

@@ -35,9 +35,9 @@ module _ (file : List ℕ) (held : trailerHolds file ≡ true) where
       ∙ ((λ i. trailerOf (floorAt (same i) []) (same i .q) (goalsAt (same i)) (count i))
       ∙ (ap (λ (gs : List ℕ). trailerOf (floorAt (siteIn file) []) (scaleIn file) gs (countIn file)) (goals-one (halfAt (trailer firstLong file) 2)) ∙ sym (trailer-first file t)))
 
-  pub second-put : (editionIn file ≡ 1 → ⊥) → trailer secondLong file ≡ renewedTrailer file
-  second-put other =
-      let s : Second file = ⊎-elim (λ t. absurd (other (t .edition-is))) (λ t. t) (trailer-tells file .holds held) in
+  pub second-put : {n : ℕ} → n ≡ editionIn file → (n ≡ 1 → ⊥) → trailer secondLong file ≡ renewedTrailer file
+  second-put d other =
+      let s : Second file = ⊎-elim (λ t. absurd (other (d ∙ t .edition-is))) (λ t. t) (trailer-tells file .holds held) in
       sym (trailer-second file s)
 
   -- the whole

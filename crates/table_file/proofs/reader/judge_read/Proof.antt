@@ -40,7 +40,7 @@ returns-5 c =
 pub judge-read-spec : {M : Type 1} → f.Statement.statement M
 unfolding checkTrailer readVerdict
 judge-read-spec =
-    tie.close (tie.spec (search needs) (search needs) (search needs) (λ c. then-stops _ (c .before .before .open-table .ensures) (c .enum-told2 .given .1)) (search needs) (search needs)
+    tie.close (tie.spec (search needs) (search needs) (search needs) (λ c. search then-stops) (search needs) (search needs)
     (λ c. rw (opens (c .before .before .before), sym (c .before .before .trailer-holds .ensures) ∙ not-true _ (c .before .if1 .taken)) (c .refuse .ensures)) (search (ending-room, holds))
     (search needs) returns-3 (search holds) (search needs) (search needs)
     (λ c. rw (by-table (c .before .before .before)) (then-stops _ (c .before .before .same-job .ensures _) (c .enum-told4 .given .1))) (search (ending-room, holds)) (search needs)

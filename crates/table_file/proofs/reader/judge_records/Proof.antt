@@ -1,5 +1,5 @@
 -- `table_file::reader::judge_records` meets its contract: the invariant: `Judging`, the records left answer like all of them.
-use Rattle.learning.proofs.Words.{_-_, _∙_, needs, arith}
+use Rattle.learning.proofs.Words.{_-_, needs}
 use Rattle.table_file.specs.Site.{floorAt, goalsAt}
 use Rattle.table_file.proofs.Reading.{Judging, judging, judging-more, judging-stop, judging-all}
 use Rattle.table_file.proofs.reader.judge_records as f
@@ -13,8 +13,8 @@ abbrev μ-loop : tie.MeasureT-loop
 
 pub judge-records-spec : {M : Type 1} → f.Statement.statement M
 judge-records-spec =
-    tie.close (tie.spec Inv-loop μ-loop (λ c. judging (omega arith)) (λ c κs. search needs) (λ c κs. search needs)
-    (λ c. c .refuse-at .ensures ∙ judging-stop (c .before .before .before .before .loop .inv) (c .before .before .record-fault .ensures) (c .before .if1 .taken) (omega arith))
+    tie.close (tie.spec Inv-loop μ-loop (λ c. search judging) (λ c κs. search needs) (λ c κs. search needs)
+    (λ c. search judging-stop)
     (λ c κs. search needs) (search needs) (search needs) (search needs) (search needs) (search needs) (search needs)
-    (λ c. let judged = c .before .before .before in judging-more (judged .before .before .loop .inv) (c .before .half-at .ensures .0) (omega arith) (omega arith))
-    (λ c. judging-all (c .before .loop .inv) (omega arith)))
+    (λ c. search judging-more)
+    (λ c. search judging-all))

@@ -19,6 +19,6 @@ pub same-job-spec : {M : Type 1} → f.Statement.statement M
 unfolding sameJob
 same-job-spec =
     tie.close (tie.spec (λ c κs. search needs) (search needs) (λ c bytes. rw (sym (c .before .before .names .ensures bytes) ∙ not-true _ (c .before .if1 .taken)) (c .refuse .ensures))
-    (λ c κs. ending-room _ (c .before .before .before .pre)) (search needs) (search needs) (search needs)
+    (λ c κs. search ending-room) (search needs) (search needs) (search needs)
     (λ c bytes. rw (by-scale (c .before .before .before) bytes, ne-eqb _ _ (c .before .if2 .taken)) (c .refuse2 .ensures))
     (λ c bytes. rw (by-scale (c .before .before) bytes, eq-eqb _ _ (c .if2 .left))))

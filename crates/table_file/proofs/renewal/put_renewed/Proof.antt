@@ -23,12 +23,12 @@ returns-2 c =
     let other = copied .before .before .before in
     let start = other .before .before .before .before in
     let a = start .args in
-    rw (← (second-put _ (start .pre .0) (λ one. other .if1 .left (other .before .edition-in .ensures ∙ one))), ← (trailer .ensures .0))
+    rw (← (second-put _ (start .pre .0) (other .before .edition-in .ensures) (other .if1 .left)), ← (trailer .ensures .0))
     (copied .bytes .ensures .written ∙ put-sets (a .at) (now (trailer .result)) (now (a .out)) (omega (arith, start .pre .1, trailer .ensures .1)))
 
 pub put-renewed-spec : {M : Type 1} → f.Statement.statement M
 put-renewed-spec =
-    tie.close (tie.spec (λ c κs. ending-room _ (c .before .before .pre .0)) (λ c κs. points _ (c .before .before .before .before .before .pre .0) .room)
-    (λ c κs. ending-room _ (c .before .before .before .before .before .before .pre .0)) (search needs) (search needs) returns
-    (λ c κs. second-room _ (c .before .before .before .before .before .pre .0) (λ one. c .before .if1 .left (c .before .before .edition-in .ensures ∙ one))) (search needs)
+    tie.close (tie.spec (λ c κs. search ending-room) (λ c κs. points _ (c .before .before .before .before .before .pre .0) .room)
+    (λ c κs. search ending-room) (search needs) (search needs) returns
+    (λ c κs. search second-room) (search needs)
     (search needs) returns-2)

@@ -34,4 +34,4 @@ unfolding renewFile
 renew-file-spec =
     tie.close (tie.spec (search needs) (search needs) (search needs) (search needs) (λ c κs. omega (arith, found c .1))
     (λ c κs. let p = found (c .before .before .before .before) in (p .0, omega (arith, p .1, c .before .before .before .bytes .ensures .next))) (search needs)
-    (λ c. writes-refused _ _ (c .before .before .before .judge-renew .ensures) (c .before .v .given .0 .0) (c .before .v .given .1)) (search needs) returns-2)
+    (λ c. search writes-refused) (search needs) returns-2)

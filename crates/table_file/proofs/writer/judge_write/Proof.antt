@@ -37,7 +37,7 @@ by-room e = let w = at-within e in rw (opens (at-opened w), sym (figures-are (w 
 pub judge-write-spec : {M : Type 1} → f.Statement.statement M
 unfolding writeVerdict
 judge-write-spec =
-    tie.close (tie.spec (search needs) (search needs) (search needs) (λ c. then-stops _ (c .before .before .open-table .ensures) (c .enum-told2 .given .1)) (search needs) (search needs)
+    tie.close (tie.spec (search needs) (search needs) (search needs) (λ c. search then-stops) (search needs) (search needs)
     (search needs) (λ c. rw (opens (c .before .before .before)) (then-stops _ (figures-are (c .before .before)) (c .enum-told4 .given .1))) (λ c κs. opened _ _ _ _ (opens (at-opened c)))
     (search needs) (search needs)
     (λ c. let w = c .before .before .before in rw (opens (at-opened w), sym (figures-are (w .before .before)) ∙ w .enum-told3 .given .1)

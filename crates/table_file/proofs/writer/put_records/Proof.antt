@@ -21,6 +21,6 @@ loop-again c =
 
 pub put-records-spec : {M : Type 1} → f.Statement.statement M
 put-records-spec =
-    tie.close (tie.spec Inv-loop μ-loop (λ c. putting (c .before .before .before .pre .1 .1)) (search needs) (search needs) (search needs) (λ c κs. search needs) (search needs)
+    tie.close (tie.spec Inv-loop μ-loop (λ c. search putting) (search needs) (search needs) (search needs) (λ c κs. search needs) (search needs)
     (λ c κs. let l = c .before .before .before .before .before .before .loop in omega (arith, room-left (l .inv) (λ e. c .before .if1 .taken (omega arith)) (omega arith))) (search needs)
     (search needs) (search needs) loop-again (search needs) (λ c. putting-all (c .before .loop .inv) (omega arith)))

@@ -37,4 +37,4 @@ write-table-spec =
     tie.close (tie.spec (search needs) (search needs) (search needs) (λ c κs. let p = passed (c .before) in (p .opens, (p .cells, omega arith)))
     (λ c. omega (arith, passed (at-passed (c .before .before .before)))) (λ c κs. omega (arith, passed (at-passed (c .before .before .before))))
     (λ c. omega (arith, passed (at-passed (at-records (c .before .before))))) (λ c. omega (arith, passed (at-passed (at-records (c .before .before)))))
-    (λ c. writes-refused _ _ (c .before .before .before .judge-write .ensures) (c .before .v .given .0 .0) (c .before .v .given .1)) (search needs) returns-2)
+    (λ c. search writes-refused) (search needs) returns-2)
