@@ -117,22 +117,22 @@ module _ (t : List ℕ) where
   pub size-zero : first ≡ 48 → 0 ≡ sizeIn t
   size-zero e = sym (no-first (inl (omega arith)))
 
-  module _ {r : Run} (e : r ≡ runAt 64 t 0) (n : first ≡ 48 → ⊥) where
+  module _ {r : Run} {b : ℕ} (e : r ≡ runAt 64 t 0) (d : b ≡ first) (n : b ≡ 48 → ⊥) where
     by-run : sizeBy (r .after) (r .value) (getD t (r .after) 0) ≡ sizeIn t
     by-run =
-        let d : r .after ≡ digitsIn t = omega (arith, ap (λ x. x .after) e) in
+        let a : r .after ≡ digitsIn t = omega (arith, ap (λ x. x .after) e) in
         let v : r .value ≡ valueIn 64 0 t = ap (λ x. x .value) e in
-        rw (d, v) (sym (sized n))
+        rw (a, v) (sym (sized (λ z. n (d ∙ z))))
 
     pub size-long : 2 < r .after → 0 ≡ sizeIn t
     size-long h = rw (lt-leb (r .after) 2 h) at by-run
 
-    module _ (h : r .after ≤ 2) where
-      pub size-no-LF : (getD t (r .after) 0 ≡ 10 → ⊥) → 0 ≡ sizeIn t
-      size-no-LF f = rw (le-leb (r .after) 2 h, ne-eqb (getD t (r .after) 0) 10 f) at by-run
+    module _ {x : ℕ} (h : r .after ≤ 2) (g : x ≡ getD t (r .after) 0) where
+      pub size-no-LF : (x ≡ 10 → ⊥) → 0 ≡ sizeIn t
+      size-no-LF f = rw (le-leb (r .after) 2 h, ne-eqb (getD t (r .after) 0) 10 (λ z. f (g ∙ z))) at by-run
 
-      pub size-past : getD t (r .after) 0 ≡ 10 → 64 < r .value → 0 ≡ sizeIn t
-      size-past f l = rw (le-leb (r .after) 2 h, eq-eqb (getD t (r .after) 0) 10 f, lt-leb (r .value) 64 l) at by-run
+      pub size-past : x ≡ 10 → 64 < r .value → 0 ≡ sizeIn t
+      size-past f l = rw (le-leb (r .after) 2 h, eq-eqb (getD t (r .after) 0) 10 (sym g ∙ f), lt-leb (r .value) 64 l) at by-run
 
-      pub size-whole : getD t (r .after) 0 ≡ 10 → r .value ≤ 64 → r .value ≡ sizeIn t
-      size-whole f l = rw (le-leb (r .after) 2 h, eq-eqb (getD t (r .after) 0) 10 f, le-leb (r .value) 64 l) at by-run
+      pub size-whole : x ≡ 10 → r .value ≤ 64 → r .value ≡ sizeIn t
+      size-whole f l = rw (le-leb (r .after) 2 h, eq-eqb (getD t (r .after) 0) 10 (sym g ∙ f), le-leb (r .value) 64 l) at by-run

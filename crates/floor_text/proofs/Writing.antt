@@ -94,8 +94,14 @@ module _ {out₀ : List ℕ} {at w h : ℕ} {floor : List ℕ} where
     length-first = length-append (map letterOf (take w t)) (LF ∷ []) ∙ omega (arith, length-map (take w t) letterOf, length-take-le w t (omega (arith, cells-left)))
 
     -- a row is left, with its cells and room for it
-    pub row-ahead : (w ≤ length t) × (end + w < length out)
-    row-ahead = (omega (arith, cells-left), omega (arith, g .same, g .room, g .next, ap length rows-left, length-append first others, length-first))
+    pub row-there : w ≤ length t
+    row-there = omega (arith, cells-left)
+
+    pub row-whole : w ≡ length (take w t)
+    row-whole = sym (length-take-le w t row-there)
+
+    pub row-room : end + length (take w t) < length out
+    row-room = omega (arith, row-whole, g .same, g .room, g .next, ap length rows-left, length-append first others, length-first)
 
     pub rowing-more : {after : List ℕ} {next : ℕ} → Printed out end (map letterOf (take w t) ++ (LF ∷ [])) after next
         → Rowing out₀ at w h floor after (take (length t - w) (drop w t)) next (row + 1)

@@ -27,5 +27,5 @@ returns-2 c =
 pub judge-text-spec : {M : Type 1} → f.Statement.statement M
 unfolding textVerdict
 judge-text-spec =
-    tie.close (tie.spec (search needs) (search needs) (search needs) (λ c. then-stops _ (c .before .before .sizes .ensures) (c .enum-told2 .given .1)) (λ c κs. omega (arith, sized c))
+    tie.close (tie.spec (search needs) (search needs) (search needs) (λ c. search then-stops) (λ c κs. omega (arith, sized c))
     (search needs) returns-2 (λ c. let long = c .before .text-bytes .ensures _ (sized (c .before .before)) in sym (by-room (c .before .before) ∙ room-judges _ _ .done (omega arith))))

@@ -1,5 +1,5 @@
 -- `floor_text::writer::put_line` meets its contract: a word, the digits and the LF, one after another.
-use Rattle.learning.proofs.Words.{_+_, _≤_, [], _∷_, _++_, now, length, length-append, arith, needs}
+use Rattle.learning.proofs.Words.{_+_, _≤_, [], _∷_, length, length-append, arith, needs}
 use Rattle.model.specs.FloorText.{LF}
 use Rattle.model.specs.Line.{decimal}
 use Rattle.notation.proofs.Decimals.{printed-then}
@@ -14,12 +14,5 @@ room e = let n = e .before .before .before .before .args .n in omega (arith, len
 abbrev worded : tie.After-decimal → tie.After-bytes
 worded e = e .before .before .before .before
 
-returns : tie.Need-returns
-returns c =
-    let numbered = c .before .before .before .before .before .before in
-    let a = worded numbered .before .before .before .before .args in
-    printed-then (now (a .word)) (decimal (a .n) ++ (LF ∷ [])) (worded numbered .bytes .ensures)
-    (printed-then (decimal (a .n)) (LF ∷ []) (numbered .decimal .ensures) (c .before .before .byte .ensures))
-
 pub put-line-spec : {M : Type 1} → f.Statement.statement M
-put-line-spec = tie.close (tie.spec (search needs) (λ c κs. omega (arith, room (c .before .before .before))) (λ c κs. omega (arith, room (worded (c .before .before .before)))) (search needs) returns)
+put-line-spec = tie.close (tie.spec (search needs) (λ c κs. omega (arith, room (c .before .before .before))) (λ c κs. omega (arith, room (worded (c .before .before .before)))) (search needs) (λ c. search printed-then))
