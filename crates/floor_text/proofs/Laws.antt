@@ -9,7 +9,7 @@ use native.Mathlib.Nat.{mul-le-mul-right, mul-comm}
 use native.Mathlib.Omega.{arith}
 use lib.Dec.{leb, eqb}
 use borrow.Author.Tests.{lt-leb, le-leb, eq-eqb, ne-eqb, not-true, not-false}
-use lib.ListN.{length, take, drop, set, getD, length-append, length-drop, length-map, length-set, drop-of-length-le}
+use lib.ListN.{length, take, drop, set, getD, length-append, length-take, length-drop, length-map, length-set, drop-of-length-le}
 use lib.Seq.{drop-cons, take-suc, take-all, set-at, drop-drop, take-at, drop-at, length-take-le}
 use Rattle.answers.specs.Says.{saysFloorRead}
 use Rattle.answers.specs.declared.Place.the-variants as P
@@ -237,17 +237,25 @@ filled {w} l = record {
 
 module _ {w h : ℕ} {text out₀ t out : List ℕ} {row : ℕ} (g : Filled w h text out₀ t out row) where
   -- a row is left to read, and room for its cells
-  pub row-left : row < h → (row * w + w ≤ length out) × (w + 1 ≤ length t)
-  row-left l =
-      let a : (row + 1) * w ≤ h * w = mul-le-mul-right {m = row + 1} {n = h} w (omega arith) in
+  pub row-space : row < h → row * w + w ≤ length out
+  row-space l = let a : (row + 1) * w ≤ h * w = mul-le-mul-right {m = row + 1} {n = h} w (omega arith) in omega (arith, g .room, g .same)
+
+  pub row-text : row < h → w + 1 ≤ length t
+  row-text l =
       let b : (row + 1) * (w + 1) ≤ h * (w + 1) = mul-le-mul-right {m = row + 1} {n = h} (w + 1) (omega arith) in
       let d : length t ≡ length text - row * (w + 1) = ap length (g .left) ∙ length-drop (row * (w + 1)) text in
-      (omega (arith, g .room, g .same), omega (arith, g .long))
+      omega (arith, g .long)
+
+  pub row-cut : row < h → w ≡ length (take w t)
+  row-cut l = sym (length-take-le w t (omega (arith, row-text l)))
+
+  pub row-cells : row < h → length (take (row * w + w - row * w) (drop (row * w) out)) ≡ length (take w t)
+  row-cells l = simp (length-take, length-drop) (omega (arith, row-space l, row-text l))
 
   pub filled-more : {zs : List ℕ} → zs ≡ map byteOf (take w t) → row < h
       → Filled w h text out₀ (take (length t - (w + 1)) (drop (w + 1) t)) (take (row * w) out ++ (zs ++ drop (row * w + w - row * w) (drop (row * w) out))) (row + 1)
   filled-more {zs} e l =
-      let r = row-left l in
+      let r = row-space l in
       let a : row * (w + 1) ≤ length text = omega (arith, mul-le-mul-right (w + 1) (g .most), g .long) in
       let n : length (cellsOf w row text) ≡ row * w = length-cells w row text a in
       let k : row * w + w - row * w ≡ w = omega arith in

@@ -41,10 +41,10 @@ module _ (file : List ℕ) (held : trailerHolds file ≡ true) where
       sym (trailer-second file s)
 
   -- the whole
-  pub renewed-put : (part buffer mid after : List ℕ) (at : ℕ) → part ≡ findRecords file → 0 + length part ≤ length buffer → Printed buffer 0 part mid at → after ≡ put at (renewedTrailer file) mid
+  pub renewed-put : {part mid after : List ℕ} (buffer : List ℕ) {at : ℕ} → part ≡ findRecords file → 0 + length part ≤ length buffer → Printed buffer 0 part mid at → after ≡ put at (renewedTrailer file) mid
       → (at + secondLong ≡ length (renewed file)) × (after ≡ renewed file ++ drop (length (renewed file)) buffer)
   unfolding renewed
-  renewed-put part buffer mid after at e room P h =
+  renewed-put {part} {mid} {after} buffer {at} e room P h =
       let long : length (findRecords file) ≡ at = omega (arith, ap length e, P .next) in
       let front : mid ≡ findRecords file ++ drop at buffer =
       P .written ∙ (put-sets 0 part buffer room ∙ λ i. e i ++ drop (sym (P .next) i) buffer) in

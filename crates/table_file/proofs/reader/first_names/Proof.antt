@@ -12,7 +12,8 @@ returns-4 c bytes =
     let width = height .before .before .before .before in
     let first = goal-at (width .before .before .before .before .before .args .site .goals) 0 0 refl (omega arith) in
     same-told (eq-tells _ _) (first-names _ _ _)
-    (λ e. record { width = omega arith; height = omega arith; goal = sym (c .before .half-at .ensures .0) ∙ (e ∙ sym first); alone = omega arith }) (λ s. c .before .half-at .ensures .0 ∙ (s .goal ∙ first))
+    (λ e. record { width = omega arith; height = omega arith; goal = sym (c .before .half-at .ensures .0) ∙ (e ∙ sym first); alone = omega arith })
+    (λ s. c .before .half-at .ensures .0 ∙ (s .goal ∙ first))
 
 pub first-names-spec : {M : Type 1} → f.Statement.statement M
 first-names-spec =

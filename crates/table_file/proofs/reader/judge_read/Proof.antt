@@ -35,7 +35,7 @@ returns-5 : tie.Need-returns-5
 returns-5 c =
     let same = c .before .before .before in
     rw (by-table (same .before .before .before), ← (c .before .before .count-in .ensures .0), ← (c .before .find-records .ensures .0))
-    (then-goes _ (same .before .before .same-job .ensures _) (same .enum-told3 .given .1) (c .judge-records .ensures))
+    (search (then-goes, same .before .before .same-job .ensures))
 
 pub judge-read-spec : {M : Type 1} → f.Statement.statement M
 unfolding checkTrailer readVerdict
@@ -43,5 +43,5 @@ judge-read-spec =
     tie.close (tie.spec (search needs) (search needs) (search needs) (λ c. search then-stops) (search needs) (search needs)
     (λ c. rw (opens (c .before .before .before), sym (c .before .before .trailer-holds .ensures) ∙ not-true _ (c .before .if1 .taken)) (c .refuse .ensures)) (search (ending-room, holds))
     (search needs) returns-3 (search holds) (search needs) (search needs)
-    (λ c. rw (by-table (c .before .before .before)) (then-stops _ (c .before .before .same-job .ensures _) (c .enum-told4 .given .1))) (search (ending-room, holds)) (search needs)
+    (λ c. rw (by-table (c .before .before .before)) (search (then-stops, c .before .before .same-job .ensures))) (search (ending-room, holds)) (search needs)
     (λ c κs. let whole = c .before .before .before .before .before in (opened _ _ _ _ (opens (whole .before .before .before .before)) .0, search (records-long, holds))) returns-5)

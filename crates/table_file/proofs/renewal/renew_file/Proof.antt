@@ -26,7 +26,7 @@ returns-2 c =
     let part = printed .before in
     let passed = at-passed part in
     let p = found part in
-    let whole = renewed-put _ (p .0) _ _ _ _ _ (part .find-records .ensures .0) (omega (arith, p .1)) (printed .bytes .ensures) (put .put-renewed .ensures) in
+    let whole = renewed-put _ (p .0) _ (part .find-records .ensures .0) (omega (arith, p .1)) (printed .bytes .ensures) (put .put-renewed .ensures) in
     writes-done _ _ (passed .before .before .judge-renew .ensures) _ _ (passed .enum-told .given .1) (whole .0) (whole .1)
 
 pub renew-file-spec : {M : Type 1} → f.Statement.statement M

@@ -11,10 +11,7 @@ holds e = sym (e .before .trailer-holds .ensures) ∙ not-false _ (e .if1 .left)
 
 returns-2 : tie.Need-returns-2
 unfolding startOf
-returns-2 c =
-    let back = c .before .before in
-    let held = holds (back .before) in
-    (found-part _ _ _ (back .back-in .ensures) (c .before .count-in .ensures .0) held, (refl, rw held (omega arith)))
+returns-2 c = let held = holds (c .before .before .before) in (search found-part, (refl, rw held (omega arith)))
 
 pub find-records-spec : {M : Type 1} → f.Statement.statement M
 unfolding findRecords startOf
