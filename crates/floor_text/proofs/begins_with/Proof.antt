@@ -12,6 +12,5 @@ abbrev μ-loop : tie.MeasureT-loop
 
 pub begins-with-spec : {M : Type 1} → f.Statement.statement M
 begins-with-spec =
-    tie.close (tie.spec Inv-loop μ-loop (λ c. search begins-short) (λ c. search begun) (search needs) (search needs)
-    (λ c. search begun-not) (search needs) (search needs)
+    tie.close (tie.spec Inv-loop μ-loop (λ c. search begins-short) (λ c. search begun) (search needs) (search needs) (λ c. search begun-not) (search needs) (search needs)
     (λ c. search begun-more) (λ c. search begun-all))

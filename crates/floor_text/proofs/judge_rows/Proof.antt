@@ -13,10 +13,7 @@ abbrev μ-loop : tie.MeasureT-loop
 
 pub judge-rows-spec : {M : Type 1} → f.Statement.statement M
 judge-rows-spec =
-    tie.close (tie.spec Inv-loop μ-loop (λ c. search rowed) (search needs) (search needs)
-    (λ c. search rowed-fault) (search needs)
+    tie.close (tie.spec Inv-loop μ-loop (λ c. search rowed) (search needs) (search needs) (λ c. search rowed-fault) (search needs)
     (λ c. omega (arith, row-gives _ _ (sym (c .before .row-holds .ensures) ∙ not-false _ (c .if1 .left)) .0))
-    (λ c. omega (arith, row-gives _ _ (sym (c .before .row-holds .ensures) ∙ not-false _ (c .if1 .left)) .0)) (search needs) (search needs) (search needs)
-    (λ c. search rowed-more)
-    (λ c. search rowed-done) (search needs)
-    (λ c. search rowed-over))
+    (λ c. omega (arith, row-gives _ _ (sym (c .before .row-holds .ensures) ∙ not-false _ (c .if1 .left)) .0)) (search needs) (search needs) (search needs) (λ c. search rowed-more)
+    (λ c. search rowed-done) (search needs) (λ c. search rowed-over))

@@ -12,7 +12,5 @@ abbrev μ-loop : tie.MeasureT-loop
 
 pub row-holds-spec : {M : Type 1} → f.Statement.statement M
 row-holds-spec =
-    tie.close (tie.spec Inv-loop μ-loop (λ c. search row-short) (λ c. search lettered) (search needs) (search needs)
-    (λ c. search row-not) (search needs) (search needs)
-    (λ c. search lettered-more) (search needs)
-    (λ c. search row-end))
+    tie.close (tie.spec Inv-loop μ-loop (λ c. search row-short) (λ c. search lettered) (search needs) (search needs) (λ c. search row-not) (search needs) (search needs)
+    (λ c. search lettered-more) (search needs) (λ c. search row-end))

@@ -12,6 +12,5 @@ abbrev μ-loop : tie.MeasureT-loop
 
 pub store-row-spec : {M : Type 1} → f.Statement.statement M
 store-row-spec =
-    tie.close (tie.spec Inv-loop μ-loop (λ c. search stored) (search needs) (search needs) (search needs) (search needs) (search needs)
-    (λ c. search stored-more) (search needs)
+    tie.close (tie.spec Inv-loop μ-loop (λ c. search stored) (search needs) (search needs) (search needs) (search needs) (search needs) (λ c. search stored-more) (search needs)
     (λ c. search stored-all))

@@ -12,6 +12,5 @@ abbrev μ-loop : tie.MeasureT-loop
 
 pub put-row-spec : {M : Type 1} → f.Statement.statement M
 put-row-spec =
-    tie.close (tie.spec Inv-loop μ-loop (λ c. search lettering) (search needs) (search needs) (search needs) (search needs) (search needs) (search needs)
-    (λ c. search lettering-more) (search needs) (search needs) (search needs)
-    (λ c. search lettering-all))
+    tie.close (tie.spec Inv-loop μ-loop (λ c. search lettering) (search needs) (search needs) (search needs) (search needs) (search needs) (search needs) (λ c. search lettering-more)
+    (search needs) (search needs) (search needs) (λ c. search lettering-all))

@@ -12,8 +12,5 @@ abbrev μ-loop : tie.MeasureT-loop
 
 pub put-rows-spec : {M : Type 1} → f.Statement.statement M
 put-rows-spec =
-    tie.close (tie.spec Inv-loop μ-loop (λ c. search rowing) (λ c. search row-whole)
-    (λ c κs. search row-room) (λ c. search row-there)
-    (λ c. search (needs, row-there)) (λ c. search (needs, row-there)) (search needs) (search needs)
-    (λ c. search rowing-more) (omega arith)
-    (λ c. search rowing-all))
+    tie.close (tie.spec Inv-loop μ-loop (λ c. search rowing) (λ c. search row-whole) (λ c κs. search row-room) (λ c. search row-there) (λ c. search (needs, row-there))
+    (λ c. search (needs, row-there)) (search needs) (search needs) (λ c. search rowing-more) (omega arith) (λ c. search rowing-all))

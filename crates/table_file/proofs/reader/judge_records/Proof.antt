@@ -13,8 +13,5 @@ abbrev μ-loop : tie.MeasureT-loop
 
 pub judge-records-spec : {M : Type 1} → f.Statement.statement M
 judge-records-spec =
-    tie.close (tie.spec Inv-loop μ-loop (λ c. search judging) (λ c κs. search needs) (λ c κs. search needs)
-    (λ c. search judging-stop)
-    (λ c κs. search needs) (search needs) (search needs) (search needs) (search needs) (search needs) (search needs)
-    (λ c. search judging-more)
-    (λ c. search judging-all))
+    tie.close (tie.spec Inv-loop μ-loop (λ c. search judging) (λ c κs. search needs) (λ c κs. search needs) (λ c. search judging-stop) (λ c κs. search needs) (search needs)
+    (search needs) (search needs) (search needs) (search needs) (search needs) (λ c. search judging-more) (λ c. search judging-all))

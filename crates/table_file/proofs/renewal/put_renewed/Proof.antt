@@ -28,7 +28,5 @@ returns-2 c =
 
 pub put-renewed-spec : {M : Type 1} → f.Statement.statement M
 put-renewed-spec =
-    tie.close (tie.spec (λ c κs. search ending-room) (λ c κs. points _ (c .before .before .before .before .before .pre .0) .room)
-    (λ c κs. search ending-room) (search needs) (search needs) returns
-    (λ c κs. search second-room) (search needs)
-    (search needs) returns-2)
+    tie.close (tie.spec (λ c κs. search ending-room) (λ c κs. points _ (c .before .before .before .before .before .pre .0) .room) (λ c κs. search ending-room) (search needs)
+    (search needs) returns (λ c κs. search second-room) (search needs) (search needs) returns-2)

@@ -9,14 +9,10 @@ use f.Tie as tie
 holds : (e : tie.Else1) → trailerHolds (now (e .before .before .before .args .file)) ≡ true
 holds e = sym (e .before .trailer-holds .ensures) ∙ not-false _ (e .if1 .left)
 
-returns-2 : tie.Need-returns-2
-unfolding startOf
-returns-2 c = let held = holds (c .before .before .before) in (search found-part, (refl, rw held (omega arith)))
-
 pub find-records-spec : {M : Type 1} → f.Statement.statement M
 unfolding findRecords startOf
 find-records-spec =
     tie.close (tie.spec (search needs) (search needs) (search needs) (search needs)
     (λ c. let faulty = sym (c .before .before .trailer-holds .ensures) ∙ not-true _ (c .before .if1 .taken) in (rw faulty, (refl, rw faulty))) (search (ending-room, holds))
     (λ c. omega (arith, points _ (holds (c .before)) .within)) (search (ending-room, holds)) (search needs) (search needs) (search needs) (search needs)
-    (λ c. omega (arith, points _ (holds (c .before .before)))) returns-2)
+    (λ c. omega (arith, points _ (holds (c .before .before)))) (λ c. let held = holds (c .before .before .before) in (search found-part, (refl, rw held (omega arith)))))

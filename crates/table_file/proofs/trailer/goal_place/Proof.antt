@@ -7,6 +7,5 @@ use f.Tie as tie
 
 pub goal-place-spec : {M : Type 1} → f.Statement.statement M
 goal-place-spec =
-    tie.close (tie.spec (search needs) (search needs)
-    (λ c. let a = c .before .before .before .args in c .goal-at .ensures ∙ sym (place-used (goalsOf (a .goals)) (a .i) (omega arith)))
+    tie.close (tie.spec (search needs) (search needs) (λ c. let a = c .before .before .before .args in c .goal-at .ensures ∙ sym (place-used (goalsOf (a .goals)) (a .i) (omega arith)))
     (λ c. let a = c .before .before .args in sym (List·getD-eq-default (goalsOf (a .goals)) _ {n = a .i} (omega arith))))

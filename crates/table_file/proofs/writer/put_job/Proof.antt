@@ -19,6 +19,4 @@ returns c =
     (sizes .put-pair .ensures) (count .put-pair2 .ensures) (places .put-places .ensures) (last .put-pair3 .ensures) (omega arith))
 
 pub put-job-spec : {M : Type 1} → f.Statement.statement M
-put-job-spec =
-    tie.close (tie.spec (search needs) (search needs) (search needs) (search needs) (search needs) (search needs) (search needs)
-    (search needs) (search needs) returns)
+put-job-spec = tie.close (tie.spec (search needs) (search needs) (search needs) (search needs) (search needs) (search needs) (search needs) (search needs) (search needs) returns)
