@@ -11,6 +11,11 @@ Inv-loop site floor table out₀ n₀ x₀ out n x = Putting (floorAt site floor
 abbrev μ-loop : tie.MeasureT-loop
 μ-loop site floor table out₀ n₀ x₀ out n x = length table - x
 
+put-record-requires : tie.Need-put-record-requires Inv-loop μ-loop
+put-record-requires c κs =
+    let l = c .before .before .before .before .before .before .loop in
+    omega (arith, room-left (l .inv) (λ e. c .before .if1 .taken (omega arith)) (omega arith))
+
 loop-again : tie.Need-loop-again Inv-loop μ-loop
 loop-again c =
     let inv = c .before .before .before .before .before .loop .inv in
@@ -21,6 +26,5 @@ loop-again c =
 
 pub put-records-spec : {M : Type 1} → f.Statement.statement M
 put-records-spec =
-    tie.close (tie.spec Inv-loop μ-loop (λ c. search putting) (search needs) (search needs) (search needs) (λ c κs. search needs) (search needs)
-    (λ c κs. let l = c .before .before .before .before .before .before .loop in omega (arith, room-left (l .inv) (λ e. c .before .if1 .taken (omega arith)) (omega arith))) (search needs)
+    tie.close (tie.spec Inv-loop μ-loop (λ c. search putting) (search needs) (search needs) (search needs) (λ c κs. search needs) (search needs) put-record-requires (search needs)
     (search needs) (search needs) loop-again (search needs) (λ c. putting-all (c .before .loop .inv) (omega arith)))
