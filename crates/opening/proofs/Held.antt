@@ -108,7 +108,7 @@ module _ {f : Floor} {goals l : List ℕ} {last : ℕ} {ps : List ℕ} {left : �
   pub held-same : {g : ℕ} → g ≡ last → Held f goals l g ps left
   held-same e = subst (λ g. Held f goals l g ps left) (sym e) H
 
-  pub held-readable : (k : ℕ) → k < kinds (f .bytes) → Readable l (getD ps k 0)
+  held-readable : (k : ℕ) → k < kinds (f .bytes) → Readable l (getD ps k 0)
   held-readable k h = place-readable (H .sized) l (H .long) (H .searching .queue) (H .p k) (H .stands k h)
 
   pub held-offered : Offered l ps
@@ -130,8 +130,12 @@ module _ {f : Floor} {goals l : List ℕ} {last : ℕ} {ps : List ℕ} {left : �
 
   -- the least offer: at the queue's end all is found, before it is the step to take
   module _ {r : ℕ} (L : Least l ps (length ps) r) where
-    pub held-one : r < kinds (f .bytes)
+    held-one : r < kinds (f .bytes)
     held-one = omega (arith, L .one, H .whole)
+
+    -- what asking for it wants
+    pub held-offer : Readable l (getD ps r 0) × (r < allKinds)
+    held-offer = (held-readable r held-one, kind-fits _ _ held-one)
 
     offers : (k : ℕ) → k < kinds (f .bytes) → offerOf l (getD ps k 0) (cost k) ≡ offer (distAt l) (H .q) (H .n) (H .p k) (cost k)
     offers k h = place-offer (H .sized) l (H .long) (H .searching .queue) (H .p k) (H .stands k h) (cost k)
@@ -142,13 +146,16 @@ module _ {f : Floor} {goals l : List ℕ} {last : ℕ} {ps : List ℕ} {left : �
     pub held-none : getD ps r 0 ≡ end → Certified (groundOf f goals) none (distAt l)
     held-none e = none-left (H .sized) (H .searching) held-one low (at-end r held-one e)
 
-    pub held-next : {v : ℕ} → v ≡ offerOf l (getD ps r 0) (cost r) → (getD ps r 0 ≡ end → ⊥) → Next f (distAt l) (H .q) (H .n) (H .p) r v
+    held-next : {v : ℕ} → v ≡ offerOf l (getD ps r 0) (cost r) → (getD ps r 0 ≡ end → ⊥) → Next f (distAt l) (H .q) (H .n) (H .p) r v
     held-next {v} o h =
         subst (Next f (distAt l) (H .q) (H .n) (H .p) r) (sym (o ∙ offers r held-one))
         (next (H .sized) (H .searching) held-one low (before-end r held-one h))
 
   -- a step
-  module _ {r v : ℕ} (N : Next f (distAt l) (H .q) (H .n) (H .p) r v) where
+  module _ {r v : ℕ} (L : Least l ps (length ps) r) (o : v ≡ offerOf l (getD ps r 0) (cost r)) (before : getD ps r 0 ≡ end → ⊥) where
+    N : Next f (distAt l) (H .q) (H .n) (H .p) r v
+    N = held-next L o before
+
     cell : getD ps r 0 ≡ H .q (H .p r)
     cell = H .stands r (N .one) ∙ cell-in (H .q) (H .n) (H .p r) (N .before)
 

@@ -1,5 +1,4 @@
 -- `opening::accepts` meets its contract: one check after another, and the first refusal stands.
--- Once checks are passed, an answer that is what the rest says is what they and the rest say: `past-..`.
 use Rattle.learning.proofs.Words.{needs, now, _≡_, sym, _∙_}
 use Rattle.model.proofs.Accepted.{then-stops, then-goes}
 use Rattle.model.proofs.Benches.{places-judges, goals-judges, benched}
@@ -18,27 +17,15 @@ at-start e = e .before .before .before .before .before
 abbrev at-places : tie.After-enum-told3 → tie.After-enum-told
 at-places e = e .before .before .before
 
-past-places : (e : tie.After-enum-told) {r w : Verdict} → r ≡ w → let a = at-start e .args in r ≡ then (places (floorOf (a .job) (now (a .floor))) (a .start) (goals (a .job))) w
-past-places e = then-goes _ (e .before .before .places .ensures) (e .enum-told .given .1)
-
+-- once 4 and 27 are passed, an answer that is what the rest says is what they and the rest say
 past-goals : (e : tie.After-enum-told3) {r w : Verdict} → r ≡ w → let a = at-start (at-places e) .args in
     r ≡ then (places (floorOf (a .job) (now (a .floor))) (a .start) (goals (a .job))) (then (goalsHold (a .job .goals)) w)
-past-goals e h = past-places (at-places e) (then-goes _ (e .before .before .goals-hold .ensures) (e .enum-told3 .given .1) h)
+past-goals e h =
+    let placed = at-places e in
+    then-goes _ (placed .before .before .places .ensures) (placed .enum-told .given .1) (then-goes _ (e .before .before .goals-hold .ensures) (e .enum-told3 .given .1) h)
 
 figures-are : (e : tie.After-figures) → let a = at-start (at-places (e .before)) .args in e .figures .result ≡ figures (floorOf (a .job) (now (a .floor))) (now (a .table))
 figures-are e = e .figures .ensures _ (sym (at-start (at-places (e .before)) .pre .1))
-
-returns : tie.Need-returns
-unfolding accepts
-returns c = then-stops _ (c .before .before .places .ensures) (c .enum-told2 .given .1)
-
-returns-2 : tie.Need-returns-2
-unfolding accepts
-returns-2 c = past-places (c .before .before .before) (then-stops _ (c .before .before .goals-hold .ensures) (c .enum-told4 .given .1))
-
-returns-3 : tie.Need-returns-3
-unfolding accepts
-returns-3 c = past-goals (c .before .before .before) (then-stops _ (figures-are (c .before .before)) (c .enum-told6 .given .1))
 
 soundness-requires : tie.Need-soundness-requires
 soundness-requires c κs =
@@ -49,11 +36,12 @@ soundness-requires c κs =
     let o = goals-judges _ .gives (sym (ordered .before .before .goals-hold .ensures) ∙ ordered .enum-told3 .given .1) in
     record { sized = p .0; long = p .1; fine = p .2; begin = free-below _ _ (h .0); benches = benched _ _ (h .1) o }
 
-returns-4 : tie.Need-returns-4
-unfolding accepts
-returns-4 c = past-goals (c .before .before .before .before) (then-goes _ (figures-are (c .before .before .before)) (c .before .enum-told5 .given .1) (c .soundness .ensures))
-
 pub accepts-spec : {M : Type 1} → f.Statement.statement M
+unfolding accepts
 accepts-spec =
-    tie.close (tie.spec (λ c κs. search needs) (λ c. search needs) (λ c. search needs) returns (λ c κs. search needs) (λ c. search needs) (λ c. search needs) returns-2 (λ c κs. search needs)
-    (λ c. search needs) (λ c. search needs) returns-3 soundness-requires returns-4)
+    tie.close (tie.spec (search needs) (search needs) (search needs) (λ c. then-stops _ (c .before .before .places .ensures) (c .enum-told2 .given .1)) (search needs) (search needs) (search needs)
+    (λ c. let placed = c .before .before .before in then-goes _ (placed .before .before .places .ensures) (placed .enum-told .given .1)
+    (then-stops _ (c .before .before .goals-hold .ensures) (c .enum-told4 .given .1)))
+    (search needs) (search needs) (search needs)
+    (λ c. past-goals (c .before .before .before) (then-stops _ (figures-are (c .before .before)) (c .enum-told6 .given .1))) soundness-requires
+    (λ c. past-goals (c .before .before .before .before) (then-goes _ (figures-are (c .before .before .before)) (c .before .enum-told5 .given .1) (c .soundness .ensures))))

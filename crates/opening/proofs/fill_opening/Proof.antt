@@ -18,5 +18,5 @@ returns-2 c =
 
 pub fill-opening-spec : {M : Type 1} → f.Statement.statement M
 fill-opening-spec =
-    tie.close (tie.spec (λ c κs. search needs) (λ c. search needs) (λ c. search needs) (λ c. fills-refused _ _ _ _ (c .before .before .open-table .ensures) (c .enum-told2 .given .1))
-    fill-figures-requires (λ c. search needs) returns-2)
+    tie.close (tie.spec (search needs) (search needs) (search needs) (λ c. fills-refused _ _ _ _ (c .before .before .open-table .ensures) (c .enum-told2 .given .1))
+    fill-figures-requires (search needs) returns-2)

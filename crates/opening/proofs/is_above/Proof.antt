@@ -15,5 +15,5 @@ returns c =
 
 pub is-above-spec : {M : Type 1} → f.Statement.statement M
 is-above-spec =
-    tie.close (tie.spec (λ c κs. search needs) mul-result (λ c κs. search needs) returns
+    tie.close (tie.spec (search needs) mul-result (search needs) returns
     (λ c. let a = c .before .args in sym (ap (λ t. t && ltb (a .q * a .d) (a .figure)) (le-ltb (a .d) far (c .if1 .left)))))

@@ -11,4 +11,4 @@ returns c =
     c .judge-distances .ensures ∙ judged-soundness _ _ _ _ _ (start .pre .0) (c .before .before .before .before .find-distances .ensures)
 
 pub judge-in-spec : {M : Type 1} → f.Statement.statement M
-judge-in-spec = tie.close (tie.spec (λ c κs. search needs) (λ c κs. search needs) (λ c. search needs) returns)
+judge-in-spec = tie.close (tie.spec (λ c κs. search needs) (search needs) (search needs) returns)

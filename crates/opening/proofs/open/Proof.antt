@@ -5,4 +5,4 @@ use Rattle.opening.proofs.open as f
 use f.Tie as tie
 
 pub open-spec : {M : Type 1} → f.Statement.statement M
-open-spec = tie.close (tie.spec (λ c κs. search needs) (λ c. answered (c .open-trial .ensures (now (c .before .before .before .args .table)) refl ∙ trial-of-table _ _ _ _)))
+open-spec = tie.close (tie.spec (search needs) (λ c. answered (c .open-trial .ensures (now (c .before .before .before .args .table)) refl ∙ trial-of-table _ _ _ _)))

@@ -1,11 +1,10 @@
 -- `opening::open_run` meets its contract: one check after another, and the first refusal stands.
--- Once checks are passed, an answer that is what the rest says is what they and the rest say: `past-..`.
 use Rattle.learning.proofs.Words.{_≡_, sym, ap, _∙_, List, ℕ, needs, now, length}
 use Rattle.answers.specs.declared.Verdict.{Verdict}
 use Rattle.model.specs.Basics.{then}
 use Rattle.model.specs.Floor.{size, Sized}
 use Rattle.model.specs.Checks.{floorOf, sizes, pathRoom, settings}
-use Rattle.model.specs.Opening.{reportsRoom, trialsHold, openRun}
+use Rattle.model.specs.Opening.{trialsHold, openRun, accepts}
 use Rattle.model.proofs.Accepted.{then-stops, then-goes, then-done, sizes-judges, settings-judges}
 use Rattle.opening.proofs.Promise.{then-two}
 use Rattle.opening.proofs.open_run as f
@@ -24,40 +23,21 @@ at-room e = e .before .before .before .before .before .before
 sized : (e : tie.After-enum-told) → let a = at-start e .args in let f = floorOf (a .job) (now (a .floor)) in Sized f × (length (now (a .table)) ≡ size f)
 sized e = sizes-judges _ _ .gives (sym (e .before .before .sizes .ensures) ∙ e .enum-told .given .1)
 
-past-sizes : (e : tie.After-enum-told) {r w : Verdict} → r ≡ w → let a = at-start e .args in r ≡ then (sizes (floorOf (a .job) (now (a .floor))) (length (now (a .table)))) w
-past-sizes e = then-goes _ (e .before .before .sizes .ensures) (e .enum-told .given .1)
-
 -- the path list that the check speaks of is any of that length
 room-is : (e : tie.After-path-room) (places : List ℕ) → let a = at-start (e .before) .args in
     length places ≡ a .path → e .path-room .result ≡ pathRoom (floorOf (a .job) (now (a .floor))) (length places)
 room-is e places q = e .path-room .ensures _ (sym (sized (e .before) .1)) ∙ ap (pathRoom _) (sym q)
 
+-- once the sizes hold and the path list is long enough, an answer that is what the rest says is what they and the rest say
 past-room : (e : tie.After-enum-told3) (places : List ℕ) {r w : Verdict} → let a = at-start (at-sizes e) .args in let f = floorOf (a .job) (now (a .floor)) in
     length places ≡ a .path → r ≡ w → r ≡ then (sizes f (length (now (a .table)))) (then (pathRoom f (length places)) w)
-past-room e places q g = past-sizes (at-sizes e) (then-goes _ (room-is (e .before .before) places q) (e .enum-told3 .given .1) g)
-
-past-settings : (e : tie.After-enum-told7) {r w : Verdict} → r ≡ w →
-    let a = at-start (at-sizes (at-room e)) .args in r ≡ then (reportsRoom (a .trials) (a .records)) (then (settings (a .job)) (then (trialsHold (a .trials)) w))
-past-settings e g =
-    let reported = e .before .before .before in
-    then-goes _ (reported .before .before .reports-room .ensures) (reported .enum-told5 .given .1)
-    (then-goes _ (e .before .before .run-settings .ensures) (e .enum-told7 .given .1) g ∙ then-two (settings _) (trialsHold _) _)
-
-returns : tie.Need-returns
-unfolding openRun
-returns c = λ places q. then-stops _ (c .before .before .sizes .ensures) (c .enum-told2 .given .1)
-
-returns-2 : tie.Need-returns-2
-unfolding openRun
-returns-2 c = λ places q. past-sizes (c .before .before .before) (then-stops _ (room-is (c .before .before) places q) (c .enum-told4 .given .1))
-
-returns-3 : tie.Need-returns-3
-unfolding openRun
-returns-3 c = λ places q. past-room (c .before .before .before) places q (then-stops _ (c .before .before .reports-room .ensures) (c .enum-told6 .given .1))
+past-room e places q g =
+    let s = at-sizes e in
+    then-goes _ (s .before .before .sizes .ensures) (s .enum-told .given .1) (then-goes _ (room-is (e .before .before) places q) (e .enum-told3 .given .1) g)
 
 returns-4 : tie.Need-returns-4
 unfolding openRun
-returns-4 c = λ places q.
+returns-4 c places q =
     let reported = c .before .before .before in
     past-room (reported .before .before .before) places q
     (then-goes _ (reported .before .before .reports-room .ensures) (reported .enum-told5 .given .1)
@@ -71,9 +51,20 @@ accepts-requires c κs =
 
 returns-5 : tie.Need-returns-5
 unfolding openRun
-returns-5 c = λ places q. past-room (at-room (c .before)) places q (past-settings (c .before) (c .accepts .ensures))
+returns-5 c places q =
+    let set = c .before in
+    let reported = set .before .before .before in
+    past-room (reported .before .before .before) places q
+    (then-goes _ (reported .before .before .reports-room .ensures) (reported .enum-told5 .given .1)
+    (then-goes _ (set .before .before .run-settings .ensures) (set .enum-told7 .given .1) (c .accepts .ensures) ∙ then-two (settings _) (trialsHold _) _))
 
 pub open-run-spec : {M : Type 1} → f.Statement.statement M
+unfolding openRun
 open-run-spec =
-    tie.close (tie.spec (λ c κs. search needs) (λ c. search needs) (λ c. search needs) returns (λ c κs. search needs) (λ c. search needs) (λ c. search needs) returns-2 (λ c κs. search needs)
-    (λ c. search needs) (λ c. search needs) returns-3 (λ c κs. search needs) (λ c. search needs) (λ c. search needs) returns-4 accepts-requires returns-5)
+    tie.close (tie.spec (search needs) (search needs) (search needs) (λ c places q. then-stops _ (c .before .before .sizes .ensures) (c .enum-told2 .given .1))
+    (search needs) (search needs) (search needs)
+    (λ c places q. let s = c .before .before .before in then-goes _ (s .before .before .sizes .ensures) (s .enum-told .given .1)
+    (then-stops _ (room-is (c .before .before) places q) (c .enum-told4 .given .1)))
+    (search needs) (search needs) (search needs)
+    (λ c places q. past-room (c .before .before .before) places q (then-stops _ (c .before .before .reports-room .ensures) (c .enum-told6 .given .1)))
+    (search needs) (search needs) (search needs) returns-4 accepts-requires returns-5)

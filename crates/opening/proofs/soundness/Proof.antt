@@ -14,4 +14,4 @@ judge-in-requires c κs =
 
 pub soundness-spec : {M : Type 1} → f.Statement.statement M
 soundness-spec =
-    tie.close (tie.spec (λ c κs. search needs) (λ c. fits c) (λ c. sym (length-take-le _ (c .before .no-distances .result) (fits (c .before)))) judge-in-requires (λ c. search needs))
+    tie.close (tie.spec (search needs) (λ c. fits c) (λ c. sym (length-take-le _ (c .before .no-distances .result) (fits (c .before)))) judge-in-requires (λ c. search needs))

@@ -57,7 +57,7 @@ returns c =
 
 pub begin-spec : {M : Type 1} → f.Statement.statement M
 begin-spec =
-    tie.close (tie.spec Inv-loop μ-loop (λ c κs. search needs) (λ c κs. c .before .before .pre .0 .one) (λ c κs. search needs)
+    tie.close (tie.spec Inv-loop μ-loop (search needs) (λ c κs. c .before .before .pre .0 .one) (search needs)
     (λ c. let s = start c in record { fits = omega (arith, on s _ 0 (s .pre .0 .one) (c .before .goal-at .ensures), s .pre .1) })
     (λ c. let s = start c in on s _ 0 (s .pre .0 .one) (c .before .goal-at .ensures)) (λ c. lining-one _ _ (start c .pre .0 .one) (c .before .goal-at .ensures)) (λ c κs. more c)
-    enter-requires (λ c. search needs) (λ c. omega arith) loop-again (λ c. long (c .before)) returns)
+    enter-requires (search needs) (omega arith) loop-again (λ c. long (c .before)) returns)

@@ -17,7 +17,7 @@ on c = omega (arith, c .loop-test .taken, c .before .loop .inv .long)
 
 pub catch-up-spec : {M : Type 1} → f.Statement.statement M
 catch-up-spec =
-    tie.close (tie.spec Inv-loop μ-loop (λ c. changed-none _ _) (λ c. let h = on c in search needs) (λ c. on (c .before)) (λ c κs. search needs)
+    tie.close (tie.spec Inv-loop μ-loop (λ c. changed-none _ _) (λ c. let h = on c in search needs) (λ c. on (c .before)) (search needs)
     (λ c. let h = on (c .before .before) in search needs) (λ c. on (c .before .before)) (λ c. let h = on (c .before .before) in search needs) (λ c. omega (arith, on (c .before .before)))
     (λ c. changed-more _ _ _ _ _ (c .before .before .before .loop .inv) (omega arith) (c .caught .ensures)) (λ c. c .before .loop .inv .long)
     (λ c. changed-all _ _ _ _ (c .before .loop .inv) (omega arith)))

@@ -18,5 +18,5 @@ loop-again c =
 
 pub clear-spec : {M : Type 1} → f.Statement.statement M
 clear-spec =
-    tie.close (tie.spec Inv-loop μ-loop (λ c. (omega arith, refl, λ k h. absurd (omega arith))) (λ c κs. (omega arith, omega arith)) (λ c. search needs) (λ c. search needs)
-    (λ c. search needs) (λ c. omega arith) loop-again (λ c. c .before .loop .inv .1) (λ c. fill-all _ _ _ (c .before .loop .inv .1) (λ k h. c .before .loop .inv .2 k (omega arith))))
+    tie.close (tie.spec Inv-loop μ-loop (λ c. (omega arith, refl, λ k h. absurd (omega arith))) (λ c κs. (omega arith, omega arith)) (search needs) (search needs)
+    (search needs) (omega arith) loop-again (λ c. c .before .loop .inv .1) (λ c. fill-all _ _ _ (c .before .loop .inv .1) (λ k h. c .before .loop .inv .2 k (omega arith))))

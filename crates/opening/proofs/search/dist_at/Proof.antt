@@ -9,4 +9,4 @@ unfolding distAt
 returns c = (refl, omega (arith, c .shared-slice-known .given (c .before .args .x), div-add-mod' (getD (c .before .args .list .now) (c .before .args .x) 0) links))
 
 pub dist-at-spec : {M : Type 1} → f.Statement.statement M
-dist-at-spec = tie.close (tie.spec (λ c. search needs) (λ c. search needs) returns)
+dist-at-spec = tie.close (tie.spec (search needs) (search needs) returns)

@@ -23,4 +23,4 @@ returns c =
     certified-distances _ (p .0) (s .explore .kept .1 .1 .1 .1 .0 ∙ e .clear .kept .0 ∙ p .1) (s .explore .ensures) (c .before .before .unpack .ensures)
 
 pub find-distances-spec : {M : Type 1} → f.Statement.statement M
-find-distances-spec = tie.close (tie.spec (λ c κs. search needs) explore-requires (λ c κs. search needs) (λ c. search needs) returns)
+find-distances-spec = tie.close (tie.spec (search needs) explore-requires (search needs) (search needs) returns)

@@ -21,4 +21,4 @@ returns c =
 pub least-spec : {M : Type 1} → f.Statement.statement M
 least-spec =
     tie.close (tie.spec Inv-loop μ-loop (λ c. let p = c .before .before .pre in (p .some, least-first _ _ (p .some)))
-    (λ c κs. (c .before .before .before .before .pre, (omega arith, c .before .loop .inv .1))) (λ c. omega arith) (λ c. omega arith) (λ c. (omega arith, c .lesser .ensures)) returns)
+    (λ c κs. (c .before .before .before .before .pre, (omega arith, c .before .loop .inv .1))) (omega arith) (omega arith) (λ c. (omega arith, c .lesser .ensures)) returns)

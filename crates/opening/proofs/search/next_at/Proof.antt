@@ -9,4 +9,4 @@ unfolding nextAt
 returns c = c .wide32 .ensures .0
 
 pub next-at-spec : {M : Type 1} → f.Statement.statement M
-next-at-spec = tie.close (tie.spec (λ c. search needs) (λ c. search needs) (λ c κs. search needs) returns)
+next-at-spec = tie.close (tie.spec (search needs) (search needs) (search needs) returns)

@@ -11,5 +11,5 @@ returns-2 c =
 
 pub offer-spec : {M : Type 1} → f.Statement.statement M
 offer-spec =
-    tie.close (tie.spec (λ c. rw (eq-eqb (c .before .before .args .place) end (c .if1 .taken))) (λ c κs. c .before .before .pre .0 (c .if1 .left)) (λ c κs. search needs) (λ c. search needs)
-    (λ c. search needs) returns-2)
+    tie.close (tie.spec (λ c. rw (eq-eqb (c .before .before .args .place) end (c .if1 .taken))) (λ c κs. c .before .before .pre .0 (c .if1 .left)) (search needs) (search needs)
+    (search needs) returns-2)

@@ -24,4 +24,4 @@ returns-2 c =
     subst₂ (λ u w. Entered u w (a .v) (a .list .now) (a .last) (r .last .1 .1 .1 .0) (r .result)) (s .before .step-from .ensures) (s .cost-at .ensures .0) (r .ensures)
 
 pub pass-spec : {M : Type 1} → f.Statement.statement M
-pass-spec = tie.close (tie.spec (λ c κs. search needs) returns (λ c κs. search needs) (λ c κs. search needs) reach-requires (λ c. search needs) returns-2)
+pass-spec = tie.close (tie.spec (search needs) returns (λ c κs. search needs) (search needs) reach-requires (search needs) returns-2)

@@ -1,11 +1,9 @@
 -- `opening::search::spread_slow` meets its contract. The invariant is `Held`, of whatever goals it began with; the places pass each cell once, which bounds the steps.
-use Rattle.learning.proofs.Words.{List, ℕ, needs, sym, _∙_, arith}
+use Rattle.learning.proofs.Words.{List, ℕ, needs, arith}
 use Rattle.model.specs.Floor.{goalsOf}
 use Rattle.floor.specs.Moves.{flat}
-use Rattle.floor.proofs.Steps.{kind-fits}
-use Rattle.opening.proofs.Held.{held-same, held-readable, held-offered, held-one, held-none, held-next, step-follow, step-move, held-step, held-done}
-use Rattle.opening.specs.Search.{Next}
-use Rattle.opening.specs.Chain.{distAt, Held}
+use Rattle.opening.proofs.Held.{held-same, held-offered, held-offer, held-none, step-follow, step-move, held-step, held-done}
+use Rattle.opening.specs.Chain.{Held}
 use Rattle.opening.proofs.search.spread_slow as f
 use f.Tie as tie
 
@@ -26,40 +24,31 @@ looping c = c .before .before .before .before
 abbrev asked : tie.After-offer Inv-loop μ-loop → tie.After-least Inv-loop μ-loop
 asked c = c .before .before .before .before
 
--- what a turn holds of some goals; and of those of the job
-abbrev HeldOf : tie.At-loop Inv-loop μ-loop → List ℕ → Type 0
-HeldOf c gs = let a = at-start c .args in Held (flat (a .width) (a .height) (a .floor .now)) gs (c .loop .list) (c .loop .last) (c .loop .places) (c .loop .left)
-
-held : (c : tie.At-loop Inv-loop μ-loop) → HeldOf c (goalsOf (at-start c .args .goals))
+-- what a turn holds, of the goals of the job
+held : (c : tie.At-loop Inv-loop μ-loop) → let a = at-start c .args in let l = c .loop in
+    Held (flat (a .width) (a .height) (a .floor .now)) (goalsOf (a .goals)) (l .list) (l .last) (l .places) (l .left)
 held c = c .loop .inv _ (held-same (at-start c .pre .0) (c .before .last-goal .ensures))
-
--- the step to take
-chosen : (c : tie.After-offer Inv-loop μ-loop) {gs : List ℕ} (H : HeldOf (looping (asked c)) gs) → let s = asked c in let l = looping s in let a = at-start l .args in
-    Next (flat (a .width) (a .height) (a .floor .now)) (distAt (l .loop .list)) (H .q) (H .n) (H .p) (s .least .result) (c .offer .result)
-chosen c H = let s = asked c in held-next H (s .least .ensures) (c .offer .ensures) (c .before .before .if1 .left)
 
 move-on-requires : tie.Need-move-on-requires Inv-loop μ-loop
 move-on-requires c κs =
     let e = c .before .before .before .before in
     let o = e .before .before in
-    let H = held (looping (asked o)) in
-    step-move H (chosen o H) (e .follow-slow .ensures)
+    let s = asked o in
+    step-move (held (looping s)) (s .least .ensures) (o .offer .ensures) (o .before .before .if1 .left) (e .follow-slow .ensures)
 
 loop-again : tie.Need-loop-again Inv-loop μ-loop
 loop-again c gs begun =
     let m = c .before .before in
-    let g = m .before .before .before .before .before in
-    let o = g .before .before in
-    let H = looping (asked o) .loop .inv gs begun in
-    held-step H (chosen o H) (g .follow-slow .ensures) (m .move-on .ensures)
+    let e = m .before .before .before .before .before in
+    let o = e .before .before in
+    let s = asked o in
+    held-step (looping s .loop .inv gs begun) (s .least .ensures) (o .offer .ensures) (o .before .before .if1 .left) (e .follow-slow .ensures) (m .move-on .ensures)
 
 pub spread-slow-spec : {M : Type 1} → f.Statement.statement M
 spread-slow-spec =
-    tie.close (tie.spec Inv-loop μ-loop (λ c κs. c .before .before .before .pre .1) (λ c gs begun. begun) (λ c κs. held-offered (held (c .before .before .before)))
-    (λ c. let H = held (looping c) in record { fits = omega (arith, c .least .ensures .one, held-offered H .few) }) (λ c. c .before .least .ensures .one)
-    (λ c. let l = looping (c .before .before) in held l .whole ∙ sym (at-start l .pre .0 .whole)) (λ c. let l = looping (c .before .before) in held l .long ∙ sym (at-start l .pre .0 .long))
-    (λ c. let s = c .before .before in held-none (held (looping s)) (s .least .ensures) (c .if1 .taken))
-    (λ c κs. let s = c .before .before .before in let H = held (looping s) in let h = held-one H (s .least .ensures) in (held-readable H _ h, kind-fits _ _ h))
-    (λ c κs. let o = c .before in let H = held (looping (asked o)) in step-follow H (chosen o H)) move-on-requires (λ c. search needs) (λ c. omega arith) loop-again
-    (λ c. held (c .before) .whole ∙ sym (at-start (c .before) .pre .0 .whole)) (λ c. held (c .before) .long ∙ sym (at-start (c .before) .pre .0 .long))
-    (λ c. held-done (held (c .before)) (c .loop-test .left)))
+    tie.close (tie.spec Inv-loop μ-loop (λ c κs. search needs) (λ c gs begun. begun) (λ c κs. held-offered (held (c .before .before .before)))
+    (λ c. omega (arith, held-offered (held (looping c)))) (λ c. search needs)
+    (λ c. omega (arith, held (looping (c .before .before)))) (λ c. omega (arith, held (looping (c .before .before))))
+    (λ c. let s = c .before .before in held-none (held (looping s)) (s .least .ensures) (c .if1 .taken)) (λ c κs. let s = c .before .before .before in held-offer (held (looping s)) (s .least .ensures))
+    (λ c κs. let o = c .before in let s = asked o in step-follow (held (looping s)) (s .least .ensures) (o .offer .ensures) (o .before .before .if1 .left)) move-on-requires (search needs) (omega arith)
+    loop-again (λ c. omega (arith, held (c .before))) (λ c. omega (arith, held (c .before))) (λ c. held-done (held (c .before)) (c .loop-test .left)))

@@ -25,6 +25,6 @@ returns c = changed-all _ _ _ _ (c .before .loop .inv) (omega arith)
 
 pub unpack-spec : {M : Type 1} → f.Statement.statement M
 unpack-spec =
-    tie.close (tie.spec Inv-loop μ-loop (λ c. changed-none _ _) (λ c κs. on (c .before)) (λ c κs. search needs) (λ c. let h = on (c .before .before .before) in search needs)
+    tie.close (tie.spec Inv-loop μ-loop (λ c. changed-none _ _) (λ c κs. on (c .before)) (search needs) (λ c. let h = on (c .before .before .before) in search needs)
     (λ c. on (c .before .before .before)) (λ c. let h = on (c .before .before .before) in search needs) (λ c. omega (arith, on (c .before .before .before))) loop-again
     (λ c. c .before .loop .inv .long) returns)
