@@ -1,5 +1,5 @@
 -- `opening::fill_figures` meets its contract. The invariant: the places passed hold their opening figures, whatever the floor's bytes.
-use Rattle.learning.proofs.Words.{ℕ, _-_, _≤_, needs, length, length-set, List, [], _≡_, refl, _∙_, arith}
+use Rattle.learning.proofs.Words.{ℕ, _-_, _≤_, needs, length, length-set, List, [], _≡_, _∙_, arith}
 use Rattle.floor.specs.Moves.{flat}
 use Rattle.model.proofs.OpeningSound.{opening-high}
 use Rattle.model.specs.Floor.{opening, openingTable, goalsOf}
@@ -24,7 +24,7 @@ cast-table c =
     let a = start l .args in
     let p = start l .pre in
     let high = opening-high (flat (a .width) (a .height) []) (p .0) (p .1) (p .2) (a .q) (goalsOf (a .goals)) (l .loop .x) (p .3) (p .4 .on) (omega arith) in
-    record { fits = omega (arith, c .opening .ensures [], high) }
+    omega (arith, c .opening .ensures [], high)
 
 loop-again : tie.Need-loop-again Inv-loop μ-loop
 loop-again c =
@@ -40,6 +40,6 @@ returns c bytes = let l = c .before in fill-all _ _ _ (l .loop .inv .1 ∙ start
 
 pub fill-figures-spec : {M : Type 1} → f.Statement.statement M
 fill-figures-spec =
-    tie.close (tie.spec Inv-loop μ-loop (λ c. (omega arith, refl, λ bytes k h. absurd (omega arith)))
+    tie.close (tie.spec Inv-loop μ-loop (search needs)
     (λ c κs. let p = start (c .before) .pre in (p .0, (p .1, (p .2, (p .3, (omega arith, p .4)))))) cast-table (search needs) (search needs) (search needs) (omega arith)
-    loop-again (λ c. c .before .loop .inv .1) returns)
+    loop-again (search needs) returns)

@@ -8,7 +8,7 @@ use f.Tie as tie
 fill-figures-requires : tie.Need-fill-figures-requires
 fill-figures-requires c κs =
     let o = openable _ _ _ _ (sym (c .before .before .before .open-table .ensures) ∙ c .before .enum-told .given .1) in
-    (o .sized .wide, o .sized .narrow, o .sized .low, omega (arith, o .scale), o .benches, o .cells)
+    (o .sized .wide, o .sized .narrow, o .sized .low, omega arith, o .benches, o .cells)
 
 returns-2 : tie.Need-returns-2
 returns-2 c =
@@ -18,5 +18,5 @@ returns-2 c =
 
 pub fill-opening-spec : {M : Type 1} → f.Statement.statement M
 fill-opening-spec =
-    tie.close (tie.spec (search needs) (search needs) (search needs) (λ c. fills-refused _ _ _ _ (c .before .before .open-table .ensures) (c .enum-told2 .given .1))
+    tie.close (tie.spec (search needs) (search needs) (search needs) (λ c. search (needs, fills-refused))
     fill-figures-requires (search needs) returns-2)

@@ -6,5 +6,5 @@ use f.Tie as tie
 
 pub judge-distances-spec : {M : Type 1} → f.Statement.statement M
 judge-distances-spec =
-    tie.close (tie.spec (search needs) (search needs) (search needs) (λ c. c .refuse .ensures ∙ sym (judged-far _ _ _ _ (c .before .if1 .taken))) (search needs)
-    (λ c. c .unsound .ensures ∙ sym (judged-near _ _ _ _ (c .before .if1 .left))))
+    tie.close (tie.spec (search needs) (search needs) (search needs) (λ c. search (needs, judged-far)) (search needs)
+    (λ c. search (needs, judged-near)))

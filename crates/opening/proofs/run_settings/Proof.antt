@@ -6,5 +6,5 @@ use f.Tie as tie
 
 pub run-settings-spec : {M : Type 1} → f.Statement.statement M
 run-settings-spec =
-    tie.close (tie.spec (search needs) (search needs) (search needs) (λ c. then-stops _ (c .before .before .settings .ensures) (c .enum-told2 .given .1))
-    (search needs) (λ c. then-goes _ (c .before .before .before .settings .ensures) (c .before .enum-told .given .1) (c .trials-hold .ensures)))
+    tie.close (tie.spec (search needs) (search needs) (search needs) (λ c. search (needs, then-stops))
+    (search needs) (λ c. search (needs, then-goes)))

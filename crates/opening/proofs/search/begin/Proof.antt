@@ -1,7 +1,7 @@
 -- `opening::search::begin` meets its contract. The invariant is `Lining`: the first i goals have been entered.
 use Rattle.learning.proofs.Words.{ℕ, _-_, _<_, _≡_, ap, ap₂, _∙_, arith, length, getD, set, needs}
 use Rattle.model.specs.Floor.{goalsOf}
-use Rattle.opening.proofs.Chain.{lined-long, Lining, lining-one, lining-more}
+use Rattle.opening.proofs.Chain.{lined-long, Lining, lining-more}
 use Rattle.opening.specs.Chain.{lined}
 use Rattle.opening.proofs.search.begin as f
 use f.Tie as tie
@@ -33,7 +33,7 @@ long c = ap length (listed c) ∙ lined-long _ _ _
 
 -- the goal that is next
 more : (c : tie.In-loop Inv-loop μ-loop) → c .before .loop .i < length (goalsOf (begun (c .before) .args .goals))
-more c = omega (arith, c .loop-test .taken, c .before .before .before .before .goals-in .ensures)
+more c = omega arith
 
 enter-requires : tie.Need-enter-requires Inv-loop μ-loop
 enter-requires c κs =
@@ -41,7 +41,7 @@ enter-requires c κs =
     let s = begun l in
     let L = l .loop .inv in
     let g = on s _ _ (more (c .before .before)) (c .before .goal-at2 .ensures) in
-    (omega (arith, on s _ _ (omega (arith, L .some, L .upto)) (L .final), long l), omega (arith, g, long l), omega (arith, g, s .pre .1), omega arith)
+    (omega (arith, on s _ _ (omega (arith, L .some, L .upto)) (L .final), long l), omega (arith, g, long l), omega arith, omega arith)
 
 loop-again : tie.Need-loop-again Inv-loop μ-loop
 loop-again c =
@@ -52,12 +52,12 @@ loop-again c =
 returns : tie.Need-returns Inv-loop μ-loop
 returns c =
     let l = c .before in
-    let all : l .loop .i ≡ length (goalsOf (begun l .args .goals)) = omega (arith, l .loop .inv .upto, c .loop-test .left, l .before .before .before .goals-in .ensures) in
+    let all : l .loop .i ≡ length (goalsOf (begun l .args .goals)) = omega arith in
     listed l ∙ ap (lined _ _) all
 
 pub begin-spec : {M : Type 1} → f.Statement.statement M
 begin-spec =
-    tie.close (tie.spec Inv-loop μ-loop (search needs) (λ c κs. c .before .before .pre .0 .one) (search needs)
-    (λ c. let s = start c in record { fits = omega (arith, on s _ 0 (s .pre .0 .one) (c .before .goal-at .ensures), s .pre .1) })
-    (λ c. let s = start c in on s _ 0 (s .pre .0 .one) (c .before .goal-at .ensures)) (λ c. lining-one _ _ (start c .pre .0 .one) (c .before .goal-at .ensures)) (λ c κs. more c)
+    tie.close (tie.spec Inv-loop μ-loop (search needs) (search needs) (search needs)
+    (λ c. let s = start c in omega (arith, on s _ 0 (s .pre .0 .one) (c .before .goal-at .ensures), s .pre .1))
+    (λ c. let s = start c in on s _ 0 (s .pre .0 .one) (c .before .goal-at .ensures)) (λ c. search needs) (search needs)
     enter-requires (search needs) (omega arith) loop-again (λ c. long (c .before)) returns)

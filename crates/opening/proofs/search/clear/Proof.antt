@@ -1,5 +1,5 @@
 -- `opening::search::clear` meets its contract. The invariant: the places passed hold a blank entry.
-use Rattle.learning.proofs.Words.{_-_, _≤_, needs, length, length-set, _≡_, refl, _∙_, arith}
+use Rattle.learning.proofs.Words.{_-_, _≤_, needs, length, length-set, _≡_, _∙_, arith}
 use Rattle.opening.proofs.Fill.{Filled, fill-more, fill-all}
 use Rattle.opening.specs.Chain.{blank}
 use Rattle.opening.proofs.search.clear as f
@@ -12,11 +12,9 @@ abbrev μ-loop : tie.MeasureT-loop
 μ-loop list₀ i₀ list i = length list₀ - i
 
 loop-again : tie.Need-loop-again Inv-loop μ-loop
-loop-again c =
-    let l = c .before .before .loop in
-    (omega arith, length-set (l .list) (l .i) _ ∙ l .inv .1, fill-more _ (l .i) _ (l .list) (omega arith) (c .entry .ensures) (l .inv .2))
+loop-again c = search (needs, fill-more)
 
 pub clear-spec : {M : Type 1} → f.Statement.statement M
 clear-spec =
-    tie.close (tie.spec Inv-loop μ-loop (λ c. (omega arith, refl, λ k h. absurd (omega arith))) (λ c κs. (omega arith, omega arith)) (search needs) (search needs)
-    (search needs) (omega arith) loop-again (λ c. c .before .loop .inv .1) (λ c. fill-all _ _ _ (c .before .loop .inv .1) (λ k h. c .before .loop .inv .2 k (omega arith))))
+    tie.close (tie.spec Inv-loop μ-loop (search needs) (search needs) (search needs) (search needs)
+    (search needs) (omega arith) loop-again (search needs) (λ c. fill-all _ _ _ (c .before .loop .inv .1) (λ k h. c .before .loop .inv .2 k (omega arith))))

@@ -35,7 +35,7 @@ begun c n h =
 spread-requires : tie.Need-spread-requires
 spread-requires c κs =
     let n = c .before .before .before in
-    (begun n 2 (sym (n .kinds-on .ensures ∙ kinds-fewer _ (omega (arith, n .kinds-on .ensures, c .before .before .if1 .taken)))), refl, at-start (lined-up n) .pre .1 .one)
+    (begun n 2 (sym (n .kinds-on .ensures ∙ kinds-fewer _ (omega arith))), refl, at-start (lined-up n) .pre .1 .one)
 
 spread-slow-requires : tie.Need-spread-slow-requires
 spread-slow-requires c κs =
@@ -46,5 +46,5 @@ spread-slow-requires c κs =
 pub explore-spec : {M : Type 1} → f.Statement.statement M
 explore-spec =
     tie.close (tie.spec begin-requires (search needs) (search needs) (search needs) (search needs) (search needs) spread-requires (search needs)
-    (λ c. search needs) (λ c. let h = sized-cells (at-start (lined-up (c .before)) .pre .0) in record { fits = omega arith }) (search needs) spread-slow-requires (search needs)
+    (λ c. search needs) (λ c. let h = sized-cells (at-start (lined-up (c .before)) .pre .0) in omega arith) (search needs) spread-slow-requires (search needs)
     (λ c. search needs))

@@ -13,7 +13,7 @@ explore-requires : tie.Need-explore-requires
 explore-requires c κs =
     let e = c .before .before .before in
     let p = at-start e .pre in
-    (p .0, p .2, e .clear .ensures ∙ ap (λ n. listOf n (λ x. blank)) (p .1))
+    (p .0, p .2, rw (← (p .1)) (e .clear .ensures))
 
 returns : tie.Need-returns
 returns c =

@@ -33,5 +33,5 @@ follow-slow-spec =
     (λ c. let p = c .before .before .before .before .pre in follows-blocked (p .0 .0) (sym (c .before .is-free .ensures) ∙ not-true _ (c .if1 .taken)) (p .1 .0) (p .1 .1))
     (λ c κs. (c .before .before .before .before .pre .0 .0, sym (c .before .is-free .ensures) ∙ not-false _ (c .if1 .left)))
     (λ c. let p = at-start c .pre in (omega arith, follows-none (p .0 .0) (p .1 .0) (p .1 .1))) pass-requires (omega arith) (omega arith) loop-again
-    (λ c. c .before .loop .inv .1 .long ∙ sym (at-start (c .before .before) .pre .1 .0))
-    (λ c. let l = c .before .loop in follows-all (at-start (c .before .before) .pre .0 .0) (l .inv .0) (omega (arith, c .loop-test .left)) (l .inv .1)))
+    (search needs)
+    (λ c. let l = c .before .loop in follows-all (at-start (c .before .before) .pre .0 .0) (l .inv .0) (omega arith) (l .inv .1)))

@@ -1,5 +1,5 @@
 -- `opening::search::least` meets its contract. The invariant: the least offer of the first k costs.
-use Rattle.learning.proofs.Words.{_-_, _≤_, length, _≡_, subst, arith}
+use Rattle.learning.proofs.Words.{_-_, _≤_, length, needs, _≡_, subst, arith}
 use Rattle.opening.proofs.Offers.{least-first}
 use Rattle.opening.specs.Chain.{Least}
 use Rattle.opening.proofs.search.least as f
@@ -20,5 +20,5 @@ returns c =
 
 pub least-spec : {M : Type 1} → f.Statement.statement M
 least-spec =
-    tie.close (tie.spec Inv-loop μ-loop (λ c. let p = c .before .before .pre in (p .some, least-first _ _ (p .some)))
-    (λ c κs. (c .before .before .before .before .pre, (omega arith, c .before .loop .inv .1))) (omega arith) (omega arith) (λ c. (omega arith, c .lesser .ensures)) returns)
+    tie.close (tie.spec Inv-loop μ-loop (λ c. search (needs, least-first))
+    (λ c κs. search needs) (omega arith) (omega arith) (λ c. search needs) returns)

@@ -11,5 +11,5 @@ pub lesser-spec : {M : Type 1} → f.Statement.statement M
 lesser-spec =
     tie.close (tie.spec (search needs) (search needs) (λ c κs. let p = c .before .before .before .pre in let h = p .1 .1 .one in (p .0 .readable _ h, le-trans h (p .0 .few)))
     (search needs) (search needs) (λ c κs. let p = at-start (c .before) .pre in let h = p .1 .0 in (p .0 .readable _ h, le-trans h (p .0 .few)))
-    (λ c. let s = c .before .before .before in let p = at-start s .pre .1 in least-take _ _ (s .offer .ensures) (c .before .offer2 .ensures) (p .1) (p .0) (omega (arith, c .if1 .taken)))
-    (λ c. let s = c .before .before .before in least-keep _ _ (s .offer .ensures) (c .before .offer2 .ensures) (at-start s .pre .1 .1) (omega (arith, c .if1 .left))))
+    (λ c. let s = c .before .before .before in let p = at-start s .pre .1 in search (needs, least-take))
+    (λ c. let s = c .before .before .before in least-keep _ _ (s .offer .ensures) (c .before .offer2 .ensures) (at-start s .pre .1 .1) (omega arith)))

@@ -7,7 +7,7 @@ use f.Tie as tie
 returns-2 : tie.Need-returns-2
 returns-2 c =
     let s = c .before .before in
-    rw (ne-eqb (s .before .before .args .place) end (s .if1 .left)) (omega (arith, c .before .dist-at .ensures .0, c .cost-at .ensures .0))
+    rw (ne-eqb (s .before .before .args .place) end (s .if1 .left)) (omega arith)
 
 pub offer-spec : {M : Type 1} → f.Statement.statement M
 offer-spec =

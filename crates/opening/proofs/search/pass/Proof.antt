@@ -11,17 +11,14 @@ returns c =
     passed-over (p .0 .0) _ _ _ (p .0 .2) (p .0 .3) (sym (c .before .can-cost .ensures) ∙ not-true _ (c .if1 .taken))
 
 reach-requires : tie.Need-reach-requires
-reach-requires c κs =
-    let s = c .before .before in
-    let p = s .before .before .before .before .before .pre in
-    enterable (p .0 .0) _ _ _ (s .step-from .ensures) (p .1 .0) (p .1 .1) (p .1 .2)
+reach-requires c κs = search (needs, enterable)
 
 returns-2 : tie.Need-returns-2
 returns-2 c =
     let r = c .before .before .reach in
     let s = c .before .before .before .before in
     let a = s .before .before .before .before .before .before .args in
-    subst₂ (λ u w. Entered u w (a .v) (a .list .now) (a .last) (r .last .1 .1 .1 .0) (r .result)) (s .before .step-from .ensures) (s .cost-at .ensures .0) (r .ensures)
+    rw (s .before .step-from .ensures, s .cost-at .ensures .0) at (r .ensures)
 
 pub pass-spec : {M : Type 1} → f.Statement.statement M
 pass-spec = tie.close (tie.spec (search needs) returns (λ c κs. search needs) (search needs) reach-requires (search needs) returns-2)

@@ -32,7 +32,7 @@ returns-4 c =
     let cell = t .step .given .0 .0 in
     let same : t .step .given .0 .1 .0 ≡ a .cost = omega arith in
     subst (λ l. Entered (a .step) (a .cost) (a .v) (a .list .now) (a .last) l cell) (sym (c .before .before .enter .ensures))
-    (enters cell (t .step .given .1 ∙ ap (To cell) same) (omega (arith, d .dist-at .ensures .0)))
+    (enters cell (t .step .given .1 ∙ ap (To cell) same) (omega arith))
 
 pub reach-spec : {M : Type 1} → f.Statement.statement M
 reach-spec =
