@@ -2,12 +2,12 @@
 -- and the goals entered one after another. Assumes nothing.
 use Prim.Native.Nat.{ℕ, zero, suc, _+_, _-_, _/_, _%_, _≤_, _<_}
 use mathlib.Core.Path.{_≡_, refl, sym, ap, ap₂, _∙_, subst}
-use mathlib.Core.Bool.{false}
+use mathlib.Core.Bool.{Bool, true, false, not}
 use mathlib.Core.List.{List}
 use native.Mathlib.Decide.{ℕ-discrete}
 use native.Mathlib.Numerals.{unary-clauses}
 use native.Mathlib.Omega.{arith}
-use borrow.Author.Tests.{lt-ltb, le-ltb}
+use borrow.Author.Tests.{lt-ltb, le-ltb, not-true, not-false}
 use lib.ListN.{length, getD, set, length-set}
 use lib.Seq.{getD-set-same, getD-set-other}
 use Rattle.learning.specs.Ground.{pick}
@@ -21,6 +21,14 @@ use Rattle.floor.proofs.Steps.{stepped, step-can}
 use Rattle.opening.specs.Search.{none, Queue}
 use Rattle.opening.specs.Chain.{links, end, entry, distAt, nextAt, cellAt, Chain, entered, lined, Entered, stays, enters, Enterable, Follows}
 use Rattle.opening.proofs.Queue.{Put, put-at, queue-near, followed-none, followed-stays, followed-enters, followed-blocked}
+
+-- ---- a negated test that the code made, of what the model says
+
+pub not-so : {r b : Bool} → r ≡ b → not r ≡ true → b ≡ false
+not-so e t = sym e ∙ not-true _ t
+
+pub is-so : {r b : Bool} → r ≡ b → not r ≡ false → b ≡ true
+is-so e t = sym e ∙ not-false _ t
 
 -- ---- entries
 

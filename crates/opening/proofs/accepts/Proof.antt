@@ -39,9 +39,8 @@ soundness-requires c κs =
 pub accepts-spec : {M : Type 1} → f.Statement.statement M
 unfolding accepts
 accepts-spec =
-    tie.close (tie.spec (search needs) (search needs) (search needs) (λ c. then-stops _ (c .before .before .places .ensures) (c .enum-told2 .given .1)) (search needs) (search needs) (search needs)
-    (λ c. let placed = c .before .before .before in then-goes _ (placed .before .before .places .ensures) (placed .enum-told .given .1)
-    (then-stops _ (c .before .before .goals-hold .ensures) (c .enum-told4 .given .1)))
+    tie.close (tie.spec (search needs) (search needs) (search needs) (λ c. search (needs, then-stops)) (search needs) (search needs) (search needs)
+    (λ c. search (needs, then-stops, then-goes))
     (search needs) (search needs) (search needs)
-    (λ c. past-goals (c .before .before .before) (then-stops _ (figures-are (c .before .before)) (c .enum-told6 .given .1))) soundness-requires
-    (λ c. past-goals (c .before .before .before .before) (then-goes _ (figures-are (c .before .before .before)) (c .before .enum-told5 .given .1) (c .soundness .ensures))))
+    (λ c. search (needs, then-stops, then-goes, figures-are (c .before .before))) soundness-requires
+    (λ c. search (needs, then-goes, figures-are (c .before .before .before))))

@@ -61,10 +61,9 @@ returns-5 c places q =
 pub open-run-spec : {M : Type 1} → f.Statement.statement M
 unfolding openRun
 open-run-spec =
-    tie.close (tie.spec (search needs) (search needs) (search needs) (λ c places q. then-stops _ (c .before .before .sizes .ensures) (c .enum-told2 .given .1))
+    tie.close (tie.spec (search needs) (search needs) (search needs) (λ c places q. search (needs, then-stops))
     (search needs) (search needs) (search needs)
-    (λ c places q. let s = c .before .before .before in then-goes _ (s .before .before .sizes .ensures) (s .enum-told .given .1)
-    (then-stops _ (room-is (c .before .before) places q) (c .enum-told4 .given .1)))
+    (λ c places q. search (needs, then-goes, then-stops, room-is (c .before .before) places q))
     (search needs) (search needs) (search needs)
-    (λ c places q. past-room (c .before .before .before) places q (then-stops _ (c .before .before .reports-room .ensures) (c .enum-told6 .given .1)))
+    (λ c places q. search (needs, then-goes, then-stops, room-is (c .before .before .before .before .before) places q))
     (search needs) (search needs) (search needs) returns-4 accepts-requires returns-5)

@@ -1,7 +1,7 @@
 -- `opening::search::follow` meets its contract. The invariant: the first m moves have been followed. No move leads from a blocked cell.
 use Rattle.learning.proofs.Words.{_-_, _≤_, not-true, not-false, needs, sym, _∙_, arith}
 use Rattle.floor.specs.Moves.{flat, cost}
-use Rattle.opening.proofs.Chain.{follows-none, follows-blocked, follows-more, follows-all}
+use Rattle.opening.proofs.Chain.{not-so, is-so, follows-none, follows-blocked, follows-more, follows-all}
 use Rattle.opening.specs.Chain.{Follows}
 use Rattle.opening.proofs.search.follow as f
 use f.Tie as tie
@@ -24,8 +24,8 @@ loop-again c = search (needs, follows-more)
 pub follow-spec : {M : Type 1} → f.Statement.statement M
 follow-spec =
     tie.close (tie.spec Inv-loop μ-loop (search needs)
-    (λ c. let p = c .before .before .before .before .pre in follows-blocked (p .0 .0) (sym (c .before .is-free .ensures) ∙ not-true _ (c .if1 .taken)) (p .1 .0) (p .1 .1))
-    (λ c κs. (c .before .before .before .before .pre .0 .0, sym (c .before .is-free .ensures) ∙ not-false _ (c .if1 .left)))
+    (λ c. search (needs, follows-blocked, not-so))
+    (λ c κs. search (needs, is-so))
     (λ c. search (needs, follows-none)) pass-requires (omega arith) (omega arith) loop-again
     (search needs)
     (λ c. search (needs, follows-all)))

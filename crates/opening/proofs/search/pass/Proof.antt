@@ -1,14 +1,12 @@
 -- `opening::search::pass` meets its contract, by whether the move can have the cost.
 use Rattle.learning.proofs.Words.{needs, not-true, sym, _∙_, subst₂}
-use Rattle.opening.proofs.Chain.{enterable, passed-over}
+use Rattle.opening.proofs.Chain.{not-so, enterable, passed-over}
 use Rattle.opening.specs.Chain.{Entered}
 use Rattle.opening.proofs.search.pass as f
 use f.Tie as tie
 
 returns : tie.Need-returns
-returns c =
-    let p = c .before .before .before .before .pre in
-    passed-over (p .0 .0) _ _ _ (p .0 .2) (p .0 .3) (sym (c .before .can-cost .ensures) ∙ not-true _ (c .if1 .taken))
+returns c = search (needs, passed-over, not-so)
 
 reach-requires : tie.Need-reach-requires
 reach-requires c κs = search (needs, enterable)
@@ -17,7 +15,6 @@ returns-2 : tie.Need-returns-2
 returns-2 c =
     let r = c .before .before .reach in
     let s = c .before .before .before .before in
-    let a = s .before .before .before .before .before .before .args in
     rw (s .before .step-from .ensures, s .cost-at .ensures .0) at (r .ensures)
 
 pub pass-spec : {M : Type 1} → f.Statement.statement M
