@@ -15,7 +15,7 @@ use Rattle.model.specs.Basics.{then}
 use Rattle.model.specs.Floor.{Floor, goalsOf, openingTable}
 use Rattle.model.specs.Checks.{floorOf, sizes, pathRoom, settings}
 use Rattle.model.specs.Opening.{accepts, openJob, openTrial, reportsRoom, trialsHold, openRun, openTable, filled}
-use Rattle.model.proofs.Accepted.{then-next, sizes-judges, path-judges}
+use Rattle.model.proofs.Accepted.{then-next, then-stops, then-goes, sizes-judges, path-judges}
 use Rattle.opening.specs.Promise.{Answers, Fills}
 
 pub answered : {r v : Verdict} → r ≡ v → Answers r v
@@ -28,10 +28,17 @@ module _ (f : Floor) (q : ℕ) (g : Goals) (table : List ℕ) where
   pub fills-done : {after : List ℕ} → Done ≡ openTable f q g (length table) → after ≡ openingTable f q (goalsOf g) → Fills f q g table Done after
   fills-done e t = record { answer = answered e; left = t ∙ ap (λ v. filled v f q g table) e }
 
--- a check of two is the one, then the other
-pub then-two : (v u w : Verdict) → then (then v u) w ≡ then v (then u w)
+-- a check of two is the one, then the other: what it answers before a third, where it refuses and where it is done
+then-two : (v u w : Verdict) → then (then v u) w ≡ then v (then u w)
 then-two Done u w = refl
 then-two (Refused r) u w = refl
+
+module _ (v u w : Verdict) {a : Verdict} (e : a ≡ then v u) where
+  pub both-stop : {r : Refusal} → a ≡ Refused r → a ≡ then v (then u w)
+  both-stop q = then-stops w e q ∙ then-two v u w
+
+  pub both-go : {b : Verdict} → a ≡ Done → b ≡ w → b ≡ then v (then u w)
+  both-go q g = then-goes w e q g ∙ then-two v u w
 
 module _ (j : Job) (bytes : List ℕ) (start : ℕ) (table : List ℕ) where
   -- one trial and room for one report are never refused

@@ -3,10 +3,8 @@ use Rattle.learning.proofs.Words.{needs, now, _≡_, sym, _∙_}
 use Rattle.model.proofs.Accepted.{then-stops, then-goes}
 use Rattle.model.proofs.Benches.{places-judges, goals-judges, benched}
 use Rattle.model.proofs.Moves.{free-below}
-use Rattle.model.specs.Basics.{then}
-use Rattle.model.specs.Checks.{floorOf, goals, places, goalsHold, figures}
+use Rattle.model.specs.Checks.{floorOf, places, figures}
 use Rattle.model.specs.Opening.{accepts}
-use Rattle.answers.specs.declared.Verdict.{Verdict}
 use Rattle.opening.proofs.accepts as f
 use f.Tie as tie
 
@@ -17,13 +15,6 @@ at-start e = e .before .before .before .before .before
 abbrev at-places : tie.After-enum-told3 → tie.After-enum-told
 at-places e = e .before .before .before
 
--- once 4 and 27 are passed, an answer that is what the rest says is what they and the rest say
-past-goals : (e : tie.After-enum-told3) {r w : Verdict} → r ≡ w → let a = at-start (at-places e) .args in
-    r ≡ then (places (floorOf (a .job) (now (a .floor))) (a .start) (goals (a .job))) (then (goalsHold (a .job .goals)) w)
-past-goals e h =
-    let placed = at-places e in
-    then-goes _ (placed .before .before .places .ensures) (placed .enum-told .given .1) (then-goes _ (e .before .before .goals-hold .ensures) (e .enum-told3 .given .1) h)
-
 figures-are : (e : tie.After-figures) → let a = at-start (at-places (e .before)) .args in e .figures .result ≡ figures (floorOf (a .job) (now (a .floor))) (now (a .table))
 figures-are e = e .figures .ensures _ (sym (at-start (at-places (e .before)) .pre .1))
 
@@ -31,16 +22,13 @@ soundness-requires : tie.Need-soundness-requires
 soundness-requires c κs =
     let ordered = c .before .before .before in
     let placed = at-places ordered in
-    let p = at-start placed .pre in
     let h = places-judges _ _ _ .gives (sym (placed .before .before .places .ensures) ∙ placed .enum-told .given .1) in
     let o = goals-judges _ .gives (sym (ordered .before .before .goals-hold .ensures) ∙ ordered .enum-told3 .given .1) in
-    record { sized = p .0; long = p .1; fine = p .2; begin = free-below _ _ (h .0); benches = benched _ _ (h .1) o }
+    search (needs, free-below _ _ (h .0), benched _ _ (h .1) o)
 
 pub accepts-spec : {M : Type 1} → f.Statement.statement M
 unfolding accepts
 accepts-spec =
-    tie.close (tie.spec (search needs) (search needs) (search needs) (λ c. search (needs, then-stops)) (search needs) (search needs) (search needs)
-    (λ c. search (needs, then-stops, then-goes))
-    (search needs) (search needs) (search needs)
-    (λ c. search (needs, then-stops, then-goes, figures-are (c .before .before))) soundness-requires
+    tie.close (tie.spec (search needs) (search needs) (search needs) (λ c. search (needs, then-stops)) (search needs) (search needs) (search needs) (λ c. search (needs, then-stops, then-goes))
+    (search needs) (search needs) (search needs) (λ c. search (needs, then-stops, then-goes, figures-are (c .before .before))) soundness-requires
     (λ c. search (needs, then-goes, figures-are (c .before .before .before))))

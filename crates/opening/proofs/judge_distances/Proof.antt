@@ -1,5 +1,5 @@
 -- `opening::judge_distances` meets its contract, by whether the start has a distance.
-use Rattle.learning.proofs.Words.{needs, sym, _∙_}
+use Rattle.learning.proofs.Words.{needs}
 use Rattle.opening.proofs.Truth.{judged-far, judged-near}
 use Rattle.opening.proofs.judge_distances as f
 use f.Tie as tie

@@ -7,8 +7,7 @@ use f.Tie as tie
 returns : tie.Need-returns
 returns c =
     let found = c .before .before .before .before in
-    let start = found .before .before .before .before .before in
-    c .judge-distances .ensures ∙ judged-soundness _ _ _ _ _ (start .pre .0) (c .before .before .before .before .find-distances .ensures)
+    c .judge-distances .ensures ∙ judged-soundness _ _ _ _ _ (found .before .before .before .before .before .pre .0) (found .find-distances .ensures)
 
 pub judge-in-spec : {M : Type 1} → f.Statement.statement M
 judge-in-spec = tie.close (tie.spec (λ c κs. search needs) (search needs) (search needs) returns)

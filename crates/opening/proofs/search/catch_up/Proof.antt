@@ -1,5 +1,5 @@
 -- `opening::search::catch_up` meets its contract. The invariant: the places before k are caught up, the others as they were.
-use Rattle.learning.proofs.Words.{_-_, _<_, needs, length, arith}
+use Rattle.learning.proofs.Words.{_-_, needs, length, arith}
 use Rattle.opening.proofs.Fill.{Changed, changed-more, changed-all}
 use Rattle.opening.specs.Chain.{caught}
 use Rattle.opening.proofs.search.catch_up as f

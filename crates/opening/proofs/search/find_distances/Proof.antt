@@ -1,8 +1,6 @@
 -- `opening::search::find_distances` meets its contract: where every place is at the queue's end, the search has found the true distances.
-use Rattle.learning.proofs.Words.{ap, _∙_, needs}
-use Rattle.learning.specs.Ground.{listOf}
+use Rattle.learning.proofs.Words.{_∙_, needs}
 use Rattle.opening.proofs.Held.{certified-distances}
-use Rattle.opening.specs.Chain.{blank}
 use Rattle.opening.proofs.search.find_distances as f
 use f.Tie as tie
 

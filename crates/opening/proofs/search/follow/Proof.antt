@@ -1,5 +1,5 @@
 -- `opening::search::follow` meets its contract. The invariant: the first m moves have been followed. No move leads from a blocked cell.
-use Rattle.learning.proofs.Words.{_-_, _≤_, not-true, not-false, needs, sym, _∙_, arith}
+use Rattle.learning.proofs.Words.{_-_, _≤_, needs, arith}
 use Rattle.floor.specs.Moves.{flat, cost}
 use Rattle.opening.proofs.Chain.{not-so, is-so, follows-none, follows-blocked, follows-more, follows-all}
 use Rattle.opening.specs.Chain.{Follows}
@@ -12,20 +12,7 @@ Inv-loop width height floor cell k v list₀ last spot end₀ m₀ list end m = 
 abbrev μ-loop : tie.MeasureT-loop
 μ-loop width height floor cell k v list₀ last spot end₀ m₀ list end m = 8 - m
 
-abbrev at-start : tie.After-spot-of Inv-loop μ-loop → tie.Start Inv-loop μ-loop
-at-start c = c .before .before .before .before .before
-
-pass-requires : tie.Need-pass-requires Inv-loop μ-loop
-pass-requires c κs = search needs
-
-loop-again : tie.Need-loop-again Inv-loop μ-loop
-loop-again c = search (needs, follows-more)
-
 pub follow-spec : {M : Type 1} → f.Statement.statement M
 follow-spec =
-    tie.close (tie.spec Inv-loop μ-loop (search needs)
-    (λ c. search (needs, follows-blocked, not-so))
-    (λ c κs. search (needs, is-so))
-    (λ c. search (needs, follows-none)) pass-requires (omega arith) (omega arith) loop-again
-    (search needs)
-    (λ c. search (needs, follows-all)))
+    tie.close (tie.spec Inv-loop μ-loop (search needs) (λ c. search (needs, follows-blocked, not-so)) (λ c κs. search (needs, is-so)) (λ c. search (needs, follows-none)) (λ c κs. search needs)
+    (omega arith) (omega arith) (λ c. search (needs, follows-more)) (search needs) (λ c. search (needs, follows-all)))

@@ -1,5 +1,5 @@
 -- `opening::search::least` meets its contract. The invariant: the least offer of the first k costs.
-use Rattle.learning.proofs.Words.{_-_, _≤_, length, needs, _≡_, subst, arith}
+use Rattle.learning.proofs.Words.{_-_, _≤_, length, needs, _≡_, arith}
 use Rattle.opening.proofs.Offers.{least-first}
 use Rattle.opening.specs.Chain.{Least}
 use Rattle.opening.proofs.search.least as f
@@ -13,10 +13,9 @@ abbrev μ-loop : tie.MeasureT-loop
 
 returns : tie.Need-returns Inv-loop μ-loop
 returns c =
-    let a = c .before .before .before .before .args in
     let l = c .before .loop in
-    let e : l .k ≡ length (a .places .now) = omega arith in
-    subst (λ k. Least (a .list .now) (a .places .now) k (l .best)) e (l .inv .1)
+    let e : length (c .before .before .before .before .args .places .now) ≡ l .k = omega arith in
+    rw e (l .inv .1)
 
 pub least-spec : {M : Type 1} → f.Statement.statement M
 least-spec =

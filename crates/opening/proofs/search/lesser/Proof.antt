@@ -1,5 +1,5 @@
 -- `opening::search::lesser` meets its contract: the lesser of the two offers is the least so far.
-use Rattle.learning.proofs.Words.{needs, le-trans, arith}
+use Rattle.learning.proofs.Words.{needs, arith}
 use Rattle.opening.proofs.Offers.{least-take, least-keep}
 use Rattle.opening.proofs.search.lesser as f
 use f.Tie as tie

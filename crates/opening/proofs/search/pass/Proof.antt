@@ -1,15 +1,8 @@
 -- `opening::search::pass` meets its contract, by whether the move can have the cost.
-use Rattle.learning.proofs.Words.{needs, not-true, sym, _∙_, subst₂}
+use Rattle.learning.proofs.Words.{needs}
 use Rattle.opening.proofs.Chain.{not-so, enterable, passed-over}
-use Rattle.opening.specs.Chain.{Entered}
 use Rattle.opening.proofs.search.pass as f
 use f.Tie as tie
-
-returns : tie.Need-returns
-returns c = search (needs, passed-over, not-so)
-
-reach-requires : tie.Need-reach-requires
-reach-requires c κs = search (needs, enterable)
 
 returns-2 : tie.Need-returns-2
 returns-2 c =
@@ -18,4 +11,5 @@ returns-2 c =
     rw (s .before .step-from .ensures, s .cost-at .ensures .0) at (r .ensures)
 
 pub pass-spec : {M : Type 1} → f.Statement.statement M
-pass-spec = tie.close (tie.spec (search needs) returns (λ c κs. search needs) (search needs) reach-requires (search needs) returns-2)
+pass-spec =
+    tie.close (tie.spec (search needs) (λ c. search (needs, passed-over, not-so)) (λ c κs. search needs) (search needs) (λ c κs. search (needs, enterable)) (search needs) returns-2)

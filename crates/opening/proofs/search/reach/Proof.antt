@@ -1,8 +1,7 @@
 -- `opening::search::reach` meets its contract, by what the step is, its cost, and whether the cell has a distance.
-use Rattle.learning.proofs.Words.{_<_, needs, length, _≡_, sym, ap, _∙_, subst, arith}
+use Rattle.learning.proofs.Words.{_<_, needs, length, _≡_, sym, ap, _∙_, arith}
 use Rattle.floor.proofs.Steps.{wall≢to, same-to}
-use Rattle.floor.specs.declared.Step.the-variants.{To}
-use Rattle.opening.specs.Chain.{links, distAt, Entered, stays, enters}
+use Rattle.opening.specs.Chain.{links, distAt, stays, enters}
 use Rattle.opening.proofs.search.reach as f
 use f.Tie as tie
 
@@ -19,20 +18,14 @@ returns-3 c =
     stays (λ b e. omega (arith, c .before .dist-at .ensures .0, ap (distAt (at-start t .args .list .now)) (same-to (sym (t .step .given .1) ∙ e) .0)))
 
 enter-requires : tie.Need-enter-requires
-enter-requires c κs =
-    let t = c .before .before .before .before .before .before in
-    let p = at-start t .pre in
-    (p .final, inside t .0, inside t .1, p .small)
+enter-requires c κs = let h = inside (c .before .before .before .before .before .before) in search needs
 
 returns-4 : tie.Need-returns-4
 returns-4 c =
     let d = c .before .before .before .before .before in
     let t = d .before .before .before .before in
-    let a = at-start t .args in
-    let cell = t .step .given .0 .0 in
-    let same : t .step .given .0 .1 .0 ≡ a .cost = omega arith in
-    subst (λ l. Entered (a .step) (a .cost) (a .v) (a .list .now) (a .last) l cell) (sym (c .before .before .enter .ensures))
-    (enters cell (t .step .given .1 ∙ ap (To cell) same) (omega arith))
+    let same : t .step .given .0 .1 .0 ≡ at-start t .args .cost = omega arith in
+    rw (c .before .before .enter .ensures) (enters _ (rw same at (t .step .given .1)) (omega arith))
 
 pub reach-spec : {M : Type 1} → f.Statement.statement M
 reach-spec =

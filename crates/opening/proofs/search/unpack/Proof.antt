@@ -1,5 +1,5 @@
 -- `opening::search::unpack` meets its contract. The invariant: the entries passed are distances, the others as they were.
-use Rattle.learning.proofs.Words.{_-_, _/_, _<_, needs, length, ap, _∙_, arith}
+use Rattle.learning.proofs.Words.{_-_, _/_, needs, length, ap, _∙_, arith}
 use Rattle.opening.proofs.Fill.{Changed, changed-more, changed-all}
 use Rattle.opening.specs.Chain.{links, distAt, plain}
 use Rattle.opening.proofs.search.unpack as f
