@@ -1,5 +1,5 @@
 -- `opening::fill_figures` meets its contract. The invariant: the places passed hold their opening figures, whatever the floor's bytes.
-use Rattle.learning.proofs.Words.{ℕ, _-_, _≤_, needs, length, length-set, List, [], _≡_, _∙_, arith}
+use Rattle.learning.proofs.Words.{ℕ, _-_, _≤_, needs, length, List, [], _≡_, _∙_, arith}
 use Rattle.floor.specs.Moves.{flat}
 use Rattle.model.proofs.OpeningSound.{opening-high}
 use Rattle.model.specs.Floor.{opening, openingTable, goalsOf}
@@ -27,12 +27,7 @@ cast-table c =
     omega (arith, c .opening .ensures [], high)
 
 loop-again : tie.Need-loop-again Inv-loop μ-loop
-loop-again c =
-    let l = c .before .before .loop in (
-      omega arith,
-      length-set (l .table) (l .x) (c .opening .result) ∙ l .inv .1,
-      λ bytes. fill-more _ (l .x) _ (l .table) (omega arith) (c .opening .ensures bytes) (l .inv .2 bytes),
-    )
+loop-again c = search (needs, fill-more, c .opening .ensures, c .before .before .loop .inv .2)
 
 returns : tie.Need-returns Inv-loop μ-loop
 unfolding openingTable

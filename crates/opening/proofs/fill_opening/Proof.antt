@@ -1,5 +1,5 @@
 -- `opening::fill_opening` meets its contract: the table is stored to only when no check refuses.
-use Rattle.learning.proofs.Words.{needs, sym, _∙_, arith}
+use Rattle.learning.proofs.Words.{needs, sym, _∙_}
 use Rattle.model.proofs.Files.{openable}
 use Rattle.opening.proofs.Promise.{fills-refused, fills-done}
 use Rattle.opening.proofs.fill_opening as f
@@ -8,7 +8,7 @@ use f.Tie as tie
 fill-figures-requires : tie.Need-fill-figures-requires
 fill-figures-requires c κs =
     let o = openable _ _ _ _ (sym (c .before .before .before .open-table .ensures) ∙ c .before .enum-told .given .1) in
-    (o .sized .wide, o .sized .narrow, o .sized .low, omega arith, o .benches, o .cells)
+    search needs
 
 returns-2 : tie.Need-returns-2
 returns-2 c =

@@ -8,10 +8,7 @@ abbrev at-start : tie.After-clear → tie.Start
 at-start c = c .before .before .before .before
 
 explore-requires : tie.Need-explore-requires
-explore-requires c κs =
-    let e = c .before .before .before in
-    let p = at-start e .pre in
-    (p .0, p .2, rw (← (p .1)) (e .clear .ensures))
+explore-requires c κs = search (needs, ← (at-start (c .before .before .before) .pre .1))
 
 returns : tie.Need-returns
 returns c =

@@ -49,6 +49,6 @@ spread-slow-spec =
     tie.close (tie.spec Inv-loop μ-loop (search needs) (search needs) (λ c κs. held-offered (held (c .before .before .before)))
     (λ c. omega (arith, held-offered (held (looping c)))) (search needs)
     (λ c. omega (arith, held (looping (c .before .before)))) (λ c. omega (arith, held (looping (c .before .before))))
-    (λ c. let s = c .before .before in held-none (held (looping s)) (s .least .ensures) (c .if1 .taken)) (λ c κs. let s = c .before .before .before in held-offer (held (looping s)) (s .least .ensures))
+    (λ c. search (needs, held-none (held (looping (c .before .before))))) (λ c κs. search (needs, held-offer (held (looping (c .before .before .before)))))
     (λ c κs. let o = c .before in let s = asked o in step-follow (held (looping s)) (s .least .ensures) (o .offer .ensures) (o .before .before .if1 .left)) move-on-requires (search needs) (omega arith)
     loop-again (λ c. omega (arith, held (c .before))) (λ c. omega (arith, held (c .before))) (λ c. held-done (held (c .before)) (c .loop-test .left)))
