@@ -16,4 +16,4 @@ returns-5 c =
     ) at (ahead-by (a .at) (getD (a .floor .now) (a .to) 0) (a .m) (s .pre .1))
 
 pub byte-ahead-spec : {M : Type 1} → f.Statement.statement M
-byte-ahead-spec = tie.close (tie.spec (λ c. search needs) (λ c. search needs) (λ c. search needs) (λ c. search needs) (λ c. search needs) returns-5)
+byte-ahead-spec = tie.close (tie.spec (λ c. search needs) (λ c. search needs) (λ c. search needs) (λ c. search needs) (search needs) returns-5)

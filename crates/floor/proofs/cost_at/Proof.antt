@@ -6,5 +6,5 @@ use f.Tie as tie
 
 pub cost-at-spec : {M : Type 1} → f.Statement.statement M
 cost-at-spec =
-    tie.close (tie.spec (λ c. search needs) (λ c. search needs) (λ c. search needs) (λ c. search needs) (λ c. search needs)
+    tie.close (tie.spec (search needs) (search needs) (λ c. search needs) (λ c. search needs) (λ c. search needs)
     (λ c. let e : 3 ≡ c .before .args .k = omega arith in (ap cost e, omega arith)))

@@ -6,5 +6,5 @@ use f.Tie as tie
 
 pub free-byte-spec : {M : Type 1} → f.Statement.statement M
 free-byte-spec =
-    tie.close (tie.spec (λ c. let b = c .before .args .b in sym (ap (λ t. t || eqb b slowByte) (eq-eqb b 0 (c .if1 .taken))))
-    (λ c. let b = c .before .args .b in sym (ap (λ t. t || eqb b slowByte) (ne-eqb b 0 (c .if1 .left)))))
+    tie.close (tie.spec (λ c. rw (eq-eqb _ _ (c .if1 .taken)))
+    (λ c. rw (ne-eqb _ _ (c .if1 .left))))

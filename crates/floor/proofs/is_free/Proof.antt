@@ -13,4 +13,4 @@ returns c =
 
 pub is-free-spec : {M : Type 1} → f.Statement.statement M
 is-free-spec =
-    tie.close (tie.spec returns (λ c. search needs) (λ c κs. search needs) (λ c. c .free-byte .ensures ∙ sym (byte-tells _ _ (omega (arith, c .before .before .before .before .pre .cells)))))
+    tie.close (tie.spec returns (search needs) (search needs) (λ c. c .free-byte .ensures ∙ sym (byte-tells _ _ (omega (arith, c .before .before .before .before .pre .cells)))))

@@ -8,5 +8,5 @@ use f.Tie as tie
 
 pub kinds-after-spec : {M : Type 1} → f.Statement.statement M
 kinds-after-spec =
-    tie.close (tie.spec (λ c. let a = c .before .args in sym (ap (λ t. choose t allKinds (a .n)) (eq-eqb (a .b) slowByte (c .if1 .taken))))
-    (λ c. let a = c .before .args in sym (ap (λ t. choose t allKinds (a .n)) (ne-eqb (a .b) slowByte (c .if1 .left)))))
+    tie.close (tie.spec (λ c. rw (eq-eqb _ _ (c .if1 .taken)))
+    (λ c. rw (ne-eqb _ _ (c .if1 .left))))

@@ -8,6 +8,6 @@ use f.Tie as tie
 pub north-byte-spec : {M : Type 1} → f.Statement.statement M
 north-byte-spec =
     tie.close (tie.spec
-    (λ c. let s = c .before in north-off (flat (s .args .width) (s .args .height) (s .args .floor .now)) (s .args .cell) (first-row _ (s .pre .0) _ (s .pre .1) (omega arith)))
-    (λ c. search needs)
+    (λ c. search (needs, north-off, first-row))
+    (search needs)
     (λ c. let s = c .before .before in north-is-byte (flat (s .args .width) (s .args .height) (s .args .floor .now)) (s .args .cell) (past-first _ (s .pre .0) _ (s .pre .1) (omega arith))))

@@ -26,9 +26,9 @@ more : (c : tie.After-slower) → c .before .toll .result / 2 * c .slower .resul
 more c = ap₂ (λ t k. t / 2 * k) (c .before .toll .ensures) (c .slower .ensures)
 
 add-result : tie.Need-add-result
-add-result c = record { fits = omega (arith, more c, few (is-slow c) _ (c .before .before .pre .0), c .before .toll .ensures, toll-high _ (c .before .before .pre .0)) }
+add-result c = omega (arith, more c, few (is-slow c) _ (c .before .before .pre .0), c .before .toll .ensures, toll-high _ (c .before .before .pre .0))
 
 pub price-spec : {M : Type 1} → f.Statement.statement M
 price-spec =
-    tie.close (tie.spec (λ c κs. search needs) (λ c κs. search needs) (λ c. record { fits = omega (arith, more c, few (is-slow c) _ (c .before .before .pre .0)) }) add-result
+    tie.close (tie.spec (search needs) (λ c κs. search needs) (λ c. omega (arith, more c, few (is-slow c) _ (c .before .before .pre .0))) add-result
     (λ c. ap₂ (λ t k. t + k) (c .before .toll .ensures) (more c) ∙ pays (is-slow c) _ (c .before .before .pre .0)))

@@ -27,7 +27,7 @@ low true = omega arith
 low false = omega arith
 
 cast-result : tie.Need-cast-result
-cast-result c = record { fits = omega (arith, together (c .args .here) (c .pre .0) (c .args .there) (c .pre .1), low (eqb (c .args .here) slowByte || eqb (c .args .there) slowByte)) }
+cast-result c = omega (arith, together (c .args .here) (c .pre .0) (c .args .there) (c .pre .1), low (eqb (c .args .here) slowByte || eqb (c .args .there) slowByte))
 
 pub slower-spec : {M : Type 1} → f.Statement.statement M
 slower-spec = tie.close (tie.spec cast-result (λ c. together (c .args .here) (c .pre .0) (c .args .there) (c .pre .1)))

@@ -77,6 +77,6 @@ returns-4 c =
 
 pub step-from-spec : {M : Type 1} → f.Statement.statement M
 step-from-spec =
-    tie.close (tie.spec (λ c κs. search needs) returns (λ c κs. search needs) returns-2 (λ c κs. search needs) (λ c. omega (arith, space (c .before) .1, rows c))
-    (λ c. omega (arith, space (c .before) .1, rows c)) (λ c κs. search needs) (λ c. omega (arith, space (c .before .before) .1, rows (c .before), c .east .ensures)) (λ c. search needs)
-    (λ c. omega (arith, space (c .before .before) .0, rows (c .before), c .east .ensures)) byte-ahead-requires (λ c κs. search needs) returns-3 price-requires returns-4)
+    tie.close (tie.spec (search needs) returns (search needs) returns-2 (search needs) (λ c. omega (arith, space (c .before) .1, rows c))
+    (λ c. omega (arith, space (c .before) .1, rows c)) (search needs) (λ c. omega (arith, space (c .before .before) .1, rows (c .before), c .east .ensures)) (search needs)
+    (λ c. omega (arith, space (c .before .before) .0, rows (c .before), c .east .ensures)) byte-ahead-requires (search needs) returns-3 price-requires returns-4)

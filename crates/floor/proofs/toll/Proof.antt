@@ -6,5 +6,5 @@ use f.Tie as tie
 
 pub toll-spec : {M : Type 1} → f.Statement.statement M
 toll-spec =
-    tie.close (tie.spec (λ c. let m = c .before .args .m in rw (eq-eqb (m % 2) 0 (c .if1 .taken)) at (toll-by m (c .before .pre)))
-    (λ c. let m = c .before .args .m in rw (ne-eqb (m % 2) 0 (c .if1 .left)) at (toll-by m (c .before .pre))))
+    tie.close (tie.spec (λ c. rw (eq-eqb _ _ (c .if1 .taken)) at (toll-by _ (c .before .pre)))
+    (λ c. rw (ne-eqb _ _ (c .if1 .left)) at (toll-by _ (c .before .pre))))

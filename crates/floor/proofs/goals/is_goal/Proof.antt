@@ -18,7 +18,7 @@ asked c = c .before .before
 returns : tie.Need-returns Inv-loop μ-loop
 returns c =
     let g = c .before in
-    sym (member-at _ _ (asked g .loop .i) (omega (arith, g .before .loop-test .taken, asked g .before .goals-in .ensures)) (c .if1 .taken ∙ g .goal-at .ensures))
+    sym (member-at _ _ (asked g .loop .i) (omega arith) (c .if1 .taken ∙ g .goal-at .ensures))
 
 loop-again : tie.Need-loop-again Inv-loop μ-loop
 loop-again c =
@@ -27,5 +27,5 @@ loop-again c =
 
 pub is-goal-spec : {M : Type 1} → f.Statement.statement M
 is-goal-spec =
-    tie.close (tie.spec Inv-loop μ-loop (λ c κs. search needs) (λ c k h. absurd (omega arith)) (λ c κs. omega (arith, c .loop-test .taken, c .before .before .goals-in .ensures)) returns
-    (λ c. omega arith) (λ c. omega arith) loop-again (λ c. sym (no-member _ _ (λ k h. c .before .loop .inv k (omega (arith, h, c .loop-test .left, c .before .before .goals-in .ensures))))))
+    tie.close (tie.spec Inv-loop μ-loop (search needs) (omega arith) (search needs) returns
+    (omega arith) (omega arith) loop-again (λ c. sym (no-member _ _ (λ k h. c .before .loop .inv k (omega arith)))))

@@ -34,7 +34,7 @@ octile-requires : tie.Need-octile-requires Inv-loop μ-loop
 octile-requires c κs =
     let s = counted c in
     let p = s .before .pre in
-    (p .0, (p .1 .0, (p .1 .1 .0, (p .1 .1 .1 .0, (p .1 .1 .1 .1 .0, on s _ _ (some s) (c .goal-at .ensures))))))
+    search (needs, on s _ _ (some s) (c .goal-at .ensures))
 
 loop-holds : tie.Need-loop-holds Inv-loop μ-loop
 loop-holds c =
@@ -44,14 +44,14 @@ loop-holds c =
       omega arith,
       λ bytes. let f = flat (a .width) (a .height) bytes in
           c .octile .ensures bytes ∙ ap (λ x. octile f (a .q) x (a .cell)) (g .goal-at .ensures)
-          ∙ sym (nearest-first f (a .q) (a .cell) (goalsOf (a .goals)) (omega (arith, some s, s .goals-in .ensures))),
+          ∙ sym (nearest-first f (a .q) (a .cell) (goalsOf (a .goals)) (omega (arith, some s))),
     )
 
 octile-requires-2 : tie.Need-octile-requires-2 Inv-loop μ-loop
 octile-requires-2 c κs =
     let s = counted (first (turn c)) in
     let p = s .before .pre in
-    (p .0, (p .1 .0, (p .1 .1 .0, (p .1 .1 .1 .0, (p .1 .1 .1 .1 .0, on s _ _ (c .before .loop-test .taken) (c .goal-at2 .ensures))))))
+    search (needs, on s)
 
 -- one goal more
 more : (f : Floor) (q x : ℕ) (gs : List ℕ) (i : ℕ) → 1 ≤ i → i < length gs → opening f q (take (i + 1) gs) x ≡ min (opening f q (take i gs) x) (octile f q (getD gs i 0) x)
@@ -71,7 +71,7 @@ loop-again c =
       λ bytes. let f = flat (a .width) (a .height) bytes in
           c .smaller .ensures
           ∙ ap₂ min (l .loop .inv .1 bytes) (c .before .octile2 .ensures bytes ∙ ap (λ x. octile f (a .q) x (a .cell)) (g .goal-at2 .ensures))
-          ∙ sym (more f (a .q) (a .cell) (goalsOf (a .goals)) (l .loop .i) (l .loop .inv .0) (omega (arith, g .before .loop-test .taken, s .goals-in .ensures))),
+          ∙ sym (more f (a .q) (a .cell) (goalsOf (a .goals)) (l .loop .i) (l .loop .inv .0) (omega arith)),
     )
 
 returns : tie.Need-returns Inv-loop μ-loop
@@ -80,10 +80,10 @@ returns c bytes =
     let s = counted (first l) in
     let a = s .before .args in
     l .loop .inv .1 bytes
-    ∙ nearest-all (flat (a .width) (a .height) bytes) (a .q) (a .cell) (goalsOf (a .goals)) (l .loop .i) (omega (arith, c .loop-test .left, s .goals-in .ensures))
+    ∙ nearest-all (flat (a .width) (a .height) bytes) (a .q) (a .cell) (goalsOf (a .goals)) (l .loop .i) (omega arith)
 
 pub opening-spec : {M : Type 1} → f.Statement.statement M
 opening-spec =
-    tie.close (tie.spec Inv-loop μ-loop (λ c κs. search needs) (λ c κs. omega (arith, some c, c .goals-in .ensures)) octile-requires loop-holds
-    (λ c κs. let s = counted (first (c .before)) in omega (arith, c .loop-test .taken, s .goals-in .ensures)) octile-requires-2 (λ c κs. search needs) (λ c. omega arith) (λ c. omega arith)
+    tie.close (tie.spec Inv-loop μ-loop (search needs) (λ c κs. search needs) octile-requires loop-holds
+    (search needs) octile-requires-2 (search needs) (omega arith) (omega arith)
     loop-again returns)
