@@ -1,13 +1,13 @@
 -- What a step says of the model's price, and that each price is a step's. Code above knows `stepOf` by these laws alone.
 -- Assumes nothing.
 use mathlib.Core.Path.{_≡_, refl, sym, ap, _∙_, subst}
-use mathlib.Core.Bool.{Bool, true, false, _||_}
+use mathlib.Core.Bool.{Bool, true, false, not, _||_}
 use mathlib.Core.List.{List}
 use Prim.Native.Nat.{ℕ, zero, suc, _+_, _%_, _≤_, _<_}
 use native.Mathlib.Decide.{decLe, ℕ-discrete}
 use native.Mathlib.Omega.{arith}
 use borrow.Author.Count.{below-more}
-use borrow.Author.Tests.{eq-eqb, ne-eqb, eqb-true}
+use borrow.Author.Tests.{eq-eqb, ne-eqb, eqb-true, not-true, not-false}
 use lib.Dec.{eqb}
 use lib.ListN.{length, getD, List·getD-eq-default}
 use Rattle.model.specs.Basics.{choose, member}
@@ -19,6 +19,13 @@ use Rattle.model.proofs.Meaning.{price-means}
 use Rattle.model.proofs.Moves.{toll, all8, price-toll, allowed-inside, allowed-some, allowed-free, free-few, opposite-ahead, opposite-allowed, opposite-lt, price-move, heading-is}
 use Rattle.floor.specs.declared.Step.the-variants.{To, Wall}
 use Rattle.floor.specs.Moves.{allKinds, kinds, cost, canCost, Counted, plain, slow, stepOf}
+
+-- a negated test that the code made, of what the model says
+pub not-so : {r b : Bool} → r ≡ b → not r ≡ true → b ≡ false
+not-so e t = sym e ∙ not-true _ t
+
+pub is-so : {r b : Bool} → r ≡ b → not r ≡ false → b ≡ true
+is-so e t = sym e ∙ not-false _ t
 
 pub wall≢to : (d v : ℕ) → Wall ≡ To d v → ⊥
 wall≢to d v e = let z : _≡_ {A = ℕ} 0 1 = cc in omega arith

@@ -1,5 +1,5 @@
 -- `floor::east` meets its contract.
-use Rattle.learning.proofs.Words.{_%_, eq-eqb, ne-eqb, lt-ltb, le-ltb}
+use Rattle.learning.proofs.Words.{eq-eqb, ne-eqb, lt-ltb, le-ltb}
 use Rattle.floor.proofs.Stepping.{east-by}
 use Rattle.floor.proofs.east as f
 use f.Tie as tie

@@ -1,6 +1,5 @@
 -- `floor::free_byte` meets its contract.
-use Rattle.learning.proofs.Words.{sym, ap, _||_, eq-eqb, ne-eqb, eqb}
-use Rattle.model.specs.Floor.{slowByte}
+use Rattle.learning.proofs.Words.{eq-eqb, ne-eqb}
 use Rattle.floor.proofs.free_byte as f
 use f.Tie as tie
 

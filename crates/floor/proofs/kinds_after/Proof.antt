@@ -1,8 +1,5 @@
 -- `floor::kinds_after` meets its contract.
-use Rattle.learning.proofs.Words.{sym, ap, eq-eqb, ne-eqb}
-use Rattle.model.specs.Basics.{choose}
-use Rattle.model.specs.Floor.{slowByte}
-use Rattle.floor.specs.Moves.{allKinds}
+use Rattle.learning.proofs.Words.{eq-eqb, ne-eqb}
 use Rattle.floor.proofs.kinds_after as f
 use f.Tie as tie
 

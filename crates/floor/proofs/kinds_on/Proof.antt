@@ -1,5 +1,5 @@
 -- `floor::kinds_on` meets its contract. The invariant: what the bytes passed say.
-use Rattle.learning.proofs.Words.{_-_, _+_, sym, subst, arith, needs, length}
+use Rattle.learning.proofs.Words.{_-_, arith, needs, length}
 use Rattle.floor.specs.Moves.{Counted}
 use Rattle.floor.proofs.Steps.{counted-none, counted-more, counted-all}
 use Rattle.floor.proofs.kinds_on as f

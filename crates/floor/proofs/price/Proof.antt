@@ -10,13 +10,13 @@ use f.Tie as tie
 abbrev once-more : Bool → ℕ → ℕ
 once-more s m = toll m / 2 * choose s slowByte plainByte
 
-pays : (s : Bool) (m : ℕ) → m < 8 → toll m + once-more s m ≡ doubled s (toll m)
-pays true = all8 (λ m. toll m + once-more true m ≡ doubled true (toll m)) refl refl refl refl refl refl refl refl
-pays false = all8 (λ m. toll m + once-more false m ≡ doubled false (toll m)) refl refl refl refl refl refl refl refl
+-- that makes the doubled toll, and is never much
+abbrev Pays : Bool → ℕ → Type 0
+Pays s m = (toll m + once-more s m ≡ doubled s (toll m)) × (once-more s m ≤ diagonal)
 
-few : (s : Bool) (m : ℕ) → m < 8 → once-more s m ≤ diagonal
-few true = all8 (λ m. once-more true m ≤ diagonal) (lit≤ tt) (lit≤ tt) (lit≤ tt) (lit≤ tt) (lit≤ tt) (lit≤ tt) (lit≤ tt) (lit≤ tt)
-few false = all8 (λ m. once-more false m ≤ diagonal) (lit≤ tt) (lit≤ tt) (lit≤ tt) (lit≤ tt) (lit≤ tt) (lit≤ tt) (lit≤ tt) (lit≤ tt)
+pays : (s : Bool) (m : ℕ) → m < 8 → Pays s m
+pays true = all8 (Pays true) (refl, lit≤ tt) (refl, lit≤ tt) (refl, lit≤ tt) (refl, lit≤ tt) (refl, lit≤ tt) (refl, lit≤ tt) (refl, lit≤ tt) (refl, lit≤ tt)
+pays false = all8 (Pays false) (refl, lit≤ tt) (refl, lit≤ tt) (refl, lit≤ tt) (refl, lit≤ tt) (refl, lit≤ tt) (refl, lit≤ tt) (refl, lit≤ tt) (refl, lit≤ tt)
 
 -- the toll and the slower byte are worked out
 abbrev is-slow : tie.After-slower → Bool
@@ -26,9 +26,9 @@ more : (c : tie.After-slower) → c .before .toll .result / 2 * c .slower .resul
 more c = ap₂ (λ t k. t / 2 * k) (c .before .toll .ensures) (c .slower .ensures)
 
 add-result : tie.Need-add-result
-add-result c = omega (arith, more c, few (is-slow c) _ (c .before .before .pre .0), c .before .toll .ensures, toll-high _ (c .before .before .pre .0))
+add-result c = omega (arith, more c, pays (is-slow c) _ (c .before .before .pre .0) .1, c .before .toll .ensures, toll-high _ (c .before .before .pre .0))
 
 pub price-spec : {M : Type 1} → f.Statement.statement M
 price-spec =
-    tie.close (tie.spec (search needs) (λ c κs. search needs) (λ c. omega (arith, more c, few (is-slow c) _ (c .before .before .pre .0))) add-result
-    (λ c. ap₂ (λ t k. t + k) (c .before .toll .ensures) (more c) ∙ pays (is-slow c) _ (c .before .before .pre .0)))
+    tie.close (tie.spec (search needs) (λ c κs. search needs) (λ c. omega (arith, more c, pays (is-slow c) _ (c .before .before .pre .0) .1)) add-result
+    (λ c. ap₂ (λ t k. t + k) (c .before .toll .ensures) (more c) ∙ pays (is-slow c) _ (c .before .before .pre .0) .0))

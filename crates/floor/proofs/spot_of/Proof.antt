@@ -1,5 +1,5 @@
 -- `floor::spot_of` meets its contract: the column is the model's own, by division.
-use Rattle.learning.proofs.Words.{refl, arith, needs}
+use Rattle.learning.proofs.Words.{arith, needs}
 use Rattle.model.proofs.Moves.{free-below}
 use Rattle.floor.proofs.spot_of as f
 use f.Tie as tie

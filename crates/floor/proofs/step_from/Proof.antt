@@ -1,7 +1,8 @@
 -- `floor::step_from` meets its contract: each test that fails makes a wall, and past them the cell is the model's, at the price of the move.
-use Rattle.learning.proofs.Words.{_≡_, sym, ap, ap₂, _∙_, _+_, _-_, _*_, _≤_, arith, needs, not-true, not-false, getD}
+use Rattle.learning.proofs.Words.{_≡_, ap, ap₂, _∙_, _+_, _-_, _*_, _≤_, arith, needs, getD}
 use Rattle.model.specs.Floor.{east, south}
 use Rattle.floor.proofs.Stepping.{Sided, here-free, inside, room, reached, byte-ahead, wall-row, wall-column, wall-ahead, step-to}
+use Rattle.floor.proofs.Steps.{not-so, is-so}
 use Rattle.floor.proofs.step_from as f
 use f.Tie as tie
 
@@ -59,12 +60,12 @@ returns-3 c =
     let at-byte = c .before .before in
     let off = at-byte .before .before .before in
     let s = start off in
-    wall-ahead (s .pre .0) (s .pre .1 .0) _ (s .pre .1 .1) (sided off) _ (led (at-byte .before)) _ (there at-byte) (sym (c .before .free-byte .ensures) ∙ not-true _ (c .if3 .taken))
+    wall-ahead (s .pre .0) (s .pre .1 .0) _ (s .pre .1 .1) (sided off) _ (led (at-byte .before)) _ (there at-byte) (not-so (c .before .free-byte .ensures) (c .if3 .taken))
 
 price-requires : tie.Need-price-requires
 price-requires c κs =
     let s = start (c .before .before .before .before .before) in
-    (s .pre .1 .1, (here-free (s .pre .1 .0), sym (c .before .free-byte .ensures) ∙ not-false _ (c .if3 .left)))
+    (s .pre .1 .1, (here-free (s .pre .1 .0), is-so (c .before .free-byte .ensures) (c .if3 .left)))
 
 returns-4 : tie.Need-returns-4
 returns-4 c =
@@ -72,7 +73,7 @@ returns-4 c =
     let at-byte = at-else .before .before in
     let off = at-byte .before .before .before in
     let s = start off in
-    step-to (s .pre .0) (s .pre .1 .0) _ (s .pre .1 .1) (sided off) _ (led (at-byte .before)) _ (there at-byte) (sym (at-else .before .free-byte .ensures) ∙ not-false _ (at-else .if3 .left)) _
+    step-to (s .pre .0) (s .pre .1 .0) _ (s .pre .1 .1) (sided off) _ (led (at-byte .before)) _ (there at-byte) (is-so (at-else .before .free-byte .ensures) (at-else .if3 .left)) _
     (c .price .ensures)
 
 pub step-from-spec : {M : Type 1} → f.Statement.statement M

@@ -1,5 +1,5 @@
 -- `floor::toll` meets its contract.
-use Rattle.learning.proofs.Words.{_%_, eq-eqb, ne-eqb}
+use Rattle.learning.proofs.Words.{eq-eqb, ne-eqb}
 use Rattle.floor.proofs.Stepping.{toll-by}
 use Rattle.floor.proofs.toll as f
 use f.Tie as tie

@@ -1,5 +1,5 @@
 -- `floor::goals::octile` meets its contract: both gaps are below 64, so the figure fits.
-use Rattle.learning.proofs.Words.{ℕ, _+_, _-_, _*_, _/_, _%_, _<_, min, arith, mod-lt, mul-le-mul, needs}
+use Rattle.learning.proofs.Words.{_+_, _-_, _*_, _<_, arith, mod-lt, mul-le-mul, needs}
 use Rattle.model.specs.Checks.{finest}
 use Rattle.model.specs.Floor.{straight, diagonal, octile}
 use Rattle.model.proofs.Cells.{row-lt}
@@ -7,34 +7,23 @@ use Rattle.model.proofs.OpeningSound.{gap-lt}
 use Rattle.floor.proofs.goals.octile as f
 use f.Tie as tie
 
-min-lt : (n a b : ℕ) → a < n → min a b < n
-min-lt n a b p = omega arith
-
 -- the gap in columns, and in rows
 dx-lt : (c : tie.After-gap2) → c .before .gap .result < 64
 dx-lt c =
-    let a = c .before .before .args in
-    rw (c .before .gap .ensures)
-    (gap-lt 64 (a .cell % a .width) (a .goal % a .width)
-    (omega (arith, mod-lt (a .cell) {m = a .width} (c .before .before .pre .0)))
-    (omega (arith, mod-lt (a .goal) {m = a .width} (c .before .before .pre .0))))
+    let s = c .before .before in
+    omega (arith, mod-lt (s .args .cell) (s .pre .0), mod-lt (s .args .goal) (s .pre .0))
 
 dy-lt : (c : tie.After-gap2) → c .gap2 .result < 64
 dy-lt c =
-    let a = c .before .before .args in
-    let p = c .before .before .pre in
-    rw (c .gap2 .ensures)
-    (gap-lt 64 (a .cell / a .width) (a .goal / a .width)
-    (omega (arith, row-lt (a .width) (a .height) (a .cell) (p .0) (search needs)))
-    (omega (arith, row-lt (a .width) (a .height) (a .goal) (p .0) (search needs))))
+    let s = c .before .before in
+    let a = s .args in
+    omega (arith, row-lt (a .width) (a .height) (a .cell) (s .pre .0) (search needs), row-lt (a .width) (a .height) (a .goal) (s .pre .0) (search needs))
 
 smaller-lt : (c : tie.After-smaller) → c .smaller .result < 64
-smaller-lt c = rw (c .smaller .ensures) (min-lt 64 (c .before .before .gap .result) (c .before .gap2 .result) (dx-lt (c .before)))
+smaller-lt c = omega (arith, dx-lt (c .before))
 
 gap3-lt : (c : tie.After-gap3) → c .gap3 .result < 64
-gap3-lt c =
-    rw (c .gap3 .ensures)
-    (gap-lt 64 (c .before .before .before .gap .result) (c .before .before .gap2 .result) (dx-lt (c .before .before)) (dy-lt (c .before .before)))
+gap3-lt c = let b = c .before .before in rw (c .gap3 .ensures) (gap-lt 64 _ _ (dx-lt b) (dy-lt b))
 
 mul-result-3 : tie.Need-mul-result-3
 mul-result-3 c =

@@ -1,6 +1,6 @@
 -- `floor::goals::opening` meets its contract. The invariant: the figure is that of the goals passed.
-use Rattle.learning.proofs.Words.{ℕ, suc, _+_, _-_, _*_, _≤_, _<_, min, _≡_, sym, ap, ap₂, _∙_, subst, List, arith, needs, length, getD, take}
-use Rattle.model.specs.Floor.{Floor, octile, opening, goalsOf}
+use Rattle.learning.proofs.Words.{ℕ, _-_, _*_, _≤_, _<_, _≡_, sym, _∙_, List, arith, needs, length, getD, take, ap, ap₂, min}
+use Rattle.model.specs.Floor.{octile, opening, goalsOf}
 use Rattle.floor.specs.Moves.{flat}
 use Rattle.floor.proofs.Nearest.{nearest-first, nearest-more, nearest-all}
 use Rattle.floor.proofs.goals.opening as f
@@ -33,54 +33,35 @@ some c = omega (arith, c .goals-in .ensures, c .before .pre .1 .1 .1 .1 .1 .one)
 octile-requires : tie.Need-octile-requires Inv-loop μ-loop
 octile-requires c κs =
     let s = counted c in
-    let p = s .before .pre in
     search (needs, on s _ _ (some s) (c .goal-at .ensures))
 
 loop-holds : tie.Need-loop-holds Inv-loop μ-loop
 loop-holds c =
     let g = c .before in
     let s = counted g in
-    let a = s .before .args in (
-      omega arith,
-      λ bytes. let f = flat (a .width) (a .height) bytes in
-          c .octile .ensures bytes ∙ ap (λ x. octile f (a .q) x (a .cell)) (g .goal-at .ensures)
-          ∙ sym (nearest-first f (a .q) (a .cell) (goalsOf (a .goals)) (omega (arith, some s))),
-    )
+    (omega arith, λ bytes. c .octile .ensures bytes ∙ rw (g .goal-at .ensures) (sym (nearest-first _ _ _ (goalsOf (s .before .args .goals)) (omega (arith, some s)))))
 
 octile-requires-2 : tie.Need-octile-requires-2 Inv-loop μ-loop
 octile-requires-2 c κs =
     let s = counted (first (turn c)) in
-    let p = s .before .pre in
     search (needs, on s)
-
--- one goal more
-more : (f : Floor) (q x : ℕ) (gs : List ℕ) (i : ℕ) → 1 ≤ i → i < length gs → opening f q (take (i + 1) gs) x ≡ min (opening f q (take i gs) x) (octile f q (getD gs i 0) x)
-more f q x gs i some h =
-    let up : suc (i - 1) ≡ i = omega arith in
-    let next : suc (suc (i - 1)) ≡ i + 1 = omega arith in
-    ap (λ k. opening f q (take k gs) x) (sym next) ∙ nearest-more f q x gs (i - 1) (omega arith)
-    ∙ ap (λ k. min (opening f q (take k gs) x) (octile f q (getD gs k 0) x)) up
 
 loop-again : tie.Need-loop-again Inv-loop μ-loop
 loop-again c =
     let g = c .before .before in
     let l = turn g in
-    let s = counted (first l) in
-    let a = s .before .args in (
+    let a = counted (first l) .before .args in
+    let h : l .loop .i < length (goalsOf (a .goals)) = omega arith in (
       omega arith,
-      λ bytes. let f = flat (a .width) (a .height) bytes in
-          c .smaller .ensures
-          ∙ ap₂ min (l .loop .inv .1 bytes) (c .before .octile2 .ensures bytes ∙ ap (λ x. octile f (a .q) x (a .cell)) (g .goal-at2 .ensures))
-          ∙ sym (more f (a .q) (a .cell) (goalsOf (a .goals)) (l .loop .i) (l .loop .inv .0) (omega arith)),
+      λ bytes. c .smaller .ensures
+          ∙ ap₂ min (l .loop .inv .1 bytes) (c .before .octile2 .ensures bytes ∙ ap (λ x. octile (flat (a .width) (a .height) bytes) (a .q) x (a .cell)) (g .goal-at2 .ensures))
+          ∙ sym (nearest-more _ _ _ _ _ (l .loop .inv .0) h),
     )
 
 returns : tie.Need-returns Inv-loop μ-loop
 returns c bytes =
     let l = c .before in
-    let s = counted (first l) in
-    let a = s .before .args in
-    l .loop .inv .1 bytes
-    ∙ nearest-all (flat (a .width) (a .height) bytes) (a .q) (a .cell) (goalsOf (a .goals)) (l .loop .i) (omega arith)
+    l .loop .inv .1 bytes ∙ nearest-all _ _ _ (goalsOf (counted (first l) .before .args .goals)) (l .loop .i) (omega arith)
 
 pub opening-spec : {M : Type 1} → f.Statement.statement M
 opening-spec =
