@@ -231,10 +231,6 @@ module _ {f : Floor} {x : ℕ} {at : Spot} (z : Sized f) (P : Placed f x at) (m 
     unfolding ahead
     ahead-sum = omega (arith, moved (f .width) (column f x) (row f x) (east m) (south m) (i .west) (i .north), cell-at (f .width) x)
 
-    -- the sum that leads to the cell moved into has room below and above
-    pub room : (f .width + 1 ≤ x + south m * f .width + east m) × (x + south m * f .width + east m ≤ 8192)
-    room = (omega (arith, ahead-sum), omega (arith, ahead-sum, ahead-lt f x m i, sized-cells z, z .narrow))
-
   -- a move that is not allowed is a wall
   wall : (allowed f x m ≡ true → ⊥) → Wall ≡ stepOf f x m
   unfolding stepOf
@@ -284,8 +280,12 @@ module _ {f : Floor} {x : ℕ} {at : Spot} (z : Sized f) (P : Placed f x at) (m 
 
   -- with them the straight cells beside the move are free
   module _ (s : Sided at m) where
-    pub inside : Inside f x m
+    inside : Inside f x m
     inside = sided-inside s
+
+    -- the sum that leads to the cell moved into has room below and above
+    pub room : (f .width + 1 ≤ x + south m * f .width + east m) × (x + south m * f .width + east m ≤ 8192)
+    room = (omega (arith, ahead-sum inside), omega (arith, ahead-sum inside, ahead-lt f x m inside, sized-cells z, z .narrow))
 
     beside-free : free f (corner f x y) ≡ true
     beside-free =
@@ -307,7 +307,7 @@ module _ {f : Floor} {x : ℕ} {at : Spot} (z : Sized f) (P : Placed f x at) (m 
       reached = omega (arith, ahead-lt f x m inside, ahead-is, z .cells)
 
       -- by the ways out it is the byte of the cell moved into
-      pub byte-ahead : aheadByte at m (getD (f .bytes) d 0) ≡ getD (f .bytes) d 0
+      byte-ahead : aheadByte at m (getD (f .bytes) d 0) ≡ getD (f .bytes) d 0
       byte-ahead = all8 (λ m. Inside f x m → d ≡ x + south m * f .width + east m - (f .width + 1) → aheadByte at m (getD (f .bytes) d 0) ≡ getD (f .bytes) d 0)
           (λ i q. P .north ∙ sym (north-is-byte f x (omega (arith, i .north))) ∙ same (omega (arith, q)))
           (λ i q. refl)
@@ -323,11 +323,14 @@ module _ {f : Floor} {x : ℕ} {at : Spot} (z : Sized f) (P : Placed f x at) (m 
           same q = ap (λ c. getD (f .bytes) c 0) q
 
       -- where that is blocked there is a wall
-      pub wall-ahead : (b : ℕ) → b ≡ getD (f .bytes) d 0 → freeByte b ≡ false → Wall ≡ stepOf f x m
-      wall-ahead b q n = wall (λ h. true≢false (sym (allowed-byte h d ahead-is) ∙ ap freeByte (sym q) ∙ n))
+      pub wall-ahead : (b : ℕ) → b ≡ aheadByte at m (getD (f .bytes) d 0) → freeByte b ≡ false → Wall ≡ stepOf f x m
+      wall-ahead b q n = wall (λ h. true≢false (sym (allowed-byte h d ahead-is) ∙ ap freeByte (sym (q ∙ byte-ahead)) ∙ n))
 
       -- with all that it needs free the move leads there, at its toll, doubled where a byte is slow
-      module _ (b : ℕ) (is : b ≡ getD (f .bytes) d 0) (free-there : freeByte b ≡ true) where
+      module _ (b : ℕ) (tells : b ≡ aheadByte at m (getD (f .bytes) d 0)) (free-there : freeByte b ≡ true) where
+        is : b ≡ getD (f .bytes) d 0
+        is = tells ∙ byte-ahead
+
         ahead-free : free f y ≡ true
         ahead-free = ap (free f) ahead-is ∙ byte-tells f d (omega (arith, reached, z .cells)) ∙ ap freeByte (sym is) ∙ free-there
 

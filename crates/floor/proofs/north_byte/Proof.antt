@@ -10,4 +10,4 @@ north-byte-spec =
     tie.close (tie.spec
     (λ c. search (needs, north-off, first-row))
     (search needs)
-    (λ c. let s = c .before .before in north-is-byte (flat (s .args .width) (s .args .height) (s .args .floor .now)) (s .args .cell) (past-first _ (s .pre .0) _ (s .pre .1) (omega arith))))
+    (λ c. let s = c .before .before in north-is-byte (flat (s .args .width) (s .args .height) (s .args .floor .now)) _ (past-first _ (s .pre .0) _ (s .pre .1) (omega arith))))

@@ -23,7 +23,7 @@ abbrev is-slow : tie.After-slower → Bool
 is-slow c = let a = c .before .before .args in eqb (a .here) slowByte || eqb (a .there) slowByte
 
 more : (c : tie.After-slower) → c .before .toll .result / 2 * c .slower .result ≡ once-more (is-slow c) (c .before .before .args .m)
-more c = ap₂ (λ t k. t / 2 * k) (c .before .toll .ensures) (c .slower .ensures)
+more c = rw (c .before .toll .ensures, c .slower .ensures)
 
 add-result : tie.Need-add-result
 add-result c = omega (arith, more c, pays (is-slow c) _ (c .before .before .pre .0) .1, c .before .toll .ensures, toll-high _ (c .before .before .pre .0))

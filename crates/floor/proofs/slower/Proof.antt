@@ -1,5 +1,5 @@
 -- `floor::slower` meets its contract: of two bytes that are 0 or 2 one is 2 just where their bits together are.
-use Rattle.learning.proofs.Words.{ℕ, _<_, _≡_, refl, sym, ap₂, subst, _∙_, Bool, true, false, true≢false, _||_, ℕ-discrete, arith, ne-eqb, eqb}
+use Rattle.learning.proofs.Words.{ℕ, _<_, _≡_, refl, sym, subst, Bool, true, false, true≢false, _||_, ℕ-discrete, arith, ne-eqb, eqb}
 use lib.Bits.{bitOr}
 use Rattle.model.specs.Basics.{choose}
 use Rattle.model.specs.Floor.{plainByte, slowByte, freeByte}
@@ -13,7 +13,7 @@ each-free P p s b e = by (ℕ-discrete b plainByte) (ℕ-discrete b slowByte)
     by : Dec (b ≡ plainByte) → Dec (b ≡ slowByte) → P b
     by (yes z) t = subst P (sym z) p
     by (no n) (yes t) = subst P (sym t) s
-    by (no n) (no k) = absurd (true≢false (sym e ∙ ap₂ _||_ (ne-eqb b plainByte n) (ne-eqb b slowByte k)))
+    by (no n) (no k) = absurd (true≢false (rw (ne-eqb b plainByte n, ne-eqb b slowByte k) at (sym e)))
 
 together : (here : ℕ) → freeByte here ≡ true → (there : ℕ) → freeByte there ≡ true
     → bitOr here there ≡ choose (eqb here slowByte || eqb there slowByte) slowByte plainByte

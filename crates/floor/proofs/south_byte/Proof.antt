@@ -9,6 +9,6 @@ use f.Tie as tie
 pub south-byte-spec : {M : Type 1} → f.Statement.statement M
 south-byte-spec =
     tie.close (tie.spec (λ c. omega (arith, sized-cells (c .pre .0)))
-    (λ c. let s = c .before in south-off (flat (s .args .width) (s .args .height) (s .args .floor .now)) (s .args .cell) (last-row _ (s .pre .0) _ (s .pre .1) (omega (arith, s .pre .0 .cells))))
+    (λ c. let s = c .before in south-off (flat (s .args .width) (s .args .height) (s .args .floor .now)) _ (last-row _ (s .pre .0) _ (s .pre .1) (omega (arith, s .pre .0 .cells))))
     (search needs) (omega arith)
-    (λ c. let s = c .before .before in south-is-byte (flat (s .args .width) (s .args .height) (s .args .floor .now)) (s .args .cell) (before-last _ (s .pre .0) _ (s .pre .1) (omega (arith, s .pre .0 .cells)))))
+    (λ c. let s = c .before .before in south-is-byte (flat (s .args .width) (s .args .height) (s .args .floor .now)) _ (before-last _ (s .pre .0) _ (s .pre .1) (omega (arith, s .pre .0 .cells)))))

@@ -7,4 +7,4 @@ use f.Tie as tie
 pub goal-at-spec : {M : Type 1} → f.Statement.statement M
 goal-at-spec =
     tie.close (tie.spec (λ c. sym (goal-at _ _ 0 (omega arith) (c .before .pre))) (λ c. sym (goal-at _ _ 1 (omega arith) (c .before .pre)))
-    (λ c. sym (goal-at _ _ 2 (omega arith) (c .before .pre))) (λ c. let s = c .before in sym (goal-at _ _ 3 (omega (arith, s .pre, goals-many (s .args .goals))) (s .pre))))
+    (λ c. sym (goal-at _ _ 2 (omega arith) (c .before .pre))) (λ c. sym (goal-at _ _ 3 (omega (arith, goals-many (c .before .args .goals))) (c .before .pre))))
