@@ -9,8 +9,8 @@ returns : tie.Need-returns
 unfolding free
 returns c =
     let a = c .before .before .args in
-    sym (ap (λ t. t && freeByte (getD (a .floor .now) (a .cell) 0)) (le-ltb (a .cell) _ (omega (arith, c .before .before .pre .cells))))
+    sym (ap (λ t. t && freeByte (getD (a .floor .now) (a .cell) 0)) (le-ltb (a .cell) _ (omega arith)))
 
 pub is-free-spec : {M : Type 1} → f.Statement.statement M
 is-free-spec =
-    tie.close (tie.spec returns (search needs) (search needs) (λ c. c .free-byte .ensures ∙ sym (byte-tells _ _ (omega (arith, c .before .before .before .before .pre .cells)))))
+    tie.close (tie.spec returns (search needs) (search needs) (λ c. c .free-byte .ensures ∙ sym (byte-tells _ _ (omega arith))))

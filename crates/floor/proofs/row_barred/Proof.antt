@@ -7,6 +7,6 @@ use f.Tie as tie
 pub row-barred-spec : {M : Type 1} → f.Statement.statement M
 row-barred-spec =
     tie.close (tie.spec (search needs) (search needs)
-    (λ c. let s = c .before .before in unless-low (omega (arith, c .before .if1 .taken, s .east .ensures)) (c .free-byte .ensures)) (search needs)
-    (λ c. let s = c .before .before .before in unless-high (omega (arith, c .before .if2 .taken, s .east .ensures)) (c .free-byte2 .ensures))
+    (λ c. unless-low (omega arith) (c .free-byte .ensures)) (search needs)
+    (λ c. unless-high (omega arith) (c .free-byte2 .ensures))
     (λ c. unless-neither (omega arith) (omega arith)))

@@ -16,9 +16,7 @@ abbrev asked : tie.After-goal-at Inv-loop μ-loop → tie.At-loop Inv-loop μ-lo
 asked c = c .before .before
 
 returns : tie.Need-returns Inv-loop μ-loop
-returns c =
-    let g = c .before in
-    sym (member-at _ _ (asked g .loop .i) (omega arith) (c .if1 .taken ∙ g .goal-at .ensures))
+returns c = let g = c .before in sym (member-at _ _ (asked g .loop .i) (omega arith) (c .if1 .taken ∙ g .goal-at .ensures))
 
 loop-again : tie.Need-loop-again Inv-loop μ-loop
 loop-again c =

@@ -25,26 +25,12 @@ first c = c .before .before
 -- a goal at a place is a cell of the floor
 on : (c : tie.After-goals-in Inv-loop μ-loop) (g i : ℕ) → i < c .goals-in .result → g ≡ getD (goalsOf (c .before .args .goals)) i 0
     → g < c .before .args .width * c .before .args .height
-on c g i h e = omega (arith, e, c .before .pre .1 .1 .1 .1 .1 .on i (omega (arith, h, c .goals-in .ensures)))
-
-some : (c : tie.After-goals-in Inv-loop μ-loop) → 0 < c .goals-in .result
-some c = omega (arith, c .goals-in .ensures, c .before .pre .1 .1 .1 .1 .1 .one)
-
-octile-requires : tie.Need-octile-requires Inv-loop μ-loop
-octile-requires c κs =
-    let s = counted c in
-    search (needs, on s _ _ (some s) (c .goal-at .ensures))
+on c g i h e = omega (arith, c .before .pre .1 .1 .1 .1 .1 .on i (omega arith))
 
 loop-holds : tie.Need-loop-holds Inv-loop μ-loop
 loop-holds c =
     let g = c .before in
-    let s = counted g in
-    (omega arith, λ bytes. c .octile .ensures bytes ∙ rw (g .goal-at .ensures) (sym (nearest-first _ _ _ (goalsOf (s .before .args .goals)) (omega (arith, some s)))))
-
-octile-requires-2 : tie.Need-octile-requires-2 Inv-loop μ-loop
-octile-requires-2 c κs =
-    let s = counted (first (turn c)) in
-    search (needs, on s)
+    (omega arith, λ bytes. c .octile .ensures bytes ∙ rw (g .goal-at .ensures) (sym (nearest-first _ _ _ (goalsOf (counted g .before .args .goals)) (omega arith))))
 
 loop-again : tie.Need-loop-again Inv-loop μ-loop
 loop-again c =
@@ -65,6 +51,5 @@ returns c bytes =
 
 pub opening-spec : {M : Type 1} → f.Statement.statement M
 opening-spec =
-    tie.close (tie.spec Inv-loop μ-loop (search needs) (λ c κs. search needs) octile-requires loop-holds
-    (search needs) octile-requires-2 (search needs) (omega arith) (omega arith)
-    loop-again returns)
+    tie.close (tie.spec Inv-loop μ-loop (search needs) (search needs) (λ c κs. search (needs, on (counted c) _ _ (omega arith) (c .goal-at .ensures))) loop-holds (search needs)
+    (λ c κs. search (needs, on (counted (first (turn c))))) (search needs) (omega arith) (omega arith) loop-again returns)
