@@ -1,9 +1,10 @@
 -- `checks::benches` meets its contract. The invariant: the goals passed are free.
-use Rattle.learning.proofs.Words.{ℕ, _-_, _<_, _≡_, sym, ap, _∙_, true, arith, needs, not-true, not-false, below-more, getD}
+use Rattle.learning.proofs.Words.{ℕ, _-_, _<_, _≡_, true, arith, needs, below-more, getD, sym, _∙_}
 use Rattle.model.specs.Floor.{free, goalsOf}
 use Rattle.model.proofs.Accepted.{never}
 use Rattle.model.proofs.Benches.{bench-judges}
 use Rattle.floor.specs.Moves.{flat}
+use Rattle.floor.proofs.Steps.{not-so, is-so}
 use Rattle.checks.proofs.benches as f
 use f.Tie as tie
 
@@ -20,28 +21,20 @@ asked c = c .before .before
 -- whether it is free is what the test says
 tested : (c : tie.After-is-free Inv-loop μ-loop) → let l = asked (c .before) in let a = l .before .before .before .args in
     c .is-free .result ≡ free (flat (a .width) (a .height) (a .floor .now)) (getD (goalsOf (a .goals)) (l .loop .i) 0)
-tested c =
-    let a = asked (c .before) .before .before .before .args in
-    c .is-free .ensures ∙ ap (free (flat (a .width) (a .height) (a .floor .now))) (c .before .goal-at .ensures)
+tested c = cc (c .is-free .ensures, c .before .goal-at .ensures)
 
 returns : tie.Need-returns Inv-loop μ-loop
 returns c =
     let t = c .before .before in
-    let g = t .before in
-    c .refuse .ensures
-    ∙ sym (bench-judges _ _ .refused
-    (λ h. never (h (asked g .loop .i) (omega (arith, g .before .loop-test .taken, asked g .before .goals-in .ensures))) (sym (tested t) ∙ not-true _ (c .before .if1 .taken))))
+    c .refuse .ensures ∙ sym (bench-judges _ _ .refused (λ h. never (h (asked (t .before) .loop .i) (omega arith)) (not-so (tested t) (c .before .if1 .taken))))
 
 loop-again : tie.Need-loop-again Inv-loop μ-loop
 loop-again c =
     let t = c .before in
     let l = asked (t .before) in
-    below-more _ (l .loop .i) (l .loop .inv) (sym (tested t) ∙ not-false _ (c .if1 .left))
-
-returns-2 : tie.Need-returns-2 Inv-loop μ-loop
-returns-2 c = sym (bench-judges _ _ .done (λ k h. c .before .loop .inv k (omega (arith, h, c .loop-test .left, c .before .before .goals-in .ensures))))
+    below-more _ (l .loop .i) (l .loop .inv) (is-so (tested t) (c .if1 .left))
 
 pub benches-spec : {M : Type 1} → f.Statement.statement M
 benches-spec =
-    tie.close (tie.spec Inv-loop μ-loop (λ c κs. search needs) (λ c k h. absurd (omega arith)) (λ c κs. omega (arith, c .loop-test .taken, c .before .before .goals-in .ensures))
-    (λ c κs. search needs) (λ c κs. search needs) returns (λ c. omega arith) (λ c. omega arith) loop-again returns-2)
+    tie.close (tie.spec Inv-loop μ-loop (search needs) (λ c k h. absurd (omega arith)) (search needs)
+    (search needs) (search needs) returns (omega arith) (omega arith) loop-again (λ c. sym (bench-judges _ _ .done (λ k h. c .before .loop .inv k (omega arith)))))

@@ -16,6 +16,6 @@ returns c = λ f e. c .refuse-at .ensures ∙ sym (figures-names f _ _ (omega ar
 
 pub figures-spec : {M : Type 1} → f.Statement.statement M
 figures-spec =
-    tie.close (tie.spec Inv-loop μ-loop (λ c. (omega arith, λ k h. absurd (omega arith))) (λ c. search needs) (λ c. search needs) (λ c κs. search needs) returns (λ c. search needs)
-    (λ c. omega arith) (λ c. (omega arith, below-more _ _ (c .before .before .before .loop .inv .1) (le-ltb _ _ (c .if1 .left))))
+    tie.close (tie.spec Inv-loop μ-loop (λ c. (omega arith, λ k h. absurd (omega arith))) (search needs) (search needs) (search needs) returns (search needs)
+    (omega arith) (λ c. (omega arith, below-more _ _ (c .before .before .before .loop .inv .1) (le-ltb _ _ (c .if1 .left))))
     (λ c. λ f e. sym (figures-done f _ (λ k h. c .before .loop .inv .1 k (omega arith)))))

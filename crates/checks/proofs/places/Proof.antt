@@ -10,5 +10,5 @@ returns-2 c = c .refuse .ensures ∙ sym (places-judges _ _ _ .refused (λ h. ne
 
 pub places-spec : {M : Type 1} → f.Statement.statement M
 places-spec =
-    tie.close (tie.spec (λ c κs. search needs) (λ c κs. search needs) (λ c. c .benches .ensures ∙ sym (places-next _ _ _ (sym (c .before .before .is-free .ensures) ∙ c .before .if1 .taken)))
-    (λ c κs. search needs) returns-2)
+    tie.close (tie.spec (search needs) (search needs) (λ c. c .benches .ensures ∙ sym (places-next _ _ _ (sym (c .before .before .is-free .ensures) ∙ c .before .if1 .taken)))
+    (search needs) returns-2)
