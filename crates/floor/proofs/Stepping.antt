@@ -119,9 +119,6 @@ module _ (f : Floor) (z : Sized f) (x : ℕ) (on : x < size f) where
 pub north-off : (f : Floor) (x : ℕ) → row f x ≤ 0 → blockedByte ≡ northByte f x
 north-off f x h = barred (ltb 0 (row f x)) (getD (f .bytes) (x - f .width) 0) (le-ltb 0 (row f x) h)
 
-pub west-off : (f : Floor) (x : ℕ) → column f x ≤ 0 → blockedByte ≡ westByte f x
-west-off f x h = barred (ltb 0 (column f x)) (getD (f .bytes) (x - 1) 0) (le-ltb 0 (column f x) h)
-
 pub east-off : (f : Floor) (x : ℕ) → f .width ≤ column f x + 1 → blockedByte ≡ eastByte f x
 east-off f x h = barred (ltb (column f x + 1) (f .width)) (getD (f .bytes) (x + 1) 0) (le-ltb (column f x + 1) (f .width) h)
 

@@ -2,12 +2,12 @@
 -- and the goals entered one after another. Assumes nothing.
 use Prim.Native.Nat.{ℕ, zero, suc, _+_, _-_, _/_, _%_, _≤_, _<_}
 use mathlib.Core.Path.{_≡_, refl, sym, ap, ap₂, _∙_, subst}
-use mathlib.Core.Bool.{Bool, true, false, not}
+use mathlib.Core.Bool.{false}
 use mathlib.Core.List.{List}
 use native.Mathlib.Decide.{ℕ-discrete}
 use native.Mathlib.Numerals.{unary-clauses}
 use native.Mathlib.Omega.{arith}
-use borrow.Author.Tests.{lt-ltb, le-ltb, not-true, not-false}
+use borrow.Author.Tests.{lt-ltb, le-ltb}
 use lib.ListN.{length, getD, set, length-set}
 use lib.Seq.{getD-set-same, getD-set-other}
 use Rattle.learning.specs.Ground.{pick}
@@ -21,14 +21,6 @@ use Rattle.floor.proofs.Steps.{stepped, step-can}
 use Rattle.opening.specs.Search.{none, Queue}
 use Rattle.opening.specs.Chain.{links, end, entry, distAt, nextAt, cellAt, Chain, entered, lined, Entered, stays, enters, Enterable, Follows}
 use Rattle.opening.proofs.Queue.{Put, put-at, queue-near, followed-none, followed-stays, followed-enters, followed-blocked}
-
--- ---- a negated test that the code made, of what the model says
-
-pub not-so : {r b : Bool} → r ≡ b → not r ≡ true → b ≡ false
-not-so e t = sym e ∙ not-true _ t
-
-pub is-so : {r b : Bool} → r ≡ b → not r ≡ false → b ≡ true
-is-so e t = sym e ∙ not-false _ t
 
 -- ---- entries
 
@@ -207,9 +199,6 @@ pub record Lining (l₁ gs l : List ℕ) (last i : ℕ) : Type 0 where
   pub final : last ≡ getD gs (i - 1) 0
 
 module _ (l₁ gs : List ℕ) where
-  pub lining-one : {g : ℕ} → 1 ≤ length gs → g ≡ getD gs 0 0 → Lining l₁ gs l₁ g 1
-  lining-one h e = record { some = omega arith; upto = h; list = λ l₀ t. t; final = e }
-
   pub lining-more : {l l′ : List ℕ} {last g i : ℕ} → Lining l₁ gs l last i → i < length gs → g ≡ getD gs i 0 → l′ ≡ entered l last g 0 → Lining l₁ gs l′ g (i + 1)
   lining-more {l} {l′} {last} {g} {i} L h e t = record {
     some = omega arith;

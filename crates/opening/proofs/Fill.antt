@@ -28,9 +28,6 @@ pub record Changed (g : ℕ → ℕ) (l₀ : List ℕ) (i : ℕ) (l : List ℕ) 
   pub rest : (k : ℕ) → i ≤ k → getD l k 0 ≡ getD l₀ k 0
 
 module _ (g : ℕ → ℕ) (l₀ : List ℕ) where
-  pub changed-none : Changed g l₀ 0 l₀
-  changed-none = record { upto = omega arith; long = refl; done = λ k h. absurd (omega arith); rest = λ k h. refl }
-
   pub changed-more : (i v : ℕ) (l : List ℕ) → Changed g l₀ i l → i < length l₀ → v ≡ g (getD l i 0) → Changed g l₀ (i + 1) (set l i v)
   changed-more i v l C h e = record {
     upto = omega arith;

@@ -16,7 +16,7 @@ abbrev start : tie.At-loop Inv-loop μ-loop → tie.Start Inv-loop μ-loop
 start c = c .before .before .before .before .before
 
 many : (c : tie.At-loop Inv-loop μ-loop) → length (goalsOf (start c .args .goals)) ≡ start c .args .goals .count
-many c = omega (arith, goals-many (start c .args .goals), c .before .if2 .left)
+many c = omega (arith, goals-many (start c .args .goals))
 
 -- the loop, from where the goal at i and the one before it are looked up
 abbrev turn : tie.After-goal-at2 Inv-loop μ-loop → tie.At-loop Inv-loop μ-loop
@@ -50,7 +50,7 @@ returns-4 c = sym (goals-judges _ .done (record { one = omega arith; few = omega
 
 pub goals-hold-spec : {M : Type 1} → f.Statement.statement M
 goals-hold-spec =
-    tie.close (tie.spec Inv-loop μ-loop (search needs) (λ c. c .refuse .ensures ∙ sym (goals-judges _ .refused (omega arith)))
-    (search needs) (λ c. c .refuse2 .ensures ∙ sym (goals-judges _ .refused (omega arith))) (λ c. (omega arith, λ k h. absurd (omega arith)))
-    (λ c κs. omega (arith, c .loop-test .taken, many (c .before))) (λ c. c .before .before .loop .inv .0) (λ c κs. omega (arith, c .before .loop-test .taken, many (c .before .before)))
+    tie.close (tie.spec Inv-loop μ-loop (search needs) (λ c. c .refuse .ensures ∙ sym (goals-judges _ .refused (omega arith))) (search needs)
+    (λ c. c .refuse2 .ensures ∙ sym (goals-judges _ .refused (omega arith))) (omega arith)
+    (λ c κs. omega (arith, many (c .before))) (search needs) (λ c κs. omega (arith, many (c .before .before)))
     (search needs) returns-3 (omega arith) (omega arith) loop-again returns-4)

@@ -1,8 +1,9 @@
 -- `opening::search::follow` meets its contract. The invariant: the first m moves have been followed. No move leads from a blocked cell.
 use Rattle.learning.proofs.Words.{_-_, _≤_, needs, arith}
 use Rattle.floor.specs.Moves.{flat, cost}
-use Rattle.opening.proofs.Chain.{not-so, is-so, follows-none, follows-blocked, follows-more, follows-all}
+use Rattle.opening.proofs.Chain.{follows-none, follows-blocked, follows-more, follows-all}
 use Rattle.opening.specs.Chain.{Follows}
+use Rattle.floor.proofs.Steps.{not-so, is-so}
 use Rattle.opening.proofs.search.follow as f
 use f.Tie as tie
 

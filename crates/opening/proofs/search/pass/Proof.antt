@@ -1,6 +1,7 @@
 -- `opening::search::pass` meets its contract, by whether the move can have the cost.
 use Rattle.learning.proofs.Words.{needs}
-use Rattle.opening.proofs.Chain.{not-so, enterable, passed-over}
+use Rattle.opening.proofs.Chain.{enterable, passed-over}
+use Rattle.floor.proofs.Steps.{not-so}
 use Rattle.opening.proofs.search.pass as f
 use f.Tie as tie
 
