@@ -198,7 +198,7 @@ pub record Lining (l₁ gs l : List ℕ) (last i : ℕ) : Type 0 where
   -- which of them is the last
   pub final : last ≡ getD gs (i - 1) 0
 
-module _ (l₁ gs : List ℕ) where
+module _ {l₁ gs : List ℕ} where
   pub lining-more : {l l′ : List ℕ} {last g i : ℕ} → Lining l₁ gs l last i → i < length gs → g ≡ getD gs i 0 → l′ ≡ entered l last g 0 → Lining l₁ gs l′ g (i + 1)
   lining-more {l} {l′} {last} {g} {i} L h e t = record {
     some = omega arith;

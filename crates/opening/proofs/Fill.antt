@@ -27,14 +27,14 @@ pub record Changed (g : ℕ → ℕ) (l₀ : List ℕ) (i : ℕ) (l : List ℕ) 
   pub done : Filled (λ k. g (getD l₀ k 0)) i l
   pub rest : (k : ℕ) → i ≤ k → getD l k 0 ≡ getD l₀ k 0
 
-module _ (g : ℕ → ℕ) (l₀ : List ℕ) where
-  pub changed-more : (i v : ℕ) (l : List ℕ) → Changed g l₀ i l → i < length l₀ → v ≡ g (getD l i 0) → Changed g l₀ (i + 1) (set l i v)
-  changed-more i v l C h e = record {
+module _ {g : ℕ → ℕ} {l₀ : List ℕ} {i : ℕ} {l : List ℕ} (C : Changed g l₀ i l) where
+  pub changed-more : {v : ℕ} → i < length l₀ → v ≡ g (getD l i 0) → Changed g l₀ (i + 1) (set l i v)
+  changed-more {v} h e = record {
     upto = omega arith;
     long = length-set l i v ∙ C .long;
     done = fill-more _ i v l (omega (arith, C .long)) (e ∙ ap g (C .rest i (omega arith))) (C .done);
     rest = λ k o. getD-set-other l i k v 0 (λ q. omega arith) ∙ C .rest k (omega arith);
   }
 
-  pub changed-all : (i : ℕ) (l : List ℕ) → Changed g l₀ i l → length l₀ ≤ i → l ≡ listOf (length l₀) (λ k. g (getD l₀ k 0))
-  changed-all i l C h = fill-all _ (length l₀) l (C .long) (λ k o. C .done k (omega arith))
+  pub changed-all : length l₀ ≤ i → l ≡ listOf (length l₀) (λ k. g (getD l₀ k 0))
+  changed-all h = fill-all _ (length l₀) l (C .long) (λ k o. C .done k (omega arith))

@@ -31,23 +31,19 @@ listed c = c .loop .inv .list _ (ap₂ (set (begun c .args .list .now)) (c .befo
 long : (c : tie.At-loop Inv-loop μ-loop) → length (c .loop .list) ≡ length (begun c .args .list .now)
 long c = ap length (listed c) ∙ lined-long _ _ _
 
--- the goal that is next
-more : (c : tie.In-loop Inv-loop μ-loop) → c .before .loop .i < length (goalsOf (begun (c .before) .args .goals))
-more c = omega arith
-
 enter-requires : tie.Need-enter-requires Inv-loop μ-loop
 enter-requires c κs =
     let l = c .before .before .before in
     let s = begun l in
     let L = l .loop .inv in
-    let g = on s _ _ (more (c .before .before)) (c .before .goal-at2 .ensures) in
-    (omega (arith, on s _ _ (omega (arith, L .some, L .upto)) (L .final), long l), omega (arith, g, long l), omega arith, omega arith)
+    let g = on s _ _ (omega arith) (c .before .goal-at2 .ensures) in
+    (omega (arith, on s _ _ (omega arith) (L .final), long l), omega (arith, g, long l), omega arith, omega arith)
 
 loop-again : tie.Need-loop-again Inv-loop μ-loop
 loop-again c =
     let e = c .before .before in
     let g = e .before .before in
-    lining-more _ _ (g .before .before .loop .inv) (more (g .before)) (g .goal-at2 .ensures) (e .enter .ensures)
+    lining-more (g .before .before .loop .inv) (omega arith) (g .goal-at2 .ensures) (e .enter .ensures)
 
 returns : tie.Need-returns Inv-loop μ-loop
 returns c =

@@ -1,8 +1,7 @@
 -- `opening::search::explore` meets its contract: there are as many places as the floor's moves have costs, each at the first goal.
-use Rattle.learning.proofs.Words.{ℕ, _*_, needs, length, replicate, _≡_, refl, sym, ap, _∙_, subst, arith}
+use Rattle.learning.proofs.Words.{ℕ, _*_, needs, length, replicate, _≡_, refl, sym, ap, _∙_, arith}
 use Rattle.learning.proofs.Spread.{list-length}
 use Rattle.model.specs.Floor.{goalsOf}
-use Rattle.model.specs.Checks.{Benched}
 use Rattle.model.proofs.Moves.{sized-cells}
 use Rattle.floor.specs.Moves.{flat, allKinds}
 use Rattle.floor.proofs.Steps.{kinds-between, kinds-fewer}
@@ -15,7 +14,7 @@ begin-requires : tie.Need-begin-requires
 begin-requires c κs =
     let s = c .before .before .before in
     let long : length (s .args .list .now) ≡ s .args .width * s .args .height = ap length (s .pre .2) ∙ list-length _ (λ x. blank) in
-    (subst (λ n. Benched n (goalsOf (s .args .goals))) (sym long) (s .pre .1), omega (arith, long, sized-cells (s .pre .0)))
+    (rw long (s .pre .1), omega (arith, long, sized-cells (s .pre .0)))
 
 -- the places: the goals in the queue, from where the costs are known; and the start, from there
 abbrev lined-up : tie.After-kinds-on → tie.After-begin

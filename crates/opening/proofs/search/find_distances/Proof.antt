@@ -7,9 +7,6 @@ use f.Tie as tie
 abbrev at-start : tie.After-clear → tie.Start
 at-start c = c .before .before .before .before
 
-explore-requires : tie.Need-explore-requires
-explore-requires c κs = search (needs, ← (at-start (c .before .before .before) .pre .1))
-
 returns : tie.Need-returns
 returns c =
     let s = c .before .before .before .before .before .before in
@@ -18,4 +15,4 @@ returns c =
     certified-distances _ (p .0) (s .explore .kept .1 .1 .1 .1 .0 ∙ e .clear .kept .0 ∙ p .1) (s .explore .ensures) (c .before .before .unpack .ensures)
 
 pub find-distances-spec : {M : Type 1} → f.Statement.statement M
-find-distances-spec = tie.close (tie.spec (search needs) explore-requires (search needs) (search needs) returns)
+find-distances-spec = tie.close (tie.spec (search needs) (λ c κs. search (needs, ← (at-start (c .before .before .before) .pre .1))) (search needs) (search needs) returns)

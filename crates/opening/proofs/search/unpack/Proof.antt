@@ -11,16 +11,9 @@ Inv-loop list₀ i₀ list i = Changed (λ w. plain (w / links)) list₀ i list
 abbrev μ-loop : tie.MeasureT-loop
 μ-loop list₀ i₀ list i = length list₀ - i
 
-loop-again : tie.Need-loop-again Inv-loop μ-loop
-unfolding distAt
-loop-again c = changed-more _ _ _ _ _ (c .before .before .before .before .loop .inv) (omega arith) (c .plain .ensures ∙ ap plain (c .before .dist-at .ensures .0))
-
-returns : tie.Need-returns Inv-loop μ-loop
-unfolding distAt
-returns c = changed-all _ _ _ _ (c .before .loop .inv) (omega arith)
-
 pub unpack-spec : {M : Type 1} → f.Statement.statement M
+unfolding distAt
 unpack-spec =
     tie.close (tie.spec Inv-loop μ-loop (search needs) (search needs) (search needs) (search needs)
-    (search needs) (search needs) (omega arith) loop-again
-    (search needs) returns)
+    (search needs) (search needs) (omega arith) (λ c. changed-more (c .before .before .before .before .loop .inv) (omega arith) (c .plain .ensures ∙ ap plain (c .before .dist-at .ensures .0)))
+    (search needs) (λ c. changed-all (c .before .loop .inv) (omega arith)))
