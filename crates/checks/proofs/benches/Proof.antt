@@ -36,5 +36,5 @@ loop-again c =
 
 pub benches-spec : {M : Type 1} → f.Statement.statement M
 benches-spec =
-    tie.close (tie.spec Inv-loop μ-loop (search needs) (λ c k h. absurd (omega arith)) (search needs)
-    (search needs) (search needs) returns (omega arith) (omega arith) loop-again (λ c. sym (bench-judges _ _ .done (λ k h. c .before .loop .inv k (omega arith)))))
+    tie.close (tie.spec Inv-loop μ-loop (search needs) (λ c k h. absurd (omega arith)) (search needs) (search needs) (search needs) returns (omega arith) (omega arith) loop-again
+    (λ c. sym (bench-judges _ _ .done (λ k h. c .before .loop .inv k (omega arith)))))

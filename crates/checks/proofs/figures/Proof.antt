@@ -14,6 +14,5 @@ abbrev μ-loop : tie.MeasureT-loop
 pub figures-spec : {M : Type 1} → f.Statement.statement M
 figures-spec =
     tie.close (tie.spec Inv-loop μ-loop (λ c. (omega arith, λ k h. absurd (omega arith))) (search needs) (search needs) (search needs)
-    (λ c f e. c .refuse-at .ensures ∙ sym (figures-names f _ _ (omega arith) (c .before .before .before .before .loop .inv .1) (c .before .if1 .taken))) (search needs)
-    (omega arith) (λ c. (omega arith, below-more _ _ (c .before .before .before .loop .inv .1) (le-ltb _ _ (c .if1 .left))))
-    (λ c f e. sym (figures-done f _ (λ k h. c .before .loop .inv .1 k (omega arith)))))
+    (λ c f e. c .refuse-at .ensures ∙ sym (figures-names f _ _ (omega arith) (c .before .before .before .before .loop .inv .1) (c .before .if1 .taken))) (search needs) (omega arith)
+    (λ c. (omega arith, below-more _ _ (c .before .before .before .loop .inv .1) (le-ltb _ _ (c .if1 .left)))) (λ c f e. sym (figures-done f _ (λ k h. c .before .loop .inv .1 k (omega arith)))))

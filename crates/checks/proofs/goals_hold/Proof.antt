@@ -51,6 +51,5 @@ returns-4 c = sym (goals-judges _ .done (record { one = omega arith; few = omega
 pub goals-hold-spec : {M : Type 1} → f.Statement.statement M
 goals-hold-spec =
     tie.close (tie.spec Inv-loop μ-loop (search needs) (λ c. c .refuse .ensures ∙ sym (goals-judges _ .refused (omega arith))) (search needs)
-    (λ c. c .refuse2 .ensures ∙ sym (goals-judges _ .refused (omega arith))) (omega arith)
-    (λ c κs. omega (arith, many (c .before))) (search needs) (λ c κs. omega (arith, many (c .before .before)))
-    (search needs) returns-3 (omega arith) (omega arith) loop-again returns-4)
+    (λ c. c .refuse2 .ensures ∙ sym (goals-judges _ .refused (omega arith))) (omega arith) (λ c κs. omega (arith, many (c .before))) (search needs)
+    (λ c κs. omega (arith, many (c .before .before))) (search needs) returns-3 (omega arith) (omega arith) loop-again returns-4)

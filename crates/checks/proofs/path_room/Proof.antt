@@ -5,5 +5,4 @@ use Rattle.checks.proofs.path_room as f
 use f.Tie as tie
 
 pub path-room-spec : {M : Type 1} → f.Statement.statement M
-path-room-spec =
-    tie.close (tie.spec (search needs) (λ c f e. c .refuse .ensures ∙ sym (path-judges f _ .refused (omega arith))) (λ c f e. sym (path-judges f _ .done (omega arith))))
+path-room-spec = tie.close (tie.spec (search needs) (λ c f e. c .refuse .ensures ∙ sym (path-judges f _ .refused (omega arith))) (λ c f e. sym (path-judges f _ .done (omega arith))))

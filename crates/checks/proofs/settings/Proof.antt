@@ -7,6 +7,6 @@ use f.Tie as tie
 pub settings-spec : {M : Type 1} → f.Statement.statement M
 settings-spec =
     tie.close (tie.spec (search needs) (λ c. c .refuse .ensures ∙ sym (settings-judges _ .refused (omega arith))) (search needs)
-    (λ c. c .refuse2 .ensures ∙ sym (settings-judges _ .refused (omega arith))) (search needs) (λ c. c .refuse3 .ensures ∙ sym (settings-judges _ .refused (omega arith)))
-    (search needs) (λ c. c .refuse4 .ensures ∙ sym (settings-judges _ .refused (omega arith))) (search needs)
-    (λ c. c .refuse5 .ensures ∙ sym (settings-judges _ .refused (omega arith))) (search needs) (λ c. c .refuse6 .ensures ∙ sym (settings-judges _ .refused (omega arith))) (λ c. sym (settings-judges _ .done (omega arith))))
+    (λ c. c .refuse2 .ensures ∙ sym (settings-judges _ .refused (omega arith))) (search needs) (λ c. c .refuse3 .ensures ∙ sym (settings-judges _ .refused (omega arith))) (search needs)
+    (λ c. c .refuse4 .ensures ∙ sym (settings-judges _ .refused (omega arith))) (search needs) (λ c. c .refuse5 .ensures ∙ sym (settings-judges _ .refused (omega arith))) (search needs)
+    (λ c. c .refuse6 .ensures ∙ sym (settings-judges _ .refused (omega arith))) (λ c. sym (settings-judges _ .done (omega arith))))

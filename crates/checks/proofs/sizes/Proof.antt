@@ -8,8 +8,7 @@ use f.Tie as tie
 pub sizes-spec : {M : Type 1} → f.Statement.statement M
 sizes-spec =
     tie.close (tie.spec (search needs) (λ c. c .refuse .ensures ∙ sym (sizes-judges _ _ .refused (omega arith))) (search needs)
-    (λ c. c .refuse2 .ensures ∙ sym (sizes-judges _ _ .refused (omega arith))) (search needs) (λ c. c .refuse3 .ensures ∙ sym (sizes-judges _ _ .refused (omega arith)))
-    (search needs) (λ c. c .refuse4 .ensures ∙ sym (sizes-judges _ _ .refused (omega arith)))
-    (λ c. record { fits = lt-of-le-of-lt (cells-le _ _ (omega arith) (omega arith)) (lit< tt) }) (search needs)
-    (λ c. c .refuse5 .ensures ∙ sym (sizes-judges _ _ .refused (omega arith))) (search needs) (search needs)
-    (λ c. c .refuse6 .ensures ∙ sym (sizes-judges _ _ .refused (omega arith))) (λ c. sym (sizes-judges _ _ .done (omega arith))))
+    (λ c. c .refuse2 .ensures ∙ sym (sizes-judges _ _ .refused (omega arith))) (search needs) (λ c. c .refuse3 .ensures ∙ sym (sizes-judges _ _ .refused (omega arith))) (search needs)
+    (λ c. c .refuse4 .ensures ∙ sym (sizes-judges _ _ .refused (omega arith))) (λ c. record { fits = lt-of-le-of-lt (cells-le _ _ (omega arith) (omega arith)) (lit< tt) }) (search needs)
+    (λ c. c .refuse5 .ensures ∙ sym (sizes-judges _ _ .refused (omega arith))) (search needs) (search needs) (λ c. c .refuse6 .ensures ∙ sym (sizes-judges _ _ .refused (omega arith)))
+    (λ c. sym (sizes-judges _ _ .done (omega arith))))

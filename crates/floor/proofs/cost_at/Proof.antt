@@ -5,5 +5,4 @@ use f.Tie as tie
 
 pub cost-at-spec : {M : Type 1} → f.Statement.statement M
 cost-at-spec =
-    tie.close (tie.spec (search needs) (search needs) (λ c. search needs) (λ c. search needs) (λ c. search needs)
-    (λ c. let e : c .before .args .k ≡ 3 = omega arith in (rw e, omega arith)))
+    tie.close (tie.spec (search needs) (search needs) (λ c. search needs) (λ c. search needs) (λ c. search needs) (λ c. let e : c .before .args .k ≡ 3 = omega arith in (rw e, omega arith)))

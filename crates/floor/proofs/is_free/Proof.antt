@@ -12,5 +12,4 @@ returns c =
     sym (ap (λ t. t && freeByte (getD (a .floor .now) (a .cell) 0)) (le-ltb (a .cell) _ (omega arith)))
 
 pub is-free-spec : {M : Type 1} → f.Statement.statement M
-is-free-spec =
-    tie.close (tie.spec returns (search needs) (search needs) (λ c. c .free-byte .ensures ∙ sym (byte-tells _ _ (omega arith))))
+is-free-spec = tie.close (tie.spec returns (search needs) (search needs) (λ c. c .free-byte .ensures ∙ sym (byte-tells _ _ (omega arith))))

@@ -16,5 +16,4 @@ loop-again c = rw (c .kinds-after .ensures) (search (needs, counted-more))
 
 pub kinds-on-spec : {M : Type 1} → f.Statement.statement M
 kinds-on-spec =
-    tie.close (tie.spec Inv-loop μ-loop (λ c. search (needs, counted-none)) (search needs) (search needs) (omega arith) (omega arith) loop-again
-    (λ c. search (needs, counted-all)))
+    tie.close (tie.spec Inv-loop μ-loop (λ c. search (needs, counted-none)) (search needs) (search needs) (omega arith) (omega arith) loop-again (λ c. search (needs, counted-all)))

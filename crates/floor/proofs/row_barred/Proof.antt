@@ -6,7 +6,5 @@ use f.Tie as tie
 
 pub row-barred-spec : {M : Type 1} → f.Statement.statement M
 row-barred-spec =
-    tie.close (tie.spec (search needs) (search needs)
-    (λ c. unless-low (omega arith) (c .free-byte .ensures)) (search needs)
-    (λ c. unless-high (omega arith) (c .free-byte2 .ensures))
+    tie.close (tie.spec (search needs) (search needs) (λ c. unless-low (omega arith) (c .free-byte .ensures)) (search needs) (λ c. unless-high (omega arith) (c .free-byte2 .ensures))
     (λ c. unless-neither (omega arith) (omega arith)))

@@ -6,7 +6,5 @@ use f.Tie as tie
 
 pub spot-of-spec : {M : Type 1} → f.Statement.statement M
 spot-of-spec =
-    tie.close (tie.spec (search needs) (λ c. omega (arith, free-below _ _ (c .before .before .pre .1)))
-    (λ c κs. search (needs, free-below)) (λ c κs. search (needs, free-below))
-    (λ c κs. search (needs, free-below))
-    (λ c κs. search (needs, free-below)) (λ c. search needs))
+    tie.close (tie.spec (search needs) (λ c. omega (arith, free-below _ _ (c .before .before .pre .1))) (λ c κs. search (needs, free-below)) (λ c κs. search (needs, free-below))
+    (λ c κs. search (needs, free-below)) (λ c κs. search (needs, free-below)) (λ c. search needs))

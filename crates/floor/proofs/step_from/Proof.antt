@@ -39,4 +39,5 @@ pub step-from-spec : {M : Type 1} → f.Statement.statement M
 step-from-spec =
     tie.close (tie.spec (search needs) (λ c. search (needs, wall-row, c .before .row-barred .ensures .fails)) (search needs)
     (λ c. search (needs, wall-column, c .before .column-barred .ensures .fails)) (search needs) (λ c. omega (arith, space c)) (λ c. omega (arith, space c)) (search needs)
-    (λ c. omega (arith, space (c .before))) (search needs) (λ c. omega (arith, space (c .before))) byte-ahead-requires (search needs) returns-3 (λ c κs. search (needs, here-free, is-so)) returns-4)
+    (λ c. omega (arith, space (c .before))) (search needs) (λ c. omega (arith, space (c .before))) byte-ahead-requires (search needs) returns-3 (λ c κs. search (needs, here-free, is-so))
+    returns-4)

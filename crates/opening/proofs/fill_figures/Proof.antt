@@ -35,6 +35,5 @@ returns c bytes = let l = c .before in fill-all _ _ _ (l .loop .inv .1 ∙ start
 
 pub fill-figures-spec : {M : Type 1} → f.Statement.statement M
 fill-figures-spec =
-    tie.close (tie.spec Inv-loop μ-loop (search needs)
-    (λ c κs. let p = start (c .before) .pre in (p .0, (p .1, (p .2, (p .3, (omega arith, p .4)))))) cast-table (search needs) (search needs) (search needs) (omega arith)
-    loop-again (search needs) returns)
+    tie.close (tie.spec Inv-loop μ-loop (search needs) (λ c κs. let p = start (c .before) .pre in (p .0, (p .1, (p .2, (p .3, (omega arith, p .4)))))) cast-table (search needs) (search needs)
+    (search needs) (omega arith) loop-again (search needs) returns)

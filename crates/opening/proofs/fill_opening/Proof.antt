@@ -17,6 +17,4 @@ returns-2 c =
     fills-done _ _ _ _ (sym (opened .enum-told .given .1) ∙ opened .before .before .open-table .ensures) (filled .fill-figures .ensures _)
 
 pub fill-opening-spec : {M : Type 1} → f.Statement.statement M
-fill-opening-spec =
-    tie.close (tie.spec (search needs) (search needs) (search needs) (λ c. search (needs, fills-refused))
-    fill-figures-requires (search needs) returns-2)
+fill-opening-spec = tie.close (tie.spec (search needs) (search needs) (search needs) (λ c. search (needs, fills-refused)) fill-figures-requires (search needs) returns-2)

@@ -10,6 +10,4 @@ returns : tie.Need-returns
 returns c = rw (lt-ltb _ _ (c .before .before .if1 .taken), c .before .wide32 .ensures .0, c .wide322 .ensures .0)
 
 pub is-above-spec : {M : Type 1} → f.Statement.statement M
-is-above-spec =
-    tie.close (tie.spec (search needs) mul-result (search needs) returns
-    (λ c. rw (le-ltb _ _ (c .if1 .left))))
+is-above-spec = tie.close (tie.spec (search needs) mul-result (search needs) returns (λ c. rw (le-ltb _ _ (c .if1 .left))))

@@ -5,6 +5,4 @@ use Rattle.opening.proofs.run_settings as f
 use f.Tie as tie
 
 pub run-settings-spec : {M : Type 1} → f.Statement.statement M
-run-settings-spec =
-    tie.close (tie.spec (search needs) (search needs) (search needs) (λ c. search (needs, then-stops))
-    (search needs) (λ c. search (needs, then-goes)))
+run-settings-spec = tie.close (tie.spec (search needs) (search needs) (search needs) (λ c. search (needs, then-stops)) (search needs) (λ c. search (needs, then-goes)))

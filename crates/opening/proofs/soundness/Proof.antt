@@ -11,5 +11,4 @@ judge-in-requires : tie.Need-judge-in-requires
 judge-in-requires c κs = (c .before .before .before .before .pre, simp length-take (omega (arith, fits (c .before))))
 
 pub soundness-spec : {M : Type 1} → f.Statement.statement M
-soundness-spec =
-    tie.close (tie.spec (search needs) fits (λ c. sym (length-take-le _ (c .before .no-distances .result) (fits (c .before)))) judge-in-requires (λ c. search needs))
+soundness-spec = tie.close (tie.spec (search needs) fits (λ c. sym (length-take-le _ (c .before .no-distances .result) (fits (c .before)))) judge-in-requires (λ c. search needs))

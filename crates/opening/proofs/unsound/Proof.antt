@@ -22,5 +22,5 @@ loop-again c = (omega arith, below-more _ _ (c .before .before .before .before .
 
 pub unsound-spec : {M : Type 1} → f.Statement.statement M
 unsound-spec =
-    tie.close (tie.spec Inv-loop μ-loop (λ c. (omega arith, λ k h. absurd (omega arith))) (search needs) (search needs) (search needs) (search needs)
-    (search needs) (search needs) returns (search needs) (omega arith) loop-again (λ c. sym (naming-done _ _ 7 (λ k h. c .before .loop .inv .1 k (omega arith)))))
+    tie.close (tie.spec Inv-loop μ-loop (λ c. (omega arith, λ k h. absurd (omega arith))) (search needs) (search needs) (search needs) (search needs) (search needs) (search needs) returns
+    (search needs) (omega arith) loop-again (λ c. sym (naming-done _ _ 7 (λ k h. c .before .loop .inv .1 k (omega arith)))))

@@ -25,5 +25,5 @@ loop-again c =
 
 pub is-goal-spec : {M : Type 1} → f.Statement.statement M
 is-goal-spec =
-    tie.close (tie.spec Inv-loop μ-loop (search needs) (omega arith) (search needs) returns
-    (omega arith) (omega arith) loop-again (λ c. sym (no-member _ _ (λ k h. c .before .loop .inv k (omega arith)))))
+    tie.close (tie.spec Inv-loop μ-loop (search needs) (omega arith) (search needs) returns (omega arith) (omega arith) loop-again
+    (λ c. sym (no-member _ _ (λ k h. c .before .loop .inv k (omega arith)))))

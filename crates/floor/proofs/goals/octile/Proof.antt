@@ -37,5 +37,5 @@ returns c bytes = cc
 
 pub octile-spec : {M : Type 1} → f.Statement.statement M
 octile-spec =
-    tie.close (tie.spec (search needs) (search needs) (search needs) (search needs) (search needs) (search needs) (search needs)
-    (λ c. omega (arith, smaller-lt c)) (search needs) (λ c. omega (arith, gap3-lt c)) (λ c. omega (arith, smaller-lt (c .before), gap3-lt c)) mul-result-3 returns)
+    tie.close (tie.spec (search needs) (search needs) (search needs) (search needs) (search needs) (search needs) (search needs) (λ c. omega (arith, smaller-lt c)) (search needs)
+    (λ c. omega (arith, gap3-lt c)) (λ c. omega (arith, smaller-lt (c .before), gap3-lt c)) mul-result-3 returns)

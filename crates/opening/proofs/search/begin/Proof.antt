@@ -53,7 +53,5 @@ returns c =
 
 pub begin-spec : {M : Type 1} → f.Statement.statement M
 begin-spec =
-    tie.close (tie.spec Inv-loop μ-loop (search needs) (search needs) (search needs)
-    (λ c. let s = start c in omega (arith, on s _ 0 (s .pre .0 .one) (c .before .goal-at .ensures), s .pre .1))
-    (λ c. search (needs, on (start c))) (λ c. search needs) (search needs)
-    enter-requires (search needs) (omega arith) loop-again (λ c. long (c .before)) returns)
+    tie.close (tie.spec Inv-loop μ-loop (search needs) (search needs) (search needs) (λ c. let s = start c in omega (arith, on s _ 0 (s .pre .0 .one) (c .before .goal-at .ensures), s .pre .1))
+    (λ c. search (needs, on (start c))) (λ c. search needs) (search needs) enter-requires (search needs) (omega arith) loop-again (λ c. long (c .before)) returns)

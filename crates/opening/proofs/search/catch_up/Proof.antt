@@ -13,7 +13,5 @@ abbrev μ-loop : tie.MeasureT-loop
 
 pub catch-up-spec : {M : Type 1} → f.Statement.statement M
 catch-up-spec =
-    tie.close (tie.spec Inv-loop μ-loop (search needs) (search needs) (search needs) (search needs)
-    (search needs) (search needs) (search needs) (omega arith)
-    (λ c. changed-more (c .before .before .before .loop .inv) (omega arith) (c .caught .ensures)) (search needs)
-    (λ c. changed-all (c .before .loop .inv) (omega arith)))
+    tie.close (tie.spec Inv-loop μ-loop (search needs) (search needs) (search needs) (search needs) (search needs) (search needs) (search needs) (omega arith)
+    (λ c. changed-more (c .before .before .before .loop .inv) (omega arith) (c .caught .ensures)) (search needs) (λ c. changed-all (c .before .loop .inv) (omega arith)))

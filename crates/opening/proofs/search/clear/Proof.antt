@@ -13,5 +13,5 @@ abbrev μ-loop : tie.MeasureT-loop
 
 pub clear-spec : {M : Type 1} → f.Statement.statement M
 clear-spec =
-    tie.close (tie.spec Inv-loop μ-loop (search needs) (search needs) (search needs) (search needs)
-    (search needs) (omega arith) (λ c. search (needs, fill-more)) (search needs) (λ c. fill-all _ _ _ (c .before .loop .inv .1) (λ k h. c .before .loop .inv .2 k (omega arith))))
+    tie.close (tie.spec Inv-loop μ-loop (search needs) (search needs) (search needs) (search needs) (search needs) (omega arith) (λ c. search (needs, fill-more)) (search needs)
+    (λ c. fill-all _ _ _ (c .before .loop .inv .1) (λ k h. c .before .loop .inv .2 k (omega arith))))

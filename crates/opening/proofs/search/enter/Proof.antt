@@ -4,6 +4,4 @@ use Rattle.opening.proofs.search.enter as f
 use f.Tie as tie
 
 pub enter-spec : {M : Type 1} → f.Statement.statement M
-enter-spec =
-    tie.close (tie.spec (search needs) (search needs) (search needs) (search needs) (search needs) (search needs) (λ c. search needs)
-    (search needs) (λ c. cc))
+enter-spec = tie.close (tie.spec (search needs) (search needs) (search needs) (search needs) (search needs) (search needs) (λ c. search needs) (search needs) (λ c. cc))

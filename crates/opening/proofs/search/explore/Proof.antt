@@ -44,6 +44,5 @@ spread-slow-requires c κs =
 
 pub explore-spec : {M : Type 1} → f.Statement.statement M
 explore-spec =
-    tie.close (tie.spec begin-requires (search needs) (search needs) (search needs) (search needs) (search needs) spread-requires (search needs)
-    (λ c. search needs) (λ c. let h = sized-cells (at-start (lined-up (c .before)) .pre .0) in omega arith) (search needs) spread-slow-requires (search needs)
-    (λ c. search needs))
+    tie.close (tie.spec begin-requires (search needs) (search needs) (search needs) (search needs) (search needs) spread-requires (search needs) (λ c. search needs)
+    (λ c. let h = sized-cells (at-start (lined-up (c .before)) .pre .0) in omega arith) (search needs) spread-slow-requires (search needs) (λ c. search needs))

@@ -18,6 +18,4 @@ returns c =
     rw e (l .inv .1)
 
 pub least-spec : {M : Type 1} → f.Statement.statement M
-least-spec =
-    tie.close (tie.spec Inv-loop μ-loop (λ c. search (needs, least-first))
-    (λ c κs. search needs) (omega arith) (omega arith) (λ c. search needs) returns)
+least-spec = tie.close (tie.spec Inv-loop μ-loop (λ c. search (needs, least-first)) (λ c κs. search needs) (omega arith) (omega arith) (λ c. search needs) returns)

@@ -12,5 +12,4 @@ returns-2 c =
     rw (s .before .step-from .ensures, s .cost-at .ensures .0) at (r .ensures)
 
 pub pass-spec : {M : Type 1} → f.Statement.statement M
-pass-spec =
-    tie.close (tie.spec (search needs) (λ c. search (needs, passed-over, not-so)) (λ c κs. search needs) (search needs) (λ c κs. search (needs, enterable)) (search needs) returns-2)
+pass-spec = tie.close (tie.spec (search needs) (λ c. search (needs, passed-over, not-so)) (λ c κs. search needs) (search needs) (λ c κs. search (needs, enterable)) (search needs) returns-2)

@@ -30,5 +30,5 @@ returns-4 c =
 pub reach-spec : {M : Type 1} → f.Statement.statement M
 reach-spec =
     tie.close (tie.spec (search needs) (search needs) (λ c. stays (λ b t. absurd (wall≢to b _ (sym (c .enum-told .given .1) ∙ t))))
-    (λ c. stays (λ b t. absurd (omega (arith, same-to (sym (c .before .before .step .given .1) ∙ t) .1)))) (λ c κs. inside (c .before .before .before) .0) (search needs) returns-3
-    enter-requires (search needs) returns-4)
+    (λ c. stays (λ b t. absurd (omega (arith, same-to (sym (c .before .before .step .given .1) ∙ t) .1)))) (λ c κs. inside (c .before .before .before) .0) (search needs) returns-3 enter-requires
+    (search needs) returns-4)

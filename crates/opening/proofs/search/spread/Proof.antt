@@ -54,9 +54,9 @@ loop-again c gs begun =
 
 pub spread-spec : {M : Type 1} → f.Statement.statement M
 spread-spec =
-    tie.close (tie.spec Inv-loop μ-loop (search needs) (search needs) (λ c κs. let l = c .before .before .before in let H = held-offered (held l) in (H, (omega (arith, two l), least-first _ _ (H .some))))
-    (λ c. omega (arith, held-offered (held (looping c)))) (search needs)
-    (λ c. omega (arith, held (looping (c .before .before)))) (λ c. omega (arith, held (looping (c .before .before))))
+    tie.close (tie.spec Inv-loop μ-loop (search needs) (search needs)
+    (λ c κs. let l = c .before .before .before in let H = held-offered (held l) in (H, (omega (arith, two l), least-first _ _ (H .some)))) (λ c. omega (arith, held-offered (held (looping c))))
+    (search needs) (λ c. omega (arith, held (looping (c .before .before)))) (λ c. omega (arith, held (looping (c .before .before))))
     (λ c. let s = c .before .before in held-none (held (looping s)) (least s) (c .if1 .taken)) (λ c κs. let s = c .before .before .before in held-offer (held (looping s)) (least s))
     (λ c κs. let o = c .before in let s = asked o in step-follow (held (looping s)) (least s) (o .offer .ensures) (o .before .before .if1 .left)) move-on-requires (search needs) (omega arith)
     loop-again (λ c. omega (arith, held (c .before))) (λ c. omega (arith, held (c .before))) (λ c. held-done (held (c .before)) (c .loop-test .left)))

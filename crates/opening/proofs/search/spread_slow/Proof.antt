@@ -46,9 +46,8 @@ loop-again c gs begun =
 
 pub spread-slow-spec : {M : Type 1} → f.Statement.statement M
 spread-slow-spec =
-    tie.close (tie.spec Inv-loop μ-loop (search needs) (search needs) (λ c κs. held-offered (held (c .before .before .before)))
-    (λ c. omega (arith, held-offered (held (looping c)))) (search needs)
-    (λ c. omega (arith, held (looping (c .before .before)))) (λ c. omega (arith, held (looping (c .before .before))))
+    tie.close (tie.spec Inv-loop μ-loop (search needs) (search needs) (λ c κs. held-offered (held (c .before .before .before))) (λ c. omega (arith, held-offered (held (looping c))))
+    (search needs) (λ c. omega (arith, held (looping (c .before .before)))) (λ c. omega (arith, held (looping (c .before .before))))
     (λ c. search (needs, held-none (held (looping (c .before .before))))) (λ c κs. search (needs, held-offer (held (looping (c .before .before .before)))))
-    (λ c κs. let o = c .before in let s = asked o in step-follow (held (looping s)) (s .least .ensures) (o .offer .ensures) (o .before .before .if1 .left)) move-on-requires (search needs) (omega arith)
-    loop-again (λ c. omega (arith, held (c .before))) (λ c. omega (arith, held (c .before))) (λ c. held-done (held (c .before)) (c .loop-test .left)))
+    (λ c κs. let o = c .before in let s = asked o in step-follow (held (looping s)) (s .least .ensures) (o .offer .ensures) (o .before .before .if1 .left)) move-on-requires (search needs)
+    (omega arith) loop-again (λ c. omega (arith, held (c .before))) (λ c. omega (arith, held (c .before))) (λ c. held-done (held (c .before)) (c .loop-test .left)))

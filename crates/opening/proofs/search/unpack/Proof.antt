@@ -14,6 +14,6 @@ abbrev μ-loop : tie.MeasureT-loop
 pub unpack-spec : {M : Type 1} → f.Statement.statement M
 unfolding distAt
 unpack-spec =
-    tie.close (tie.spec Inv-loop μ-loop (search needs) (search needs) (search needs) (search needs)
-    (search needs) (search needs) (omega arith) (λ c. changed-more (c .before .before .before .before .loop .inv) (omega arith) (c .plain .ensures ∙ ap plain (c .before .dist-at .ensures .0)))
-    (search needs) (λ c. changed-all (c .before .loop .inv) (omega arith)))
+    tie.close (tie.spec Inv-loop μ-loop (search needs) (search needs) (search needs) (search needs) (search needs) (search needs) (omega arith)
+    (λ c. changed-more (c .before .before .before .before .loop .inv) (omega arith) (c .plain .ensures ∙ ap plain (c .before .dist-at .ensures .0))) (search needs)
+    (λ c. changed-all (c .before .loop .inv) (omega arith)))
