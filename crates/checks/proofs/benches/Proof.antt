@@ -28,13 +28,8 @@ returns c =
     let t = c .before .before in
     c .refuse .ensures ∙ sym (bench-judges _ _ .refused (λ h. never (h (asked (t .before) .loop .i) (omega arith)) (not-so (tested t) (c .before .if1 .taken))))
 
-loop-again : tie.Need-loop-again Inv-loop μ-loop
-loop-again c =
-    let t = c .before in
-    let l = asked (t .before) in
-    below-more _ (l .loop .i) (l .loop .inv) (is-so (tested t) (c .if1 .left))
-
 pub benches-spec : {M : Type 1} → f.Statement.statement M
 benches-spec =
-    tie.close (tie.spec Inv-loop μ-loop (search needs) (λ c k h. absurd (omega arith)) (search needs) (search needs) (search needs) returns (omega arith) (omega arith) loop-again
+    tie.close (tie.spec Inv-loop μ-loop (search needs) (λ c k h. absurd (omega arith)) (search needs) (search needs) (search needs) returns (omega arith) (omega arith)
+    (λ c. let t = c .before in let l = asked (t .before) in below-more _ (l .loop .i) (l .loop .inv) (is-so (tested t) (c .if1 .left)))
     (λ c. sym (bench-judges _ _ .done (λ k h. c .before .loop .inv k (omega arith)))))

@@ -24,20 +24,11 @@ led : (c : tie.After-east) →
     a .cell + c .before .south .result * a .width + c .east .result - (a .width + 1) ≡ a .cell + south (a .m) * a .width + east (a .m) - (a .width + 1)
 led c = rw (c .before .south .ensures, c .east .ensures)
 
-byte-ahead-requires : tie.Need-byte-ahead-requires
-byte-ahead-requires c κs =
-    let p = start (c .before .before) .pre in
-    (reached (p .0) (p .1 .0) _ (p .1 .1) (sided (c .before .before)) _ (led c), p .1 .1)
-
-returns-3 : tie.Need-returns-3
-returns-3 c = let e = c .before .before .before in search (needs, wall-ahead, not-so, sided (e .before .before), led e)
-
-returns-4 : tie.Need-returns-4
-returns-4 c = let e = c .before .before .before .before in search (needs, step-to, is-so, sided (e .before .before), led e)
-
 pub step-from-spec : {M : Type 1} → f.Statement.statement M
 step-from-spec =
     tie.close (tie.spec (search needs) (λ c. search (needs, wall-row, c .before .row-barred .ensures .fails)) (search needs)
     (λ c. search (needs, wall-column, c .before .column-barred .ensures .fails)) (search needs) (λ c. omega (arith, space c)) (λ c. omega (arith, space c)) (search needs)
-    (λ c. omega (arith, space (c .before))) (search needs) (λ c. omega (arith, space (c .before))) byte-ahead-requires (search needs) returns-3 (λ c κs. search (needs, here-free, is-so))
-    returns-4)
+    (λ c. omega (arith, space (c .before))) (search needs) (λ c. omega (arith, space (c .before)))
+    (λ c κs. let p = start (c .before .before) .pre in (reached (p .0) (p .1 .0) _ (p .1 .1) (sided (c .before .before)) _ (led c), p .1 .1)) (search needs)
+    (λ c. let e = c .before .before .before in search (needs, wall-ahead, not-so, sided (e .before .before), led e)) (λ c κs. search (needs, here-free, is-so))
+    (λ c. let e = c .before .before .before .before in search (needs, step-to, is-so, sided (e .before .before), led e)))

@@ -26,9 +26,6 @@ cast-table c =
     let high = opening-high (flat (a .width) (a .height) []) (p .0) (p .1) (p .2) (a .q) (goalsOf (a .goals)) (l .loop .x) (p .3) (p .4 .on) (omega arith) in
     omega (arith, c .opening .ensures [], high)
 
-loop-again : tie.Need-loop-again Inv-loop μ-loop
-loop-again c = search (needs, fill-more, c .opening .ensures, c .before .before .loop .inv .2)
-
 returns : tie.Need-returns Inv-loop μ-loop
 unfolding openingTable
 returns c bytes = let l = c .before in fill-all _ _ _ (l .loop .inv .1 ∙ start l .pre .5) (λ k h. l .loop .inv .2 bytes k (omega arith))
@@ -36,4 +33,4 @@ returns c bytes = let l = c .before in fill-all _ _ _ (l .loop .inv .1 ∙ start
 pub fill-figures-spec : {M : Type 1} → f.Statement.statement M
 fill-figures-spec =
     tie.close (tie.spec Inv-loop μ-loop (search needs) (λ c κs. let p = start (c .before) .pre in (p .0, (p .1, (p .2, (p .3, (omega arith, p .4)))))) cast-table (search needs) (search needs)
-    (search needs) (omega arith) loop-again (search needs) returns)
+    (search needs) (omega arith) (λ c. search (needs, fill-more, c .opening .ensures, c .before .before .loop .inv .2)) (search needs) returns)

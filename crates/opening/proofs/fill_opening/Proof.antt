@@ -5,11 +5,6 @@ use Rattle.opening.proofs.Promise.{fills-refused, fills-done}
 use Rattle.opening.proofs.fill_opening as f
 use f.Tie as tie
 
-fill-figures-requires : tie.Need-fill-figures-requires
-fill-figures-requires c κs =
-    let o = openable _ _ _ _ (sym (c .before .before .before .open-table .ensures) ∙ c .before .enum-told .given .1) in
-    search needs
-
 returns-2 : tie.Need-returns-2
 returns-2 c =
     let filled = c .before .before in
@@ -17,4 +12,6 @@ returns-2 c =
     fills-done _ _ _ _ (sym (opened .enum-told .given .1) ∙ opened .before .before .open-table .ensures) (filled .fill-figures .ensures _)
 
 pub fill-opening-spec : {M : Type 1} → f.Statement.statement M
-fill-opening-spec = tie.close (tie.spec (search needs) (search needs) (search needs) (λ c. search (needs, fills-refused)) fill-figures-requires (search needs) returns-2)
+fill-opening-spec =
+    tie.close (tie.spec (search needs) (search needs) (search needs) (λ c. search (needs, fills-refused))
+    (λ c κs. let o = openable _ _ _ _ (sym (c .before .before .before .open-table .ensures) ∙ c .before .enum-told .given .1) in search needs) (search needs) returns-2)

@@ -5,4 +5,4 @@ use Rattle.opening.proofs.open_trial as f
 use f.Tie as tie
 
 pub open-trial-spec : {M : Type 1} → f.Statement.statement M
-open-trial-spec = tie.close (tie.spec (search needs) (λ c. λ places e. c .open-run .ensures places e ∙ run-of-one _ _ _ _ places))
+open-trial-spec = tie.close (tie.spec (search needs) (λ c places e. c .open-run .ensures places e ∙ run-of-one _ _ _ _ places))

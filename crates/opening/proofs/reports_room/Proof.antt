@@ -5,4 +5,4 @@ use Rattle.opening.proofs.reports_room as f
 use f.Tie as tie
 
 pub reports-room-spec : {M : Type 1} → f.Statement.statement M
-reports-room-spec = tie.close (tie.spec (search needs) (λ c. c .refuse .ensures ∙ sym (reports-judges _ _ .refused (λ h. omega arith))) (λ c. sym (reports-judges _ _ .done (omega arith))))
+reports-room-spec = tie.close (tie.spec (search needs) (λ c. c .refuse .ensures ∙ sym (reports-judges _ _ .refused (omega arith))) (λ c. sym (reports-judges _ _ .done (omega arith))))

@@ -7,8 +7,7 @@ use f.Tie as tie
 fits : (e : tie.After-no-distances) → length (now (e .before .before .before .args .table)) ≤ length (e .no-distances .result)
 fits e = let p = e .before .before .before .pre in omega (arith, p .long, e .no-distances .ensures, cells-le _ _ (p .sized .narrow) (p .sized .low))
 
-judge-in-requires : tie.Need-judge-in-requires
-judge-in-requires c κs = (c .before .before .before .before .pre, simp length-take (omega (arith, fits (c .before))))
-
 pub soundness-spec : {M : Type 1} → f.Statement.statement M
-soundness-spec = tie.close (tie.spec (search needs) fits (λ c. sym (length-take-le _ (c .before .no-distances .result) (fits (c .before)))) judge-in-requires (λ c. search needs))
+soundness-spec =
+    tie.close (tie.spec (search needs) fits (λ c. sym (length-take-le _ (c .before .no-distances .result) (fits (c .before))))
+    (λ c κs. (c .before .before .before .before .pre, simp length-take (omega (arith, fits (c .before))))) (λ c. search needs))

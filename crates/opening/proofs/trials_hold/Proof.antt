@@ -6,5 +6,5 @@ use f.Tie as tie
 
 pub trials-hold-spec : {M : Type 1} → f.Statement.statement M
 trials-hold-spec =
-    tie.close (tie.spec (search needs) (λ c. c .refuse .ensures ∙ sym (trials-judges _ .refused (λ h. omega arith))) (search needs)
-    (λ c. c .refuse2 .ensures ∙ sym (trials-judges _ .refused (λ h. omega arith))) (λ c. sym (trials-judges _ .done (omega arith))))
+    tie.close (tie.spec (search needs) (λ c. c .refuse .ensures ∙ sym (trials-judges _ .refused (omega arith))) (search needs)
+    (λ c. c .refuse2 .ensures ∙ sym (trials-judges _ .refused (omega arith))) (λ c. sym (trials-judges _ .done (omega arith))))

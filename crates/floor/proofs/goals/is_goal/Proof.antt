@@ -15,15 +15,9 @@ abbrev μ-loop : tie.MeasureT-loop
 abbrev asked : tie.After-goal-at Inv-loop μ-loop → tie.At-loop Inv-loop μ-loop
 asked c = c .before .before
 
-returns : tie.Need-returns Inv-loop μ-loop
-returns c = let g = c .before in sym (member-at _ _ (asked g .loop .i) (omega arith) (c .if1 .taken ∙ g .goal-at .ensures))
-
-loop-again : tie.Need-loop-again Inv-loop μ-loop
-loop-again c =
-    let g = c .before in
-    below-more _ (asked g .loop .i) (asked g .loop .inv) (λ e. c .if1 .left (e ∙ sym (g .goal-at .ensures)))
-
 pub is-goal-spec : {M : Type 1} → f.Statement.statement M
 is-goal-spec =
-    tie.close (tie.spec Inv-loop μ-loop (search needs) (omega arith) (search needs) returns (omega arith) (omega arith) loop-again
+    tie.close (tie.spec Inv-loop μ-loop (search needs) (omega arith) (search needs)
+    (λ c. let g = c .before in sym (member-at _ _ (asked g .loop .i) (omega arith) (c .if1 .taken ∙ g .goal-at .ensures))) (omega arith) (omega arith)
+    (λ c. let g = c .before in below-more _ (asked g .loop .i) (asked g .loop .inv) (λ e. c .if1 .left (e ∙ sym (g .goal-at .ensures))))
     (λ c. sym (no-member _ _ (λ k h. c .before .loop .inv k (omega arith)))))

@@ -45,13 +45,8 @@ loop-again c =
     let g = e .before .before in
     lining-more (g .before .before .loop .inv) (omega arith) (g .goal-at2 .ensures) (e .enter .ensures)
 
-returns : tie.Need-returns Inv-loop μ-loop
-returns c =
-    let l = c .before in
-    let all : l .loop .i ≡ length (goalsOf (begun l .args .goals)) = omega arith in
-    listed l ∙ ap (lined _ _) all
-
 pub begin-spec : {M : Type 1} → f.Statement.statement M
 begin-spec =
     tie.close (tie.spec Inv-loop μ-loop (search needs) (search needs) (search needs) (λ c. let s = start c in omega (arith, on s _ 0 (s .pre .0 .one) (c .before .goal-at .ensures), s .pre .1))
-    (λ c. search (needs, on (start c))) (λ c. search needs) (search needs) enter-requires (search needs) (omega arith) loop-again (λ c. long (c .before)) returns)
+    (λ c. search (needs, on (start c))) (λ c. search needs) (search needs) enter-requires (search needs) (omega arith) loop-again (λ c. long (c .before))
+    (λ c. let l = c .before in let all : l .loop .i ≡ length (goalsOf (begun l .args .goals)) = omega arith in listed l ∙ ap (lined _ _) all))

@@ -17,9 +17,6 @@ returns-3 c =
     let t = c .before .before .before .before .before in
     stays (λ b e. omega (arith, c .before .dist-at .ensures .0, ap (distAt (at-start t .args .list .now)) (same-to (sym (t .step .given .1) ∙ e) .0)))
 
-enter-requires : tie.Need-enter-requires
-enter-requires c κs = let h = inside (c .before .before .before .before .before .before) in search needs
-
 returns-4 : tie.Need-returns-4
 returns-4 c =
     let d = c .before .before .before .before .before in
@@ -30,5 +27,5 @@ returns-4 c =
 pub reach-spec : {M : Type 1} → f.Statement.statement M
 reach-spec =
     tie.close (tie.spec (search needs) (search needs) (λ c. stays (λ b t. absurd (wall≢to b _ (sym (c .enum-told .given .1) ∙ t))))
-    (λ c. stays (λ b t. absurd (omega (arith, same-to (sym (c .before .before .step .given .1) ∙ t) .1)))) (λ c κs. inside (c .before .before .before) .0) (search needs) returns-3 enter-requires
-    (search needs) returns-4)
+    (λ c. stays (λ b t. absurd (omega (arith, same-to (sym (c .before .before .step .given .1) ∙ t) .1)))) (λ c κs. inside (c .before .before .before) .0) (search needs) returns-3
+    (λ c κs. let h = inside (c .before .before .before .before .before .before) in search needs) (search needs) returns-4)
