@@ -220,27 +220,29 @@ module _ (j : Job) (bytes : List ℕ) (s : State) (table path : List ℕ) where
     unfolding learns
     act-full h = act-learns j bytes s table path (aside a) (subst (λ k. emptyRing j bytes (seen j bytes (s .current)) k ≡ false) (h .last-is) (h .full))
 
-  module _ (a : Ahead) (aimed : Aimed j bytes (s .current) table a) (old : ℕ) (at : old ≡ getD table (s .current) 0) where
-    learns-as : learns j bytes s table path ≡ learn j bytes s (seen j bytes (s .current)) table path (a .figure) (a .target)
-    unfolding learns
-    learns-as = ap₂ (learn j bytes s (seen j bytes (s .current)) table path) (sym (aimed .figure)) (sym (aimed .target))
+  as-learn : {a : Ahead} → Aimed j bytes (s .current) table a → learns j bytes s table path ≡ learn j bytes s (seen j bytes (s .current)) table path (a .figure) (a .target)
+  unfolding learns
+  as-learn h = ap₂ (learn j bytes s (seen j bytes (s .current)) table path) (sym (h .figure)) (sym (h .target))
 
-    over : {b : Bool} → (ltb old (a .figure) && ltb ceiling (a .figure)) ≡ b → (ltb (getD table (s .current) 0) (a .figure) && ltb ceiling (a .figure)) ≡ b
-    over e = ap (λ x. ltb x (a .figure) && ltb ceiling (a .figure)) (sym at) ∙ e
+-- past the lookahead: the figure that is stored, whether the new one passes the ceiling, and the rise
+module _ {j : Job} {bytes : List ℕ} {s : State} {table : List ℕ} (path : List ℕ) {a : Ahead} {old : ℕ} {high : Bool} (aimed : Aimed j bytes (s .current) table a)
+    (at : old ≡ getD table (s .current) 0) (over : high ≡ (ltb old (a .figure) && ltb ceiling (a .figure))) where
+  pub learns-over : {r : Acted} {base : ℕ} → high ≡ true → r ≡ refusing s 10 base → Acts j bytes s (learns j bytes s table path) r table path
+  learns-over e q =
+      acts-as (as-learn j bytes s table path aimed ∙ learn-over j bytes s table path _ (a .figure) _ (ap (λ x. ltb x (a .figure) && ltb ceiling (a .figure)) (sym at) ∙ sym over ∙ e)) (acts-refused table path q)
 
-    pub learns-over : (ltb old (a .figure) && ltb ceiling (a .figure)) ≡ true → learns j bytes s table path ≡ refused s table path 10
-    learns-over e = learns-as ∙ learn-over j bytes s table path _ (a .figure) _ (over e)
+  module _ (low : high ≡ false) {u : ℕ} (risen : u ≡ a .figure - old) where
+    pub learns-forward : {r : Acted} {table′ path′ : List ℕ} → s .learned + u ≤ j .q * j .quota
+        → Acts j bytes s (forward j bytes s (seen j bytes (s .current)) table path (a .figure) (a .target)) r table′ path′ → Acts j bytes s (learns j bytes s table path) r table′ path′
+    learns-forward h =
+        let within : s .learned + rise table (s .current) (a .figure) ≤ j .q * j .quota = omega arith in
+        acts-as (as-learn j bytes s table path aimed ∙ learn-forward j bytes s table path _ (a .figure) _ (ap (λ x. ltb x (a .figure) && ltb ceiling (a .figure)) (sym at) ∙ sym over ∙ low) (le-leb _ _ within))
 
-    module _ (low : (ltb old (a .figure) && ltb ceiling (a .figure)) ≡ false) (u : ℕ) (risen : u ≡ rise table (s .current) (a .figure)) where
-      pub learns-forward : s .learned + u ≤ j .q * j .quota → learns j bytes s table path ≡ forward j bytes s (seen j bytes (s .current)) table path (a .figure) (a .target)
-      learns-forward h =
-          let within : s .learned + rise table (s .current) (a .figure) ≤ j .q * j .quota = omega arith in
-          learns-as ∙ learn-forward j bytes s table path _ (a .figure) _ (over low) (le-leb _ _ within)
-
-      pub learns-back : j .q * j .quota < s .learned + u → learns j bytes s table path ≡ goBack j bytes s table path (a .figure)
-      learns-back h =
-          let past : j .q * j .quota < s .learned + rise table (s .current) (a .figure) = omega arith in
-          learns-as ∙ learn-back j bytes s table path _ (a .figure) _ (over low) (lt-leb _ _ past)
+    pub learns-back : {r : Acted} {table′ path′ : List ℕ} → j .q * j .quota < s .learned + u → Acts j bytes s (goBack j bytes s table path (a .figure)) r table′ path′
+        → Acts j bytes s (learns j bytes s table path) r table′ path′
+    learns-back h =
+        let past : j .q * j .quota < s .learned + rise table (s .current) (a .figure) = omega arith in
+        acts-as (as-learn j bytes s table path aimed ∙ learn-back j bytes s table path _ (a .figure) _ (ap (λ x. ltb x (a .figure) && ltb ceiling (a .figure)) (sym at) ∙ sym over ∙ low) (lt-leb _ _ past))
 
 -- ---- the public call
 
