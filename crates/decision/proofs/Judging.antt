@@ -55,11 +55,12 @@ module _ {j : Job} {bytes : List ℕ} {s : State} {path : List ℕ} where
 -- ---- the whole judgement
 
 module _ (j : Job) (bytes : List ℕ) (s : State) (table path : List ℕ) (room from : ℕ) where
-  -- the checks in their order
+  -- the checks in their order: those up to the goals' order and what comes after them, and all
+  abbrev pub ordered : Verdict → Verdict
+  ordered v = then (listsFit j bytes (length table) (length path) room from) (then (settings j) (then (places (floorOf j bytes) (s .current) (goals j)) (then (goalsHold (j .goals)) v)))
+
   abbrev pub checks : Verdict
-  checks =
-      then (listsFit j bytes (length table) (length path) room from)
-      (then (settings j) (then (places (floorOf j bytes) (s .current) (goals j)) (then (goalsHold (j .goals)) (then (figures (floorOf j bytes) table) (stateHolds j bytes s path)))))
+  checks = ordered (then (figures (floorOf j bytes) table) (stateHolds j bytes s path))
 
   judge-is : checks ≡ judge j bytes s table path room from
   unfolding judge listsFit
@@ -69,12 +70,6 @@ module _ (j : Job) (bytes : List ℕ) (s : State) (table path : List ℕ) (room 
       let m = movesRoom room from in
       let r = then (settings j) (then (places (floorOf j bytes) (s .current) (goals j)) (then (goalsHold (j .goals)) (then (figures (floorOf j bytes) table) (stateHolds j bytes s path)))) in
       then-assoc a (then b m) r ∙ ap (then a) (then-assoc b m r)
-
-  pub judged-refused : (place : List ℕ) (v : Verdict) {r : Refusal} → v ≡ checks → v ≡ Vd.Refused r → Judged j bytes s table path room from place v
-  judged-refused place v e t = record { verdict = e ∙ judge-is; places = λ d. not-refused d t }
-
-  pub judged-checked : (place : List ℕ) (v : Verdict) → (v ≡ stateHolds j bytes s path → v ≡ checks) → Checked j bytes s path place v → Judged j bytes s table path room from place v
-  judged-checked place v e h = record { verdict = e (h .verdict) ∙ judge-is; places = h .places }
 
   low : length table ≡ size (floorOf j bytes) → figures (floorOf j bytes) table ≡ Vd.Done → (x : ℕ) → getD table x 0 ≤ ceiling
   low l e x = by (decLe (length table) x)
@@ -108,3 +103,10 @@ module _ (j : Job) (bytes : List ℕ) (s : State) (table path : List ℕ) (room 
         short = sound-room j bytes (s .current) path (s .length) (omega (arith, h .short, f .path)) (h .sound) (p .0);
         fair = h .sound .fair;
       }
+
+module _ {j : Job} {bytes : List ℕ} {s : State} {table path : List ℕ} {room from : ℕ} {place : List ℕ} {v : Verdict} where
+  pub judged-refused : {r : Refusal} → v ≡ checks j bytes s table path room from → v ≡ Vd.Refused r → Judged j bytes s table path room from place v
+  judged-refused e t = record { verdict = e ∙ judge-is j bytes s table path room from; places = λ d. not-refused d t }
+
+  pub judged-checked : Checked j bytes s path place v → (v ≡ stateHolds j bytes s path → v ≡ checks j bytes s table path room from) → Judged j bytes s table path room from place v
+  judged-checked h e = record { verdict = e (h .verdict) ∙ judge-is j bytes s table path room from; places = h .places }
