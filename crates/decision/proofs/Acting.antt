@@ -14,6 +14,7 @@ use Rattle.answers.specs.declared.State.{State}
 use Rattle.answers.specs.declared.Refusal.{Refusal}
 use Rattle.answers.specs.declared.Answer.{Answer}
 use Rattle.answers.specs.declared.Answer.the-variants as A
+use Rattle.answers.specs.declared.Verdict.{Verdict}
 use Rattle.answers.specs.declared.Verdict.the-variants as Vd
 use Rattle.answers.specs.declared.Decided.{Decided}
 use Rattle.answers.specs.Says.{saysAnswer}
@@ -30,22 +31,22 @@ use Rattle.model.proofs.Cases.{act-arrived, act-blind, act-learns, learn-over, 
 use Rattle.lookahead.specs.declared.Ahead.{Ahead}
 use Rattle.lookahead.specs.declared.Around.{Around}
 use Rattle.lookahead.specs.declared.Around.the-variants as R
-use Rattle.lookahead.specs.Contract.{Used, Asked, Near, Window, Looked, Aimed, Figures, movesTo}
+use Rattle.lookahead.specs.Contract.{Used, Asked, Near, Seen, Window, Looked, Aimed, Figures, movesTo}
 use Rattle.lookahead.proofs.Fresh.{spent-zeros}
 use Rattle.decision.specs.declared.Acted.{Acted}
-use Rattle.decision.specs.Laying.{wayBack, wayOf, counts, Shown, Lays}
-use Rattle.decision.specs.Ready.{Places, Ready, Acts, Serves, Decides}
+use Rattle.decision.specs.Laying.{wayBack, wayOf, counts, Shows, Shown, Lays}
+use Rattle.decision.specs.Ready.{Places, Ready, Judged, Acts, Serves, Decides}
 use Rattle.decision.specs.Inner.{Open, Extended, refusing, learns}
 
 -- ---- what a ready call gives its parts
 
 module _ {j : Job} {bytes : List ℕ} {s : State} {table path : List ℕ} (r : Ready j bytes s table path) where
-  pub asked : member (s .current) (goals j) ≡ false → Asked j bytes (s .current)
-  asked away = record {
+  pub asked : {there : Bool} → there ≡ member (s .current) (goals j) → there ≡ false → Asked j bytes (s .current)
+  asked e away = record {
     sized = r .sized;
     start = r .here;
     benches = r .benches;
-    apart = away;
+    apart = sym e ∙ away;
     shallow = r .settings .deep;
     deep = r .settings .shallow;
   }
@@ -104,18 +105,20 @@ lost {j} {bytes} {l} x a e = by (eqb (ring j bytes (seen j bytes l) x) (seen j b
     by true q = absurd (never e (nine-not j bytes l (a .shallow) (free-below (floorOf j bytes) l (a .start)) (aside a) x (eqb-true _ _ q)))
     by false q = refl
 
-pub last-near : (j : Job) (bytes : List ℕ) (s x : ℕ) → eqb (ring j bytes (seen j bytes s) x) (seen j bytes s .last) ≡ true → Near j bytes s x
-last-near j bytes s x e = omega (arith, eqb-true (ring j bytes (seen j bytes s) x) (seen j bytes s .last) e)
+-- a cell on the last ring is in the window
+pub shows-last : {j : Job} {bytes : List ℕ} {l x base : ℕ} {mark cost : List ℕ} {on : Bool} → on ≡ eqb (ring j bytes (seen j bytes l) x) (seen j bytes l .last) → on ≡ true → Asked j bytes l
+    → Seen j bytes l base mark cost → Shows j bytes l x base mark cost
+shows-last {j} {bytes} {l} {x} is e a h = record { asked = a; seen = h; near = omega (arith, eqb-true (ring j bytes (seen j bytes l) x) (seen j bytes l .last) (sym is ∙ e)) }
 
 -- ---- scratch before and after a lookahead
 
-module _ (j : Job) (bytes : List ℕ) (s base : ℕ) (mark cost list : List ℕ) where
-  pub looked-window : {r : Around} {last n : ℕ} → Looked j bytes s base mark cost list r → r ≡ R.Window last n → Window j bytes s base mark cost list n last
-  looked-window h e = subst (Looked j bytes s base mark cost list) e h
+module _ {j : Job} {bytes : List ℕ} {s base : ℕ} {mark cost list : List ℕ} {r : Around} where
+  pub looked-window : {last n : ℕ} → r ≡ R.Window last n → Looked j bytes s base mark cost list r → Window j bytes s base mark cost list n last
+  looked-window e h = subst (Looked j bytes s base mark cost list) e h
 
-  pub looked-empty : {r : Around} → Looked j bytes s base mark cost list r → r ≡ R.Empty
-      → Used base mark cost list × (emptyRing j bytes (seen j bytes s) (seen j bytes s .last) ≡ true)
-  looked-empty h e = subst (Looked j bytes s base mark cost list) e h
+pub looked-empty : (j : Job) (bytes : List ℕ) (s : ℕ) {base : ℕ} {mark cost list : List ℕ} {r : Around} → r ≡ R.Empty → Looked j bytes s base mark cost list r
+    → Used base mark cost list × (emptyRing j bytes (seen j bytes s) (seen j bytes s .last) ≡ true)
+looked-empty j bytes s {base} {mark} {cost} {list} e h = subst (Looked j bytes s base mark cost list) e h
 
 pub used-at : {b base : ℕ} {mark cost list : List ℕ} → b ≡ base → Used base mark cost list → Used b mark cost list
 used-at {mark = mark} {cost = cost} {list = list} e u = subst (λ b. Used b mark cost list) (sym e) u
@@ -148,12 +151,16 @@ module _ {j : Job} {bytes : List ℕ} {s : State} where
   serves-refused {mark = mark} {cost = cost} {list = list} {place = place} {path = path} q u p = subst (λ (x : Acted). Serves j bytes s x mark cost list place path) (sym q)
       (record { used = u; places = p; shown = record { window = tt } })
 
-module _ (j : Job) (bytes : List ℕ) (s : State) where
-  pub acts-arrived : (table path : List ℕ) (base : ℕ)
-      → Acts j bytes s (unchanged s table path A.Arrived) (record { answer = A.Arrived; state = s; rise = 0; cost = 0; base = base }) table path
-  acts-arrived table path base = record { answer = refl; way = refl; state = refl; rise = refl; cost = refl; table = refl; path = refl }
+  pub acts-arrived : {table path : List ℕ} {base : ℕ} {there : Bool} → free (floorOf j bytes) (s .current) ≡ true → there ≡ member (s .current) (goals j) → there ≡ true
+      → Acts j bytes s (act j bytes s table path) (record { answer = A.Arrived; state = s; rise = 0; cost = 0; base = base }) table path
+  acts-arrived {table} {path} h e t = acts-as (act-arrived j bytes s table path (at-goal j bytes (s .current) h ∙ sym e ∙ t))
+      (record { answer = refl; way = refl; state = refl; rise = refl; cost = refl; table = refl; path = refl })
 
-  module _ (table path : List ℕ) (new a : ℕ) (risen : a ≡ rise table (s .current) new) (table′ : List ℕ) (made : table′ ≡ stored table (s .current) new) (base : ℕ) where
+  pub acts-blind : {r : Acted} {base : ℕ} {table path : List ℕ} → Asked j bytes (s .current) → emptyRing j bytes (seen j bytes (s .current)) (seen j bytes (s .current) .last) ≡ true
+      → r ≡ refusing s 9 base → Acts j bytes s (act j bytes s table path) r table path
+  acts-blind {table = table} {path = path} a e q = acts-as (act-blind j bytes s table path (aside a) e) (acts-refused table path q)
+
+  module _ {path : List ℕ} (table : List ℕ) (new : ℕ) {a : ℕ} (risen : a ≡ rise table (s .current) new) {table′ : List ℕ} (made : table′ ≡ stored table (s .current) new) {base : ℕ} where
     acts-stay : Acts j bytes s (stay s table path new) (record { answer = A.Stayed a; state = s; rise = a; cost = 0; base = base }) table′ path
     unfolding stay
     acts-stay = record { answer = ap A.Stayed (sym risen); way = refl; state = refl; rise = risen; cost = refl; table = made; path = refl }
@@ -161,11 +168,11 @@ module _ (j : Job) (bytes : List ℕ) (s : State) where
     pub acts-stays : s .length ≡ 0 → Acts j bytes s (goBack j bytes s table path new) (record { answer = A.Stayed a; state = s; rise = a; cost = 0; base = base }) table′ path
     acts-stays e = acts-as (back-stays j bytes s table path new (eq-eqb (s .length) 0 e)) acts-stay
 
-    acts-back : (l leg : ℕ) → leg ≡ w j bytes (seen j bytes l) (s .current)
+    acts-back : (l : ℕ) {leg : ℕ} → leg ≡ w j bytes (seen j bytes l) (s .current)
         → Acts j bytes s (backOut j bytes s (seen j bytes l) table path new l)
         (record { answer = A.BackedOut l a 0; state = record { current = l; learned = s .learned; length = s .length - 1 }; rise = a; cost = leg; base = base }) table′ path
     unfolding backOutBy
-    acts-back l leg e = record {
+    acts-back l e = record {
       answer = ap (λ u. A.BackedOut l u (length (wayBack j bytes l (s .current)))) (sym risen);
       way = refl;
       state = refl;
@@ -175,11 +182,11 @@ module _ (j : Job) (bytes : List ℕ) (s : State) where
       path = refl;
     }
 
-    pub acts-forward : (t leg len : ℕ) (path′ place′ : List ℕ) → Extended path (s .length) (s .current) t path′ place′ len → leg ≡ w j bytes (seen j bytes (s .current)) t
+    pub acts-forward : {t leg len : ℕ} {path′ place′ : List ℕ} → Extended path (s .length) (s .current) t path′ place′ len → leg ≡ w j bytes (seen j bytes (s .current)) t
         → Acts j bytes s (forward j bytes s (seen j bytes (s .current)) table path new t)
         (record { answer = A.Forward t a 0; state = record { current = t; learned = s .learned + a; length = len }; rise = a; cost = leg; base = base }) table′ path′
     unfolding forwardBy
-    acts-forward t leg len path′ place′ x e = record {
+    acts-forward {t} x e = record {
       answer = ap (λ u. A.Forward t u (length (movesTo j bytes (s .current) t))) (sym risen);
       way = refl;
       state = ap₂ (λ u n. record { current = t; learned = s .learned + u; length = n }) risen (x .length);
@@ -189,36 +196,29 @@ module _ (j : Job) (bytes : List ℕ) (s : State) where
       path = x .written;
     }
 
-    -- backing out, by the path's last cell l
-    module _ (l : ℕ) (last : l ≡ getD path (s .length - 1) 0) (some : 1 ≤ s .length) where
-      abbrev on-last : ℕ → Bool
-      on-last y = eqb (ring j bytes (seen j bytes y) (s .current)) (seen j bytes y .last)
+    -- back out to the path's last cell l: the current cell is on its last ring
+    pub acts-returns : {l leg : ℕ} {on : Bool} → l ≡ getD path (s .length - 1) 0 → 1 ≤ s .length → on ≡ eqb (ring j bytes (seen j bytes l) (s .current)) (seen j bytes l .last) → on ≡ true
+        → leg ≡ w j bytes (seen j bytes l) (s .current)
+        → Acts j bytes s (goBack j bytes s table path new)
+        (record { answer = A.BackedOut l a 0; state = record { current = l; learned = s .learned; length = s .length - 1 }; rise = a; cost = leg; base = base }) table′ path
+    acts-returns {l} last some is on e =
+        acts-as
+        (back-goes j bytes s table path new (ne-eqb (s .length) 0 (λ e. omega arith)) (rw last at (sym is ∙ on))
+        ∙ sym (ap (λ y. backOut j bytes s (seen j bytes y) table path new y) last)) (acts-back l e)
 
-      pub acts-lost : {r : Acted} {b : ℕ} → on-last l ≡ false → r ≡ refusing s 8 b → Acts j bytes s (goBack j bytes s table path new) r table path
-      acts-lost h q =
-          acts-as (back-lost j bytes s table path new (ne-eqb (s .length) 0 (λ e. omega arith)) (subst (λ y. on-last y ≡ false) last h)) (acts-refused table path q)
-
-      pub acts-returns : (leg : ℕ) → on-last l ≡ true → leg ≡ w j bytes (seen j bytes l) (s .current)
-          → Acts j bytes s (goBack j bytes s table path new)
-          (record { answer = A.BackedOut l a 0; state = record { current = l; learned = s .learned; length = s .length - 1 }; rise = a; cost = leg; base = base }) table′ path
-      acts-returns leg h e =
-          acts-as
-          (back-goes j bytes s table path new (ne-eqb (s .length) 0 (λ e. omega arith)) (subst (λ y. on-last y ≡ true) last h)
-          ∙ sym (ap (λ y. backOut j bytes s (seen j bytes y) table path new y) last)) (acts-back l leg e)
+  -- it is not on that ring
+  pub acts-lost : {r : Acted} {table path : List ℕ} {l b : ℕ} {on : Bool} (new : ℕ) → l ≡ getD path (s .length - 1) 0 → 1 ≤ s .length
+      → on ≡ eqb (ring j bytes (seen j bytes l) (s .current)) (seen j bytes l .last) → on ≡ false → r ≡ refusing s 8 b → Acts j bytes s (goBack j bytes s table path new) r table path
+  acts-lost {table = table} {path = path} new last some is off q =
+      acts-as (back-lost j bytes s table path new (ne-eqb (s .length) 0 (λ e. omega arith)) (rw last at (sym is ∙ off))) (acts-refused table path q)
 
 -- ---- from the tests to the deed
 
 module _ (j : Job) (bytes : List ℕ) (s : State) (table path : List ℕ) where
-  pub act-here : free (floorOf j bytes) (s .current) ≡ true → member (s .current) (goals j) ≡ true → act j bytes s table path ≡ unchanged s table path A.Arrived
-  act-here h e = act-arrived j bytes s table path (at-goal j bytes (s .current) h ∙ e)
-
-  module _ (a : Asked j bytes (s .current)) where
-    pub act-empty : emptyRing j bytes (seen j bytes (s .current)) (seen j bytes (s .current) .last) ≡ true → act j bytes s table path ≡ refused s table path 9
-    act-empty e = act-blind j bytes s table path (aside a) e
-
-    pub act-full : {base n last : ℕ} {mark cost list : List ℕ} → Window j bytes (s .current) base mark cost list n last → act j bytes s table path ≡ learns j bytes s table path
-    unfolding learns
-    act-full h = act-learns j bytes s table path (aside a) (subst (λ k. emptyRing j bytes (seen j bytes (s .current)) k ≡ false) (h .last-is) (h .full))
+  pub act-full : {base n last : ℕ} {mark cost list : List ℕ} → Asked j bytes (s .current) → Window j bytes (s .current) base mark cost list n last
+      → act j bytes s table path ≡ learns j bytes s table path
+  unfolding learns
+  act-full a h = act-learns j bytes s table path (aside a) (subst (λ k. emptyRing j bytes (seen j bytes (s .current)) k ≡ false) (h .last-is) (h .full))
 
   as-learn : {a : Ahead} → Aimed j bytes (s .current) table a → learns j bytes s table path ≡ learn j bytes s (seen j bytes (s .current)) table path (a .figure) (a .target)
   unfolding learns
@@ -258,12 +258,13 @@ module _ (j : Job) (bytes : List ℕ) (s : State) (table path moves : List ℕ) 
     moves = y .moves ∙ ap (laid moves from) (sym (h .way));
   }
 
-  pub decides-refused : (q : Refusal) → judge j bytes s table path (length moves) from ≡ Vd.Refused q
+  pub decides-refused : {v : Verdict} {place : List ℕ} (q : Refusal) → Judged j bytes s table path (length moves) from place v → v ≡ Vd.Refused q
       → Decides (decide j bytes s table path moves from) (record { answer = A.Refused q; state = s }) table path moves
-  decides-refused q e =
-      subst (λ (o : Outcome). Decides o (record { answer = A.Refused q; state = s }) table path moves) (sym (decide-refused j bytes s table path moves from q e))
+  decides-refused q h e =
+      subst (λ (o : Outcome). Decides o (record { answer = A.Refused q; state = s }) table path moves) (sym (decide-refused j bytes s table path moves from q (sym (h .verdict) ∙ e)))
       (record { answer = refl; state = refl; table = refl; path = refl; moves = refl })
 
-  pub decides-past : {r : Decided} {table′ path′ moves′ : List ℕ} → judge j bytes s table path (length moves) from ≡ Vd.Done
+  pub decides-past : {v : Verdict} {place : List ℕ} {r : Decided} {table′ path′ moves′ : List ℕ} → Judged j bytes s table path (length moves) from place v → v ≡ Vd.Done
       → Decides (outcomeOf Vd.Done (act j bytes s table path) s table path moves from) r table′ path′ moves′ → Decides (decide j bytes s table path moves from) r table′ path′ moves′
-  decides-past {r} {table′} {path′} {moves′} e h = subst (λ (o : Outcome). Decides o r table′ path′ moves′) (sym (decide-acts j bytes s table path moves from e)) h
+  decides-past {r = r} {table′ = table′} {path′ = path′} {moves′ = moves′} g e h =
+      subst (λ (o : Outcome). Decides o r table′ path′ moves′) (sym (decide-acts j bytes s table path moves from (sym (g .verdict) ∙ e))) h

@@ -7,22 +7,18 @@ use f.Tie as tie
 
 decide-past-requires : tie.Need-decide-past-requires
 decide-past-requires c κs =
-    let at-enum-told = c .before .before .before .before in
-    let at-judge = at-enum-told .before .before .before in
-    let v = at-judge .judge .ensures in
-    let done = sym (v .verdict) ∙ at-enum-told .enum-told .given .1 in
-    (ready _ _ _ _ _ _ _ done, (roomy _ _ _ _ _ _ _ done, v .places (at-enum-told .enum-told .given .1)))
+    let told = c .before .before .before .before in
+    let v = told .before .before .before .judge .ensures in
+    let done = sym (v .verdict) ∙ told .enum-told .given .1 in
+    (ready _ _ _ _ _ _ _ done, (roomy _ _ _ _ _ _ _ done, v .places (told .enum-told .given .1)))
 
 returns-2 : tie.Need-returns-2
 returns-2 c =
-    let after-table = c .before .before .before .before .before .before in
-    let at-decide-past = after-table .before in
-    let at-enum-told = at-decide-past .before .before .before .before .before in
-    let at-judge = at-enum-told .before .before .before in
-    decides-past _ _ _ _ _ _ _ (sym (at-judge .judge .ensures .verdict) ∙ at-enum-told .enum-told .given .1) (at-decide-past .decide-past .ensures)
+    let past : tie.After-decide-past = search in
+    let told = past .before .before .before .before .before in
+    decides-past _ _ _ _ _ _ _ (told .before .before .before .judge .ensures) (told .enum-told .given .1) (past .decide-past .ensures)
 
 pub decide-spec : {M : Type 1} → f.Statement.statement M
 decide-spec =
     tie.close (tie.spec (λ c. search needs) (λ c κs. search needs) (λ c. search needs) (λ c. search needs) (λ c. search needs) decide-past-requires (λ c. search needs) (λ c. search needs)
-    (λ c. decides-refused _ _ _ _ _ _ _ _ (sym (c .before .before .before .before .judge .ensures .verdict) ∙ c .before .r .given .1)) (λ c. search needs) (λ c. search needs)
-    (λ c. search needs) returns-2)
+    (λ c. search decides-refused) (λ c. search needs) (λ c. search needs) (λ c. search needs) returns-2)

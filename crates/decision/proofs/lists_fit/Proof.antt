@@ -1,35 +1,29 @@
 -- `decision::lists_fit` meets its contract: a check that is refused stops the next ones, and one that is done passes on to them.
-use Rattle.learning.proofs.Words.{sym, _∙_, needs}
+use Rattle.learning.proofs.Words.{_≡_, sym, _∙_, needs}
+use Rattle.model.specs.Checks.{floorOf, pathRoom}
 use Rattle.model.proofs.Accepted.{then-stops, then-goes, sizes-judges}
 use Rattle.decision.specs.Inner.{listsFit}
 use Rattle.decision.proofs.lists_fit as f
 use f.Tie as tie
 
+abbrev start : tie.After-path-room → tie.Start
+start c = search
+
+-- 2, of a floor with as many cells as there are figures
+path-judged : (c : tie.After-path-room) → let a = start c .args in c .path-room .result ≡ pathRoom (floorOf (a .job) (a .floor .now)) (a .places)
+path-judged c = c .path-room .ensures _ (sym (sizes-judges _ _ .gives (sym (c .before .before .before .sizes .ensures) ∙ c .before .enum-told .given .1) .1))
+
 returns : tie.Need-returns
 unfolding listsFit
-returns c = then-stops _ (c .before .before .sizes .ensures) (c .enum-told2 .given .1)
+returns c = search then-stops
 
 returns-2 : tie.Need-returns-2
 unfolding listsFit
-returns-2 c =
-    let at-path-room = c .before .before in
-    let at-told1 = at-path-room .before in
-    let at-sizes = at-told1 .before .before in
-    let a = at-told1 .enum-told .given .1 in
-    then-goes _ (at-sizes .sizes .ensures) a
-    (then-stops _ (at-path-room .path-room .ensures _ (sym (sizes-judges _ _ .gives (sym (at-sizes .sizes .ensures) ∙ a) .1))) (c .enum-told4 .given .1))
+returns-2 c = search (then-goes, then-stops, path-judged)
 
 returns-3 : tie.Need-returns-3
 unfolding listsFit
-returns-3 c =
-    let at-told2 = c .before in
-    let at-path-room = at-told2 .before .before in
-    let at-told1 = at-path-room .before in
-    let at-sizes = at-told1 .before .before in
-    let a = at-told1 .enum-told .given .1 in
-    let b = at-told2 .enum-told3 .given .1 in
-    then-goes _ (at-sizes .sizes .ensures) a
-    (then-goes _ (at-path-room .path-room .ensures _ (sym (sizes-judges _ _ .gives (sym (at-sizes .sizes .ensures) ∙ a) .1))) b (c .moves-room .ensures))
+returns-3 c = search (then-goes, path-judged)
 
 pub lists-fit-spec : {M : Type 1} → f.Statement.statement M
 lists-fit-spec =
