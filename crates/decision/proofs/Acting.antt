@@ -22,8 +22,8 @@ use Rattle.model.specs.Basics.{member}
 use Rattle.model.specs.Floor.{size, free}
 use Rattle.model.specs.Checks.{ceiling, floorOf, goals}
 use Rattle.model.specs.Lookahead.{seen, ring, w, emptyRing, target}
-use Rattle.model.specs.Decision.{Deed, Outcome, atGoal, judge, refused, unchanged, rise, stored, forward, forwardBy, backOut, backOutBy, stay, goBack, learn, act, outcomeOf, decide, laid}
-use Rattle.model.proofs.Accepted.{never}
+use Rattle.model.specs.Decision.{Deed, Outcome, atGoal, refused, rise, stored, forward, forwardBy, backOut, backOutBy, stay, goBack, learn, act, outcomeOf, decide, laid}
+use Rattle.model.proofs.Accepted.{Settings, never}
 use Rattle.model.proofs.Moves.{sized-cells, free-below, free-few}
 use Rattle.model.proofs.Benches.{at-goal}
 use Rattle.model.proofs.Meaning.{window-inside, nine-not}
@@ -76,15 +76,15 @@ module _ {j : Job} {bytes : List ℕ} {s : State} {table path : List ℕ} (r : R
     new = λ k h. r .fair k h .other;
   }
 
-  -- the current cell has a figure, and the quota is small
+  -- the current cell has a figure
   pub current-in : s .current < length table
   current-in = omega (arith, free-below (floorOf j bytes) (s .current) (r .here), r .figures)
 
   pub table-short : length table ≤ 4096
   table-short = omega (arith, r .figures, sized-cells (r .sized))
 
-  pub quota-low : j .q * j .quota ≤ 16000000
-  quota-low = mul-le-mul (r .settings .fine) (r .settings .within)
+pub quota-low : {j : Job} → Settings j → j .q * j .quota ≤ 16000000
+quota-low h = mul-le-mul (h .fine) (h .within)
 
 -- such a cell is at no goal
 aside : {j : Job} {bytes : List ℕ} {s : ℕ} → Asked j bytes s → atGoal j bytes s ≡ false

@@ -46,11 +46,11 @@ fits j bytes figures places room from e =
 -- ---- the state's check
 
 module _ {j : Job} {bytes : List ℕ} {s : State} {path : List ℕ} where
-  pub checked-refused : (place : List ℕ) (v : Verdict) → size (floorOf j bytes) ≤ length path → v ≡ refuseAt 8 P.Nowhere → (Held j bytes s path → ⊥) → Checked j bytes s path place v
-  checked-refused place v wide e not = record { verdict = e ∙ sym (held-judges j bytes s path wide .refused not); places = λ d. not-refused d e }
+  pub checked-refused : {place : List ℕ} {v : Verdict} → size (floorOf j bytes) ≤ length path → v ≡ refuseAt 8 P.Nowhere → (Held j bytes s path → ⊥) → Checked j bytes s path place v
+  checked-refused wide e not = record { verdict = e ∙ sym (held-judges j bytes s path wide .refused not); places = λ d. not-refused d e }
 
-  pub checked-done : (place : List ℕ) → size (floorOf j bytes) ≤ length path → Held j bytes s path → Places place path (s .length) → Checked j bytes s path place Vd.Done
-  checked-done place wide h p = record { verdict = sym (held-judges j bytes s path wide .done h); places = λ d. p }
+  pub checked-done : {place : List ℕ} → size (floorOf j bytes) ≤ length path → Held j bytes s path → Places place path (s .length) → Checked j bytes s path place Vd.Done
+  checked-done wide h p = record { verdict = sym (held-judges j bytes s path wide .done h); places = λ d. p }
 
 -- ---- the whole judgement
 

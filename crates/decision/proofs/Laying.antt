@@ -13,7 +13,6 @@ use Rattle.answers.specs.declared.Job.{Job}
 use Rattle.answers.specs.declared.Answer.{Answer}
 use Rattle.model.specs.Basics.{choose}
 use Rattle.model.specs.Floor.{opposite}
-use Rattle.model.specs.Lookahead.{mostMoves}
 use Rattle.model.specs.Decision.{stored, laid}
 use Rattle.lookahead.specs.Contract.{movesTo, Traced}
 use Rattle.decision.specs.Laying.{leastRoom, wayBack, wayOf, Shown, Lays}
@@ -44,15 +43,18 @@ laid-in moves way part from n d p e h l =
     rest : List ℕ
     rest = drop from moves
 
--- the part that a decision lends on
-pub part-long : (moves : List ℕ) (from : ℕ) → from + leastRoom ≤ length moves → leastRoom ≤ length (take (from + leastRoom - from) (drop from moves))
-part-long moves from h = omega (arith, length-take-le (from + leastRoom - from) (drop from moves) (omega (arith, length-drop from moves)))
+-- the part that a decision lends on, as code names it
+abbrev size-from : ℕ → ℕ
+size-from from = from + leastRoom - from
+
+pub part-long : (moves : List ℕ) (from : ℕ) → from + leastRoom ≤ length moves → leastRoom ≤ length (take (size-from from) (drop from moves))
+part-long moves from h = omega (arith, length-take-le (size-from from) (drop from moves) (omega (arith, length-drop from moves)))
 
 -- the route as it is traced into the part
-pub lays : {j : Job} {bytes : List ℕ} {s x n : ℕ} {part : List ℕ} (moves : List ℕ) (from d : ℕ) → Traced j bytes s x (take d (drop from moves)) part n
-    → from + d ≤ length moves → mostMoves ≤ d → Lays moves from (movesTo j bytes s x) (take from moves ++ (part ++ drop d (drop from moves))) n
-lays {j} {bytes} {s} {x} {n} {part} moves from d t h l =
-    record { count = t .count; moves = laid-in moves (movesTo j bytes s x) part from n d (t .written) (t .count) h (omega (arith, t .few)) }
+pub lays : {j : Job} {bytes : List ℕ} {s x n : ℕ} {part moves : List ℕ} {from : ℕ} → Traced j bytes s x (take (size-from from) (drop from moves)) part n
+    → from + leastRoom ≤ length moves → Lays moves from (movesTo j bytes s x) (take from moves ++ (part ++ drop (size-from from) (drop from moves))) n
+lays {j} {bytes} {s} {x} {n} {part} {moves} {from} t h =
+    record { count = t .count; moves = laid-in moves (movesTo j bytes s x) part from n (size-from from) (t .written) (t .count) (omega arith) (omega (arith, t .few)) }
 
 -- ---- the way back
 
@@ -64,24 +66,25 @@ module _ {j : Job} {bytes : List ℕ} {l x n : ℕ} {out there : List ℕ} (t : 
       omega (arith, t .moves i)
 
   -- the route as it is turned round into the part
-  pub lays-back : (moves part : List ℕ) (from d : ℕ) → part ≡ map opposite (reverse (take n there)) ++ drop n (take d (drop from moves))
-      → from + d ≤ length moves → mostMoves ≤ d → Lays moves from (wayBack j bytes l x) (take from moves ++ (part ++ drop d (drop from moves))) n
-  lays-back moves part from d p h m =
+  pub lays-back : {moves part : List ℕ} {from : ℕ} → part ≡ map opposite (reverse (take n there)) ++ drop n (take (size-from from) (drop from moves))
+      → from + leastRoom ≤ length moves → Lays moves from (wayBack j bytes l x) (take from moves ++ (part ++ drop (size-from from) (drop from moves))) n
+  lays-back {moves} {part} {from} p h =
+      let d = size-from from in
       let way : take n there ≡ movesTo j bytes l x = ap (take n) (t .written) ∙ take-at (movesTo j bytes l x) (drop n out) n (sym (t .count)) in
       let count : n ≡ length (wayBack j bytes l x) =
       t .count ∙ sym (length-map (reverse (movesTo j bytes l x)) opposite ∙ length-reverse (movesTo j bytes l x)) in
       record {
         count = count;
-        moves = laid-in moves (wayBack j bytes l x) part from n d (p ∙ ap (λ (w : List ℕ). map opposite (reverse w) ++ drop n (take d (drop from moves))) way) count h (omega (arith, t .few));
+        moves = laid-in moves (wayBack j bytes l x) part from n d (p ∙ ap (λ (w : List ℕ). map opposite (reverse w) ++ drop n (take d (drop from moves))) way) count (omega arith) (omega (arith, t .few));
       }
 
 -- ---- a way turned round, move by move from its end
 
 -- the last k of the first n moves, the last one first and each turned round
-abbrev pub turned : List ℕ → (n k : ℕ) → List ℕ
+abbrev turned : List ℕ → (n k : ℕ) → List ℕ
 turned there n k = map opposite (reverse (drop (n - k) (take n there)))
 
-module _ (there part : List ℕ) (n : ℕ) (long : n ≤ length there) (room : n ≤ length part) where
+module _ (there : List ℕ) (n : ℕ) (long : n ≤ length there) where
   size : length (take n there) ≡ n
   size = length-take-le n there long
 
@@ -102,22 +105,36 @@ module _ (there part : List ℕ) (n : ℕ) (long : n ≤ length there) (room : n
       ∙ ap (map opposite) (reverse-cons x (drop (n - k) (take n there)))
       ∙ map-append opposite (reverse (drop (n - k) (take n there))) (x ∷ [])
 
-  pub turn-none : part ≡ turned there n 0 ++ drop 0 part
-  turn-none = sym (ap (λ l. map opposite (reverse l) ++ part) (drop-of-length-le (take n there) {i = n - 0} (omega (arith, size))))
+-- the first k places of a part of the lent list are written with the last k moves
+pub record Turned (there part : List ℕ) (n k : ℕ) (part′ : List ℕ) : Type 0 where
+  pub within : k ≤ n
+  pub front : part′ ≡ turned there n k ++ drop k part
 
-  pub turn-length : (k : ℕ) → k ≤ n → length (turned there n k ++ drop k part) ≡ length part
-  turn-length k h = length-append (turned there n k) (drop k part) ∙ omega (arith, turned-length k h, length-drop k part)
+pub turn-none : {there part : List ℕ} {n : ℕ} → n ≤ length there → Turned there part n 0 part
+turn-none {there} {part} {n} long = record {
+  within = omega arith;
+  front = sym (ap (λ l. map opposite (reverse l) ++ part) (drop-of-length-le (take n there) {i = n - 0} (omega (arith, length-take-le n there long))));
+}
 
-  pub turn-more : (k : ℕ) → k < n → set (turned there n k ++ drop k part) k (opposite (getD there (n - 1 - k) 0)) ≡ turned there n (k + 1) ++ drop (k + 1) part
-  turn-more k h =
-      let a = opposite (getD there (n - 1 - k) 0) in
-      ap (λ l. set (turned there n k ++ l) k a) (drop-cons part k 0 (omega arith))
-      ∙ set-at (turned there n k) (getD part k 0) (drop (suc k) part) a k (turned-length k (omega arith))
-      ∙ sym (append-assoc (turned there n k) (a ∷ []) (drop (suc k) part))
-      ∙ ap₂ (λ l i. l ++ drop i part) (sym (turned-more k h)) (sym (add-one k))
+module _ {there part part′ : List ℕ} {n k : ℕ} (t : Turned there part n k part′) (long : n ≤ length there) (room : n ≤ length part) where
+  pub turn-length : length part′ ≡ length part
+  turn-length = ap length (t .front) ∙ length-append (turned there n k) (drop k part) ∙ omega (arith, turned-length there n long k (t .within), length-drop k part)
 
-  pub turn-all : turned there n n ++ drop n part ≡ map opposite (reverse (take n there)) ++ drop n part
-  turn-all = let z : n - n ≡ 0 = omega arith in ap (λ i. map opposite (reverse (drop i (take n there))) ++ drop n part) z
+  pub turn-more : {a : ℕ} → k < n → a ≡ opposite (getD there (n - 1 - k) 0) → Turned there part n (k + 1) (set part′ k a)
+  turn-more {a} h e = record {
+    within = omega arith;
+    front =
+        ap₂ (λ p x. set p k x) (t .front ∙ ap (λ l. turned there n k ++ l) (drop-cons part k 0 (omega arith))) e
+        ∙ set-at (turned there n k) (getD part k 0) (drop (suc k) part) (opposite (getD there (n - 1 - k) 0)) k (turned-length there n long k (omega arith))
+        ∙ sym (append-assoc (turned there n k) (opposite (getD there (n - 1 - k) 0) ∷ []) (drop (suc k) part))
+        ∙ ap₂ (λ l i. l ++ drop i part) (sym (turned-more there n long k h)) (sym (add-one k));
+  }
+
+  pub turn-all : n ≤ k → part′ ≡ map opposite (reverse (take n there)) ++ drop n part
+  turn-all h =
+      let none : n - k ≡ 0 = omega arith in
+      let all : k ≡ n = omega (arith, t .within) in
+      t .front ∙ ap₂ (λ i m. map opposite (reverse (drop i (take n there))) ++ drop m part) none all
 
 -- ---- by the answer
 

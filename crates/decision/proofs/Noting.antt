@@ -53,36 +53,36 @@ module _ (path place : List ℕ) (n c : ℕ) where
 -- ---- one turn of the path's check
 
 module _ {j : Job} {bytes : List ℕ} {current : ℕ} {path : List ℕ} {i : ℕ} where
-  pub stands-unfair : (place : List ℕ) (c : ℕ) → c ≡ getD path i 0 → (Fair j bytes current c → ⊥) → Stands j bytes current path i place false
-  stands-unfair place c q h =
+  pub stands-unfair : {place : List ℕ} {c : ℕ} → c ≡ getD path i 0 → (Fair j bytes current c → ⊥) → Stands j bytes current path i place false
+  stands-unfair q h =
       record { fair = λ e. absurd (never e refl); places = λ e. absurd (never e refl); fault = λ e f. absurd (h (subst (Fair j bytes current) (sym q) f)) }
 
-  pub stands-again : (place : List ℕ) (c : ℕ) → c ≡ getD path i 0 → isNoted path place i c ≡ true → Stands j bytes current path i place false
-  stands-again place c q e =
+  pub stands-again : {place : List ℕ} {c : ℕ} → c ≡ getD path i 0 → isNoted path place i c ≡ true → Stands j bytes current path i place false
+  stands-again {place} {c} q e =
       let n = noted-at path place i c e in
       record { fair = λ e. absurd (never e refl); places = λ e. absurd (never e refl); fault = λ _ f. (getD place c 0, n .0, n .1 ∙ q) }
 
-  pub stands-new : (place : List ℕ) (c : ℕ) → c ≡ getD path i 0 → Places place path i → isNoted path place i c ≡ false → c < 4096 → Fair j bytes current c
+  pub stands-new : {place : List ℕ} {c : ℕ} → c ≡ getD path i 0 → Places place path i → isNoted path place i c ≡ false → c < 4096 → Fair j bytes current c
       → Stands j bytes current path i (set place c i) true
-  stands-new place c q p e l f =
+  stands-new {place} {c} q p e l f =
       record { fair = λ _. subst (Fair j bytes current) q f; places = λ _. note-more path place i c p l (sym q) (unnoted path place i c p e); fault = λ h. absurd (never refl h) }
 
 -- ---- the whole path's check
 
 module _ {j : Job} {bytes : List ℕ} {current : ℕ} {path : List ℕ} {n : ℕ} where
-  pub walked-fault : {r : Bool} (place : List ℕ) (i : ℕ) → i < n → Stands j bytes current path i place r → r ≡ false → Walked j bytes current path n place false
-  walked-fault place i h s f = record {
+  pub walked-fault : {r : Bool} {place : List ℕ} {i : ℕ} → i < n → Stands j bytes current path i place r → r ≡ false → Walked j bytes current path n place false
+  walked-fault {i = i} h s f = record {
     sound = λ e. absurd (never e refl);
     places = λ e. absurd (never e refl);
     fault = λ e w. let (k, l, q) = s .fault f (w .fair i h) in w .apart k i l h q;
   }
 
-  pub walked-all : (place : List ℕ) → ((k : ℕ) → k < n → Fair j bytes current (getD path k 0)) → Places place path n → Walked j bytes current path n place true
-  walked-all place f p = record { sound = λ e. record { fair = f; apart = places-apart p }; places = λ e. p; fault = λ h. absurd (never refl h) }
+  pub walked-all : {place : List ℕ} → ((k : ℕ) → k < n → Fair j bytes current (getD path k 0)) → Places place path n → Walked j bytes current path n place true
+  walked-all f p = record { sound = λ e. record { fair = f; apart = places-apart p }; places = λ e. p; fault = λ h. absurd (never refl h) }
 
 -- ---- the current cell written, and the cut
 
-module _ (path place : List ℕ) (n current target : ℕ) (o : Open path place n current) where
+module _ {path place : List ℕ} {n current : ℕ} (o : Open path place n current) where
   abbrev written : List ℕ
   written = set path n current
 
@@ -99,9 +99,9 @@ module _ (path place : List ℕ) (n current target : ℕ) (o : Open path place n
   long : length (take (suc n) written) ≡ suc n
   long = length-take-le (suc n) written (omega (arith, o .room, length-set path n current))
 
-  pub extended-cut : isNoted written noting (n + 1) target ≡ true → (r : ℕ) → r ≡ getD noting target 0 → Extended path n current target written noting r
-  extended-cut e r q =
-      let at = noted-at written noting (n + 1) target e in
+  pub extended-cut : {target r : ℕ} {yes : Bool} → yes ≡ isNoted written noting (n + 1) target → yes ≡ true → r ≡ getD noting target 0 → Extended path n current target written noting r
+  extended-cut {target} {r} is e q =
+      let at = noted-at written noting (n + 1) target (sym is ∙ e) in
       let here : getD written r 0 ≡ target = ap (λ k. getD written k 0) q ∙ at .1 in
       let miss : (i : ℕ) → i < r → getD (take (suc n) written) i 0 ≢ target =
       λ i h f. omega (arith, sym (now-noted .noted i (omega (arith, at .0))) ∙ ap (λ x. getD noting x 0) (sym (getD-take (suc n) written i 0 (omega (arith, at .0))) ∙ f)) in
@@ -113,9 +113,9 @@ module _ (path place : List ℕ) (n current target : ℕ) (o : Open path place n
         places = places-down r (omega (arith, at .0)) now-noted;
       }
 
-  pub extended-on : isNoted written noting (n + 1) target ≡ false → Extended path n current target written noting (n + 1)
-  extended-on e =
-      let none = unnoted written noting (n + 1) target now-noted e in
+  pub extended-on : {target : ℕ} {yes : Bool} → yes ≡ isNoted written noting (n + 1) target → yes ≡ false → Extended path n current target written noting (n + 1)
+  extended-on {target} is e =
+      let none = unnoted written noting (n + 1) target now-noted (sym is ∙ e) in
       let here = getD-set-same path n current 0 (o .room) in
       let split = take-suc-set path n current (o .room) in
       let short : length (take n path) ≡ n = length-take-le n path (omega (arith, o .room)) in

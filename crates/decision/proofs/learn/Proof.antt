@@ -1,5 +1,5 @@
 -- `decision::learn` meets its contract: one law of the model for each way by the ceiling and the quota, with what the called function promises.
-use Rattle.learning.proofs.Words.{sym, arith, needs, lt-of-le-of-lt, lit<}
+use Rattle.learning.proofs.Words.{sym, arith, needs}
 use Rattle.lookahead.proofs.Fresh.{window-used}
 use Rattle.decision.proofs.Acting.{current-in, aimed-near, table-short, quota-low, weighed, used-at, shown-at, serves-refused, learns-over, learns-forward, learns-back}
 use Rattle.decision.proofs.Laying.{shown-as}
@@ -27,10 +27,10 @@ add-if2 : tie.Need-add-if2
 add-if2 c =
     let aim = aimed (c .before) in
     let r = start aim .pre .0 in
-    record { fits = omega (arith, r .within, quota-low r, aim .aim .ensures .high) }
+    record { fits = omega (arith, r .within, quota-low (r .settings), aim .aim .ensures .high) }
 
 mul-if2 : tie.Need-mul-if2
-mul-if2 c = record { fits = lt-of-le-of-lt (quota-low (start (aimed (c .before .before)) .pre .0)) (lit< tt) }
+mul-if2 c = record { fits = omega (arith, quota-low (start (aimed (c .before .before)) .pre .0 .settings)) }
 
 forward-requires : tie.Need-forward-requires
 forward-requires c κs =

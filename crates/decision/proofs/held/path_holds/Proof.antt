@@ -12,12 +12,6 @@ Inv-loop job floor current path n place₀ i₀ place i = (i ≤ n) × ((k : ℕ
 abbrev μ-loop : tie.MeasureT-loop
 μ-loop job floor current path n place₀ i₀ place i = n - i
 
-returns : tie.Need-returns Inv-loop μ-loop
-returns c =
-    let at-stands = c .before .before .before in
-    let at-loop = at-stands .before .before .before in
-    walked-fault _ (at-loop .loop .i) (omega arith) (at-stands .stands .ensures) (not-true _ (c .if1 .taken))
-
 loop-again : tie.Need-loop-again Inv-loop μ-loop
 loop-again c =
     let at-stands = c .before .before .before in
@@ -28,5 +22,5 @@ loop-again c =
 pub path-holds-spec : {M : Type 1} → f.Statement.statement M
 path-holds-spec =
     tie.close (tie.spec Inv-loop μ-loop (λ c. (omega arith, λ k h. absurd (omega arith), places-none _ _ (c .before .before .before .pre .1 .1)))
-    (λ c κs. (c .before .before .before .before .before .before .pre .0, ((omega arith, omega arith), c .before .before .loop .inv .2))) (λ c. search needs) returns (λ c. search needs)
-    (λ c. omega arith) loop-again (λ c. search needs) (λ c. walked-all _ (λ k h. c .before .loop .inv .1 k (omega arith)) (places-down _ (omega arith) (c .before .loop .inv .2))))
+    (λ c κs. (c .before .before .before .before .before .before .pre .0, ((omega arith, omega arith), c .before .before .loop .inv .2))) (λ c. search needs) (λ c. search (walked-fault, not-true)) (λ c. search needs)
+    (λ c. omega arith) loop-again (λ c. search needs) (λ c. walked-all (λ k h. c .before .loop .inv .1 k (omega arith)) (places-down _ (omega arith) (c .before .loop .inv .2))))

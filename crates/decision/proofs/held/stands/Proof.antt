@@ -19,10 +19,10 @@ few : (c : tie.Else1) → c .before .before .wide16 .result < 4096
 few c = free-few _ _ (start c .pre .0) (is-free c)
 
 returns : tie.Need-returns
-returns c = stands-unfair _ _ (search) (λ f. never (f .free) (sym (c .before .is-free .ensures) ∙ not-true _ (c .if1 .taken)))
+returns c = stands-unfair (search) (λ f. never (f .free) (sym (c .before .is-free .ensures) ∙ not-true _ (c .if1 .taken)))
 
 returns-2 : tie.Need-returns-2
-returns-2 c = stands-unfair _ _ (search) (λ f. never (sym (c .before .is-goal .ensures) ∙ c .if2 .taken) (f .away))
+returns-2 c = stands-unfair (search) (λ f. never (sym (c .before .is-goal .ensures) ∙ c .if2 .taken) (f .away))
 
 noted-requires : tie.Need-noted-requires
 noted-requires c κs = let g : tie.Else1 = search in (omega arith, omega (arith, start g .pre .1 .1 .size, few g))
@@ -35,12 +35,12 @@ returns-5 c =
     let g : tie.Else1 = search in
     let other : tie.Else3 = search in
     let goal = other .before in
-    stands-new _ _ (g .before .before .wide16 .ensures .0) (start g .pre .1 .1) (sym (c .before .noted .ensures) ∙ c .if4 .left) (few g)
+    stands-new (g .before .before .wide16 .ensures .0) (start g .pre .1 .1) (sym (c .before .noted .ensures) ∙ c .if4 .left) (few g)
     (record { free = is-free g; away = sym (goal .before .is-goal .ensures) ∙ goal .if2 .left; other = other .if3 .left })
 
 pub stands-spec : {M : Type 1} → f.Statement.statement M
 stands-spec =
     tie.close (tie.spec (λ c. search needs) (λ c. search needs) (λ c κs. search needs) (λ c κs. search needs) returns (λ c κs. search needs) returns-2
-    (λ c. stands-unfair _ _ (search) (λ f. f .other (c .if3 .taken))) noted-requires (λ c. search needs)
-    (λ c. stands-again _ _ (search) (sym (c .before .noted .ensures) ∙ c .if4 .taken)) (λ c. search needs)
+    (λ c. stands-unfair (search) (λ f. f .other (c .if3 .taken))) noted-requires (λ c. search needs)
+    (λ c. stands-again (search) (sym (c .before .noted .ensures) ∙ c .if4 .taken)) (λ c. search needs)
     (λ c. search needs) slice-write-place (λ c. search needs) returns-5)

@@ -1,20 +1,13 @@
 -- `decision::moves::lay_there` meets its contract: the route stands at the front of the part that is lent on.
-use Rattle.learning.proofs.Words.{_+_, _-_, arith, needs}
+use Rattle.learning.proofs.Words.{arith, needs}
 use Rattle.decision.proofs.Laying.{part-long, lays}
-use Rattle.decision.specs.Laying.{leastRoom}
 use Rattle.decision.proofs.moves.lay_there as f
 use f.Tie as tie
 
 trace-requires : tie.Need-trace-requires
 trace-requires c κs =
-    let start = c .before .before .before .before .before in
+    let start : tie.Start = search in
     (start .pre .0, (start .pre .1 .0, (start .pre .1 .1 .0, omega (arith, part-long (start .args .moves .now) (start .args .from) (start .pre .1 .1 .1)))))
 
-returns : tie.Need-returns
-returns c =
-    let at-trace = c .before .before in
-    let start = at-trace .before .before .before .before .before .before in
-    lays (start .args .moves .now) (start .args .from) (start .args .from + leastRoom - start .args .from) (at-trace .trace .ensures) (omega arith) (omega arith)
-
 pub lay-there-spec : {M : Type 1} → f.Statement.statement M
-lay-there-spec = tie.close (tie.spec (λ c. search needs) (λ c. search needs) (λ c. search needs) (λ c. search needs) trace-requires (λ c. search needs) returns)
+lay-there-spec = tie.close (tie.spec (λ c. search needs) (λ c. search needs) (λ c. search needs) (λ c. search needs) trace-requires (λ c. search needs) (λ c. search lays))
