@@ -262,7 +262,7 @@ pub so : {b m : Bool} → b ≡ m → not b ≡ false → m ≡ true
 so {b = true} e h = sym e
 so {b = false} e h = sym e ∙ sym h
 
-module _ (j : Job) (bytes : List ℕ) (start : ℕ) (table₀ path₀ : List ℕ) (opened : openTrial j bytes start table₀ path₀ ≡ Vd.Done) where
+module _ {j : Job} {bytes : List ℕ} {start : ℕ} {table₀ path₀ : List ℕ} (opened : openTrial j bytes start table₀ path₀ ≡ Vd.Done) where
   pub sets-out : {mark cost list place along : List ℕ} → Scratch mark cost list place along
       → Underway j bytes start table₀ path₀ (setOut start) table₀ path₀ mark cost list place along
   sets-out l = record {
@@ -271,10 +271,6 @@ module _ (j : Job) (bytes : List ℕ) (start : ℕ) (table₀ path₀ : List ℕ
     places = record { size = l .places; noted = λ k h. absurd (omega arith) };
     legs-so = begins-along j bytes start table₀ path₀ opened (l .sums) (l .none-yet);
   }
-
-  pub sets-out-at : {mark cost list place along : List ℕ} (l : Scratch mark cost list place along) → sets-out l .drive .at ≡ begun start table₀ path₀
-  unfolding sets-out begins
-  sets-out-at l = refl
 
   module _ {w : Stand} {table path mark cost list place along : List ℕ} (u : Underway j bytes start table₀ path₀ w table path mark cost list place along) where
     pub may-tally : (length along ≡ 4096) × (w .state .length < 4096)
@@ -311,18 +307,23 @@ module _ (j : Job) (bytes : List ℕ) (start : ℕ) (table₀ path₀ : List ℕ
         pub nearer : yetTo j bytes (r .state) table′ path′ < yetTo j bytes (w .state) table path
         nearer = lowers j bytes start table₀ path₀ opened (u .drive) e a
 
+pub sets-out-at : (j : Job) (bytes : List ℕ) {start : ℕ} {table₀ path₀ mark cost list place along : List ℕ} (opened : openTrial j bytes start table₀ path₀ ≡ Vd.Done)
+    (l : Scratch mark cost list place along) → sets-out opened l .drive .at ≡ begun start table₀ path₀
+unfolding sets-out begins
+sets-out-at j bytes opened l = refl
+
 -- ---- a trial's answer, by what the opening answers
 
 module _ (j : Job) (bytes : List ℕ) (start : ℕ) (table path : List ℕ) where
-  pub trial-refused : (v : Verdict) (f : Refusal) → v ≡ openTrial j bytes start table path → v ≡ Vd.Refused f → IsTrial (trial j bytes start table path) (Td.Refused f) table path
+  pub trial-refused : {v : Verdict} {f : Refusal} → v ≡ openTrial j bytes start table path → v ≡ Vd.Refused f → IsTrial (trial j bytes start table path) (Td.Refused f) table path
   unfolding trialBy
-  trial-refused v f judged e =
+  trial-refused judged e =
       let o = ap (λ u. trialOf u j bytes (ride j bytes start table path) table path) (sym judged ∙ e) in
       record { answer-is = ap (λ u. saysTried (u .answer)) (sym o); table-is = ap (λ u. u .table) (sym o); path-is = ap (λ u. u .path) (sym o) }
 
-  pub trial-made : (v : Verdict) (r : Report) (t p : List ℕ) → v ≡ openTrial j bytes start table path → v ≡ Vd.Done → Rode j bytes (ride j bytes start table path) r t p
+  pub trial-made : {v : Verdict} {r : Report} {t p : List ℕ} → v ≡ openTrial j bytes start table path → v ≡ Vd.Done → Rode j bytes (ride j bytes start table path) r t p
       → IsTrial (trial j bytes start table path) (Td.Made r) t p
-  trial-made v r t p judged e d =
+  trial-made judged e d =
       let o = trial-is-made j bytes start table path (sym judged ∙ e) in
       record {
         answer-is = ap (λ x. saysTried (Td.Made x)) (d .record-is) ∙ ap (λ u. saysTried (u .answer)) (sym o);

@@ -1,20 +1,14 @@
 -- `run::onward` meets its contract: `act` does the deed, `note_leg` notes its leg, and the sums fit.
-use Rattle.learning.proofs.Words.{ℕ, _+_, _<_, refl, ap, _∙_, arith, needs}
+use Rattle.learning.proofs.Words.{_<_, refl, _∙_, arith, needs}
 use Rattle.run.specs.Trials.{Fits, noted}
 use Rattle.run.proofs.onward as f
 use f.Tie as tie
 
 abbrev start : tie.After-act → tie.Start
-start e =
-    let args = e .before .before .before .before .before .before in
-    let known = args .before .before .before .before .before in
-    known .before .before .before .before .before
+start e = search
 
 abbrev acted : tie.After-note-leg-arg → tie.After-act
-acted e =
-    let list = e .before .before .before .before .before in
-    let mark = list .before .before .before .before .before in
-    mark .before .before .before .before
+acted e = search
 
 abbrev noting : tie.After-struct-known → tie.After-note-leg
 noting e = e .before .before .before
@@ -47,13 +41,13 @@ returns c =
       record {
         state = did .state;
         decisions = refl;
-        learned = ap (λ (k : ℕ). s .w .learned + k) (did .rise);
-        travel = ap (λ (k : ℕ). s .w .travel + k) (did .cost);
+        learned = omega (arith, did .rise);
+        travel = omega (arith, did .cost);
         table = did .table;
         path = did .path;
         sums = n .note-leg .ensures ∙ (λ i. noted (s .along .now) (s .w .state .length) (did .state i .length) (did .cost i));
       },
-      record { used = serves .used; places = serves .places; shown = serves .shown; way = did .way },
+      search (serves, did),
     )
 
 pub onward-spec : {M : Type 1} → f.Statement.statement M

@@ -8,10 +8,10 @@ returns-2 : tie.Need-returns-2
 returns-2 c =
     let rode = c .before .before .before .before in
     let done = rode .before .before .before in
-    trial-made _ _ _ _ _ _ _ _ _ (done .before .before .open-trial .ensures _ refl) (done .enum-told .given .1) (rode .ride .ensures)
+    trial-made _ _ _ _ _ (done .before .before .open-trial .ensures _ refl) (done .enum-told .given .1) (rode .ride .ensures)
 
 pub trial-spec : {M : Type 1} → f.Statement.statement M
 trial-spec =
     tie.close (tie.spec (λ c κs. search needs) (λ c. search needs) (λ c. search needs)
     (λ c κs. sym (c .before .before .before .before .open-trial .ensures _ refl) ∙ c .before .before .enum-told .given .1) (λ c. search needs)
-    (λ c. trial-refused _ _ _ _ _ _ _ (c .before .before .before .open-trial .ensures _ refl) (c .before .f .given .1)) (λ c. search needs) (λ c. search needs) returns-2)
+    (λ c. trial-refused _ _ _ _ _ (c .before .before .before .open-trial .ensures _ refl) (c .before .f .given .1)) (λ c. search needs) (λ c. search needs) returns-2)
