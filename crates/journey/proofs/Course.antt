@@ -49,7 +49,7 @@ pub record Coursing (j : Job) (bytes : List ℕ) (start trials : ℕ) (table₀ 
       × (courseFrom j bytes start trials table₀ path₀ .rides ≡ done ++ courseFrom j bytes start (limit - made) table path .rides)
       × (courseFrom j bytes start trials table₀ path₀ .settled ≡ courseFrom j bytes start (limit - made) table path .settled)
 
-module _ (j : Job) (bytes : List ℕ) (start trials : ℕ) (table₀ path₀ out₀ : List ℕ) where
+module _ {j : Job} {bytes : List ℕ} {start trials : ℕ} {table₀ path₀ out₀ : List ℕ} where
   pub none-yet : openTrial j bytes start table₀ path₀ ≡ Vd.Done → 1 ≤ trials → trials ≤ 1000 → length out₀ ≡ 65536
       → Coursing j bytes start trials table₀ path₀ out₀ 0 trials table₀ path₀ out₀ 0
   unfolding trialLines
@@ -70,15 +70,12 @@ module _ (j : Job) (bytes : List ℕ) (start trials : ℕ) (table₀ path₀ out
         );
       }
 
-  abbrev Stands : (made limit : ℕ) → (table path out : List ℕ) → ℕ → Type 0
-  Stands made limit table path out at = Coursing j bytes start trials table₀ path₀ out₀ made limit table path out at
-
-  module _ (made limit : ℕ) (table path out : List ℕ) (at : ℕ) (s : Stands made limit table path out at) (h : made < limit) where
+  module _ {made limit : ℕ} {table path out : List ℕ} {at : ℕ} (s : Coursing j bytes start trials table₀ path₀ out₀ made limit table path out at) (h : made < limit) where
     pub may-tell : (openTrial j bytes start table path ≡ Vd.Done) × Room out at
     may-tell = (s .going (omega arith) .1, s .told .room)
 
     one-more : (out′ : List ℕ) (at′ : ℕ) → Told out at (trialLine j bytes (ride j bytes start table path)) out′ at′
-        → Stands (made + 1) (pick (eqb (ride j bytes start table path .learned) 0) 0 limit) (ride j bytes start table path .table) (ride j bytes start table path .path) out′ at′
+        → Coursing j bytes start trials table₀ path₀ out₀ (made + 1) (pick (eqb (ride j bytes start table path .learned) 0) 0 limit) (ride j bytes start table path .table) (ride j bytes start table path .path) out′ at′
     one-more out′ at′ t = by (eqb (ride j bytes start table path .learned) 0) refl
       where
         g : (made ≤ limit) × (openTrial j bytes start table path ≡ Vd.Done)
@@ -96,7 +93,7 @@ module _ (j : Job) (bytes : List ℕ) (start trials : ℕ) (table₀ path₀ out
         many-so = omega (arith, length-append (s .done) (ride j bytes start table path ∷ []), s .many)
 
         by : (b : Bool) → eqb (ride j bytes start table path .learned) 0 ≡ b
-            → Stands (made + 1) (pick b 0 limit) (ride j bytes start table path .table) (ride j bytes start table path .path) out′ at′
+            → Coursing j bytes start trials table₀ path₀ out₀ (made + 1) (pick b 0 limit) (ride j bytes start table path .table) (ride j bytes start table path .path) out′ at′
         by true e =
             let last = ap (λ (n : ℕ). courseFrom j bytes start n table path) left ∙ course-settled j bytes start (limit - (made + 1)) table path e in
             record {
@@ -125,12 +122,12 @@ module _ (j : Job) (bytes : List ℕ) (start trials : ℕ) (table₀ path₀ out
               );
             }
 
-    pub one-told : (t : Trip) (table′ path′ out′ : List ℕ) → Trips j bytes (ride j bytes start table path) t table′ path′ out at out′
-        → Stands (made + 1) (limitAfter limit (t .report)) table′ path′ out′ (t .at)
-    one-told t table′ path′ out′ d = rw (d .rode .record-is, d .rode .table-is, d .rode .path-is) (one-more out′ (t .at) (d .told))
+    pub one-told : {t : Trip} {table′ path′ out′ : List ℕ} → Trips j bytes (ride j bytes start table path) t table′ path′ out at out′
+        → Coursing j bytes start trials table₀ path₀ out₀ (made + 1) (limitAfter limit (t .report)) table′ path′ out′ (t .at)
+    one-told {t} {out′ = out′} d = rw (d .rode .record-is, d .rode .table-is, d .rode .path-is) (one-more out′ (t .at) (d .told))
 
   -- no trial is left
-  module _ (made limit : ℕ) (table path out : List ℕ) (at : ℕ) (s : Stands made limit table path out at) (h : limit ≤ made) where
+  module _ {made limit : ℕ} {table path out : List ℕ} {at : ℕ} (s : Coursing j bytes start trials table₀ path₀ out₀ made limit table path out at) (h : limit ≤ made) where
     lines-are : trialLines j bytes (s .done) ++ lastLine (eqb limit 0) made ≡ courseLines j bytes (courseFrom j bytes start trials table₀ path₀)
     unfolding courseLines
     lines-are = by (decLe limit 0)
@@ -149,8 +146,8 @@ module _ (j : Job) (bytes : List ℕ) (start trials : ℕ) (table₀ path₀ out
             let over = ap (λ (n : ℕ). courseFrom j bytes start n table path) none ∙ course-none j bytes start table path in
             are false (g .2 ∙ ap (λ c. s .done ++ c .rides) over ∙ append-nil (s .done)) (g .3 ∙ ap (λ c. c .settled) over) (ne-eqb limit 0 (λ e. omega arith))
 
-    pub all-told : (out′ : List ℕ) (end : ℕ) → Printed out at (lastLine (eqb limit 0) made) out′ end
+    pub all-told : {out′ : List ℕ} {end : ℕ} → Printed out at (lastLine (eqb limit 0) made) out′ end
         → Ended out₀ 0 (courseLines j bytes (courseFrom j bytes start trials table₀ path₀)) out′ end
-    all-told out′ end p =
+    all-told {out′} {end} p =
         subst (λ l. Ended out₀ 0 l out′ end) lines-are
         (ended-then _ _ (s .told) (ended p (s .told .room .size) (omega (arith, p .next, last-few (eqb limit 0) made, s .told .room .left))))

@@ -173,13 +173,13 @@ pub record Telling (j : Job) (bytes : List ℕ) (start : ℕ) (table₀ path₀ 
   pub moved-is : moved ≡ some (under .drive .at .moves)
   pub room : length moves ≡ leastRoom
 
-module _ (j : Job) (bytes : List ℕ) (start : ℕ) (table₀ path₀ : List ℕ) (opened : openTrial j bytes start table₀ path₀ ≡ Vd.Done) (out₀ : List ℕ) (from : ℕ) where
+module _ {j : Job} {bytes : List ℕ} {start : ℕ} {table₀ path₀ : List ℕ} (opened : openTrial j bytes start table₀ path₀ ≡ Vd.Done) {out₀ : List ℕ} {from : ℕ} where
   pub tells-none : {moves mark cost list place along : List ℕ} → Scratch mark cost list place along → length moves ≡ leastRoom → Room out₀ from
       → Telling j bytes start table₀ path₀ out₀ from (setOut start) table₀ path₀ moves mark cost list place along false out₀ from
   tells-none l room r =
-      let e = sym (sets-out-at j bytes start table₀ path₀ opened l) in
+      let e = sym (sets-out-at j bytes opened l) in
       record {
-        under = sets-out j bytes start table₀ path₀ opened l;
+        under = sets-out opened l;
         told = subst (λ o. Told out₀ from (moveDigits (o .moves)) out₀ from) e (told-none r);
         moved-is = ap (λ o. some (o .moves)) e;
         room = room;
@@ -203,9 +203,9 @@ module _ (j : Job) (bytes : List ℕ) (start : ℕ) (table₀ path₀ : List ℕ
     pub tells : {out′ : List ℕ} {at′ : ℕ} {moved′ : Bool} → length moves′ ≡ length moves → Told out at (moveDigits (take n moves′)) out′ at′ → moved′ ≡ (moved || ltb 0 n)
         → Telling j bytes start table₀ path₀ out₀ from r table′ path′ moves′ mark′ cost′ list′ place′ along′ moved′ out′ at′
     tells {out′} {at′} size u m =
-        let so = sym (goes-on-at j bytes start table₀ path₀ opened (t .under) e a f) in
+        let so = sym (goes-on-at opened (t .under) e a f) in
         record {
-          under = goes-on j bytes start table₀ path₀ opened (t .under) e a f;
+          under = goes-on opened (t .under) e a f;
           told =
               subst (λ o. Told out₀ from (moveDigits (o .moves)) out′ at′) so
               (subst (λ l. Told out₀ from l out′ at′) (more-moves j bytes start table₀ path₀ opened g e laying) (told-then _ _ (t .told) u));

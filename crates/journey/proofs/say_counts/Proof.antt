@@ -7,11 +7,9 @@ use f.Tie as tie
 
 returns : tie.Need-returns
 returns c =
-    let after-counts = c .before .before .before .before in
-    let after-say-none = after-counts .before .before .before .before in
-    let start = after-say-none .before .before .before in
-    let p = c .before .before .before .before .counts .ensures in
-    told-one (printed-then _ _ (after-say-none .say-none .ensures .0) p) (start .pre .size) (omega (arith, counts-room _ p)) (c .spill .ensures)
+    let counts = c .before .before .before .before in
+    let p = counts .counts .ensures in
+    told-one (printed-then _ _ (counts .before .before .before .before .say-none .ensures .0) p) (search) (omega (arith, counts-room _ p)) (c .spill .ensures)
 
 pub say-counts-spec : {M : Type 1} → f.Statement.statement M
 say-counts-spec =
