@@ -106,9 +106,6 @@ module _ (j : Job) (bytes : List ℕ) (start trials : ℕ) (path : List ℕ) (R 
       pub open-refused : {out out′ : List ℕ} {at : ℕ} {f : Refusal} → w ≡ Vd.Refused f → Ended out 0 (refusalLine f) out′ at → Ended out 0 (openedLines j bytes start trials path) out′ at
       open-refused e h = told-as (ap (λ u. toldOf u j bytes start trials (openingTable (floorOf j bytes) (j .q) (goals j)) path) (sym (judged ∙ e))) h
 
-      pub open-done : w ≡ Vd.Done → openTrial j bytes start after path ≡ Vd.Done
-      open-done e = sym O ∙ e
-
       pub open-told : {out out′ : List ℕ} {at : ℕ} → w ≡ Vd.Done → Ended out 0 (toldOf Vd.Done j bytes start trials after path) out′ at → Ended out 0 (openedLines j bytes start trials path) out′ at
       open-told e h =
           told-as (ap (λ t. toldOf Vd.Done j bytes start trials t path) (fill-is done) ∙ ap (λ u. toldOf u j bytes start trials (openingTable (floorOf j bytes) (j .q) (goals j)) path)
@@ -158,15 +155,15 @@ module _ (text buffer after : List ℕ) (r : FloorRead) (room : length buffer �
   unfolding readFloor
   after-is = h .buffer ∙ ap (λ (n : ℕ). floorFrom (floorVerdict text n) text buffer .buffer) room
 
-  pub read-refused : (f : Refusal) → r ≡ Fr.Refused f → floorVerdict text 4096 ≡ Vd.Refused f
-  read-refused f e = by (floorVerdict text 4096) (sym answer-is ∙ e)
+  read-refuses : (f : Refusal) → r ≡ Fr.Refused f → floorVerdict text 4096 ≡ Vd.Refused f
+  read-refuses f e = by (floorVerdict text 4096) (sym answer-is ∙ e)
     where
       by : (v : Verdict) → floorFrom v text buffer .answer ≡ Fr.Refused f → v ≡ Vd.Refused f
       by Vd.Done z = let y : _≡_ {A = ℕ} 0 1 = cc in absurd (omega arith)
       by (Vd.Refused g) z = cc
 
-  pub read-done : (w k : ℕ) → r ≡ Fr.Sizes w k → Read text w k (take (w * k) after)
-  read-done w k e = by (floorVerdict text 4096) refl
+  reads : (w k : ℕ) → r ≡ Fr.Sizes w k → Read text w k (take (w * k) after)
+  reads w k e = by (floorVerdict text 4096) refl
     where
       by : (v : Verdict) → floorVerdict text 4096 ≡ v → Read text w k (take (w * k) after)
       by (Vd.Refused g) z =
@@ -195,6 +192,13 @@ module _ (text buffer after : List ℕ) (r : FloorRead) (room : length buffer �
             long = ap length all ∙ sized .cells ∙ sym same;
           }
 
+-- it is read into a cleared list
+pub read-refused : (text : List ℕ) {after : List ℕ} {r : FloorRead} {f : Refusal} → Reads (readFloor text (replicate 4096 0)) r after → r ≡ Fr.Refused f → floorVerdict text 4096 ≡ Vd.Refused f
+read-refused text {after} {r} {f} h e = read-refuses text (replicate 4096 0) after r (length-replicate {A = ℕ} 4096 0) h f e
+
+pub read-done : {text after : List ℕ} {r : FloorRead} {w k : ℕ} → Reads (readFloor text (replicate 4096 0)) r after → r ≡ Fr.Sizes w k → Read text w k (take (w * k) after)
+read-done {text} {after} {r} {w} {k} h e = reads text (replicate 4096 0) after r (length-replicate {A = ℕ} 4096 0) h w k e
+
 -- ---- the whole
 
 module _ (s : Settings) (text : List ℕ) where
@@ -221,7 +225,7 @@ module _ (s : Settings) (text : List ℕ) where
     pub text-told : {out out′ : List ℕ} {at : ℕ} (f : Refusal) → floorVerdict text 4096 ≡ Vd.Refused f → Ended out 0 (refusalLine f) out′ at → Ended out 0 (printed (judgeAisle s text) s text) out′ at
     text-told f e h = told-as (ap (λ u. printed u s text) (sym (text-next ∙ then-refused _ e))) h
 
-    module _ (w k : ℕ) (bytes : List ℕ) (R : Read text w k bytes) where
+    module _ {w k : ℕ} {bytes : List ℕ} (R : Read text w k bytes) where
       pub readied : Readied (jobIn s w k) bytes (s .trials)
       readied =
           let t = trials-judges (s .trials) .gives (parts .1) in

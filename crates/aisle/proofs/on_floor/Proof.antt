@@ -1,8 +1,7 @@
 -- `aisle::on_floor` meets its contract: the job is the line's, and the table and the path list are as long as the floor.
-use Rattle.learning.proofs.Words.{ℕ, _*_, _≤_, sym, ap, _∙_, subst, arith, needs}
+use Rattle.learning.proofs.Words.{_*_, _≤_, sym, ap, _∙_, needs}
 use Rattle.answers.specs.declared.Job.{Job}
 use Rattle.model.proofs.Moves.{sized-cells}
-use Rattle.aisle.specs.Answers.{Readied}
 use Rattle.aisle.proofs.Answers.{long-part, part-told}
 use Rattle.aisle.proofs.on_floor as f
 use f.Tie as tie
@@ -19,7 +18,7 @@ opened-requires c κs =
     let j = c .before .before .before in
     let s = start j in
     let long = long-part (s .args .width * s .args .height) (small j) ∙ ap (λ (job : Job). job .width * job .height) (sym (j .job-in .ensures)) in
-    (subst (λ job. Readied job (s .args .floor .now) (s .args .s .trials)) (sym (j .job-in .ensures)) (s .pre .0), record { figures = long; places = long; room = s .pre .1 })
+    (rw (j .job-in .ensures) (s .pre .0), record { figures = long; places = long; room = s .pre .1 })
 
 returns : tie.Need-returns
 returns c =
