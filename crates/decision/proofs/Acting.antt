@@ -1,7 +1,7 @@
 -- A decision past its checks, put together from what its parts promise: one law for each way through it.
 -- Assumes nothing.
 use Prim.Native.Nat.{ℕ, _+_, _-_, _*_, _≤_, _<_}
-use mathlib.Core.Path.{_≡_, refl, sym, ap, ap₂, _∙_, subst}
+use mathlib.Core.Path.{_≡_, refl, sym, ap, ap₂, _∙_}
 use mathlib.Core.Bool.{Bool, true, false, _&&_}
 use mathlib.Core.List.{List}
 use native.Mathlib.Nat.{mul-le-mul}
@@ -22,7 +22,7 @@ use Rattle.model.specs.Basics.{member}
 use Rattle.model.specs.Floor.{size, free}
 use Rattle.model.specs.Checks.{ceiling, floorOf, goals}
 use Rattle.model.specs.Lookahead.{seen, ring, w, emptyRing, target}
-use Rattle.model.specs.Decision.{Deed, Outcome, atGoal, refused, rise, stored, forward, forwardBy, backOut, backOutBy, stay, goBack, learn, act, outcomeOf, decide, laid}
+use Rattle.model.specs.Decision.{Deed, atGoal, refused, rise, stored, forward, forwardBy, backOut, backOutBy, stay, goBack, learn, act, outcomeOf, decide, laid}
 use Rattle.model.proofs.Accepted.{Settings, never}
 use Rattle.model.proofs.Moves.{sized-cells, free-below, free-few}
 use Rattle.model.proofs.Benches.{at-goal}
@@ -62,7 +62,7 @@ module _ {j : Job} {bytes : List ℕ} {s : State} {table path : List ℕ} (r : R
   }
 
   pub asked-last : {l : ℕ} → l ≡ getD path (s .length - 1) 0 → 1 ≤ s .length → Asked j bytes l
-  asked-last e h = subst (Asked j bytes) (sym e) (asked-at (s .length - 1) (omega arith))
+  asked-last e h = rw e (asked-at (s .length - 1) (omega arith))
 
   pub weighed : Figures j bytes table
   weighed = record { weight = omega (arith, r .settings .weight, r .settings .fine); size = r .figures; small = r .low }
@@ -114,17 +114,17 @@ shows-last {j} {bytes} {l} {x} is e a h = record { asked = a; seen = h; near = o
 
 module _ {j : Job} {bytes : List ℕ} {s base : ℕ} {mark cost list : List ℕ} {r : Around} where
   pub looked-window : {last n : ℕ} → r ≡ R.Window last n → Looked j bytes s base mark cost list r → Window j bytes s base mark cost list n last
-  looked-window e h = subst (Looked j bytes s base mark cost list) e h
+  looked-window e h = rw e at h
 
 pub looked-empty : (j : Job) (bytes : List ℕ) (s : ℕ) {base : ℕ} {mark cost list : List ℕ} {r : Around} → r ≡ R.Empty → Looked j bytes s base mark cost list r
     → Used base mark cost list × (emptyRing j bytes (seen j bytes s) (seen j bytes s .last) ≡ true)
-looked-empty j bytes s {base} {mark} {cost} {list} e h = subst (Looked j bytes s base mark cost list) e h
+looked-empty j bytes s e h = rw e at h
 
 pub used-at : {b base : ℕ} {mark cost list : List ℕ} → b ≡ base → Used base mark cost list → Used b mark cost list
-used-at {mark = mark} {cost = cost} {list = list} e u = subst (λ b. Used b mark cost list) (sym e) u
+used-at e u = rw e u
 
 pub shown-at : {j : Job} {bytes : List ℕ} {s b base : ℕ} {a : Answer} {mark cost : List ℕ} → b ≡ base → Shown j bytes s a base mark cost → Shown j bytes s a b mark cost
-shown-at {j} {bytes} {s} {b} {base} {a} {mark} {cost} e h = subst (λ n. Shown j bytes s a n mark cost) (sym e) h
+shown-at e h = rw e h
 
 -- m and n are variables so that the lists are not written out
 zeros-used : (m n : ℕ) → m ≡ 4096 → n ≡ 8192 → Used 1 (replicate m 0) (replicate m 0) (replicate n 0)
@@ -137,19 +137,17 @@ used-zeros = zeros-used 4096 8192 refl refl
 
 module _ {j : Job} {bytes : List ℕ} {s : State} where
   pub acts-as : {d d′ : Deed} {r : Acted} {table path : List ℕ} → d ≡ d′ → Acts j bytes s d′ r table path → Acts j bytes s d r table path
-  acts-as {r = r} {table = table} {path = path} e h = subst (λ (x : Deed). Acts j bytes s x r table path) (sym e) h
+  acts-as e h = rw e h
 
   pub acts-refused : {r : Acted} {number base : ℕ} (table path : List ℕ) → r ≡ refusing s number base → Acts j bytes s (refused s table path number) r table path
-  acts-refused {number = number} table path q = subst (λ (x : Acted). Acts j bytes s (refused s table path number) x table path) (sym q)
-      (record { answer = refl; way = refl; state = refl; rise = refl; cost = refl; table = refl; path = refl })
+  acts-refused table path q = rw q (record { answer = refl; way = refl; state = refl; rise = refl; cost = refl; table = refl; path = refl })
 
   pub shown-refused : {r : Acted} {number base b : ℕ} {mark cost : List ℕ} → r ≡ refusing s number base → Shown j bytes (s .current) (r .answer) b mark cost
-  shown-refused {b = b} {mark = mark} {cost = cost} q = subst (λ (x : Acted). Shown j bytes (s .current) (x .answer) b mark cost) (sym q) (record { window = tt })
+  shown-refused q = rw q (record { window = tt })
 
   pub serves-refused : {r : Acted} {number base : ℕ} {mark cost list place path : List ℕ} → r ≡ refusing s number base → Used base mark cost list
       → Places place path (s .length) → Serves j bytes s r mark cost list place path
-  serves-refused {mark = mark} {cost = cost} {list = list} {place = place} {path = path} q u p = subst (λ (x : Acted). Serves j bytes s x mark cost list place path) (sym q)
-      (record { used = u; places = p; shown = record { window = tt } })
+  serves-refused q u p = rw q (record { used = u; places = p; shown = record { window = tt } })
 
   pub acts-arrived : {table path : List ℕ} {base : ℕ} {there : Bool} → free (floorOf j bytes) (s .current) ≡ true → there ≡ member (s .current) (goals j) → there ≡ true
       → Acts j bytes s (act j bytes s table path) (record { answer = A.Arrived; state = s; rise = 0; cost = 0; base = base }) table path
@@ -218,7 +216,7 @@ module _ (j : Job) (bytes : List ℕ) (s : State) (table path : List ℕ) where
   pub act-full : {base n last : ℕ} {mark cost list : List ℕ} → Asked j bytes (s .current) → Window j bytes (s .current) base mark cost list n last
       → act j bytes s table path ≡ learns j bytes s table path
   unfolding learns
-  act-full a h = act-learns j bytes s table path (aside a) (subst (λ k. emptyRing j bytes (seen j bytes (s .current)) k ≡ false) (h .last-is) (h .full))
+  act-full a h = act-learns j bytes s table path (aside a) (rw (h .last-is) at (h .full))
 
   as-learn : {a : Ahead} → Aimed j bytes (s .current) table a → learns j bytes s table path ≡ learn j bytes s (seen j bytes (s .current)) table path (a .figure) (a .target)
   unfolding learns
@@ -261,10 +259,8 @@ module _ (j : Job) (bytes : List ℕ) (s : State) (table path moves : List ℕ) 
   pub decides-refused : {v : Verdict} {place : List ℕ} (q : Refusal) → Judged j bytes s table path (length moves) from place v → v ≡ Vd.Refused q
       → Decides (decide j bytes s table path moves from) (record { answer = A.Refused q; state = s }) table path moves
   decides-refused q h e =
-      subst (λ (o : Outcome). Decides o (record { answer = A.Refused q; state = s }) table path moves) (sym (decide-refused j bytes s table path moves from q (sym (h .verdict) ∙ e)))
-      (record { answer = refl; state = refl; table = refl; path = refl; moves = refl })
+      rw (decide-refused j bytes s table path moves from q (sym (h .verdict) ∙ e)) (record { answer = refl; state = refl; table = refl; path = refl; moves = refl })
 
   pub decides-past : {v : Verdict} {place : List ℕ} {r : Decided} {table′ path′ moves′ : List ℕ} → Judged j bytes s table path (length moves) from place v → v ≡ Vd.Done
       → Decides (outcomeOf Vd.Done (act j bytes s table path) s table path moves from) r table′ path′ moves′ → Decides (decide j bytes s table path moves from) r table′ path′ moves′
-  decides-past {r = r} {table′ = table′} {path′ = path′} {moves′ = moves′} g e h =
-      subst (λ (o : Outcome). Decides o r table′ path′ moves′) (sym (decide-acts j bytes s table path moves from (sym (g .verdict) ∙ e))) h
+  decides-past g e h = rw (decide-acts j bytes s table path moves from (sym (g .verdict) ∙ e)) h

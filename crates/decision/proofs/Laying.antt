@@ -1,6 +1,6 @@
 -- What a decision stores: a figure where it is greater, and moves in a part of the lent list. Assumes nothing.
 use Prim.Native.Nat.{ℕ, suc, _+_, _-_, _≤_, _<_}
-use mathlib.Core.Path.{_≡_, refl, sym, ap, ap₂, subst, _∙_}
+use mathlib.Core.Path.{_≡_, refl, sym, ap, ap₂, _∙_}
 use mathlib.Core.List.{List, [], _∷_, _++_, map, reverse, reverse-cons, append-assoc, map-append}
 use native.Mathlib.Nat.{add-zero}
 use native.Mathlib.Numerals.{add-one}
@@ -143,7 +143,7 @@ lays-none lent from = record { count = refl; moves = sym (ap (λ n. take from le
 
 module _ {a b : Answer} (e : a ≡ b) where
   pub shown-as : {j : Job} {bytes : List ℕ} {s base : ℕ} {mark cost : List ℕ} → Shown j bytes s a base mark cost → Shown j bytes s b base mark cost
-  shown-as {j} {bytes} {s} {base} {mark} {cost} h = subst (λ (x : Answer). Shown j bytes s x base mark cost) e h
+  shown-as h = rw e at h
 
   pub lays-as : (j : Job) (bytes : List ℕ) (s : ℕ) {lent moves : List ℕ} {from n : ℕ} → Lays lent from (wayOf j bytes s b) moves n → Lays lent from (wayOf j bytes s a) moves n
-  lays-as j bytes s {lent} {moves} {from} {n} h = subst (λ (x : Answer). Lays lent from (wayOf j bytes s x) moves n) (sym e) h
+  lays-as j bytes s h = rw e h

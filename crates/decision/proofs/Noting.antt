@@ -1,7 +1,7 @@
 -- A path's places noted under its cells' numbers. A note counts only where the place holds the cell, so scratch that was never cleared does no harm:
 -- a cell of the path is always noted, and so a cell that is not noted is new. Assumes nothing.
 use Prim.Native.Nat.{ℕ, suc, _+_, _≤_, _<_}
-use mathlib.Core.Path.{_≡_, refl, sym, ap, ap₂, _∙_, subst}
+use mathlib.Core.Path.{_≡_, refl, sym, ap, ap₂, _∙_}
 use mathlib.Core.Logic.{_⊎_, inl, inr, _≢_}
 use mathlib.Core.Bool.{Bool, true, false, _&&_}
 use mathlib.Core.List.{List, [], _∷_, _++_, append-nil}
@@ -55,7 +55,7 @@ module _ (path place : List ℕ) (n c : ℕ) where
 module _ {j : Job} {bytes : List ℕ} {current : ℕ} {path : List ℕ} {i : ℕ} where
   pub stands-unfair : {place : List ℕ} {c : ℕ} → c ≡ getD path i 0 → (Fair j bytes current c → ⊥) → Stands j bytes current path i place false
   stands-unfair q h =
-      record { fair = λ e. absurd (never e refl); places = λ e. absurd (never e refl); fault = λ e f. absurd (h (subst (Fair j bytes current) (sym q) f)) }
+      record { fair = λ e. absurd (never e refl); places = λ e. absurd (never e refl); fault = λ e f. absurd (h (rw q f)) }
 
   pub stands-again : {place : List ℕ} {c : ℕ} → c ≡ getD path i 0 → isNoted path place i c ≡ true → Stands j bytes current path i place false
   stands-again {place} {c} q e =
@@ -65,7 +65,7 @@ module _ {j : Job} {bytes : List ℕ} {current : ℕ} {path : List ℕ} {i : ℕ
   pub stands-new : {place : List ℕ} {c : ℕ} → c ≡ getD path i 0 → Places place path i → isNoted path place i c ≡ false → c < 4096 → Fair j bytes current c
       → Stands j bytes current path i (set place c i) true
   stands-new {place} {c} q p e l f =
-      record { fair = λ _. subst (Fair j bytes current) q f; places = λ _. note-more path place i c p l (sym q) (unnoted path place i c p e); fault = λ h. absurd (never refl h) }
+      record { fair = λ _. rw q at f; places = λ _. note-more path place i c p l (sym q) (unnoted path place i c p e); fault = λ h. absurd (never refl h) }
 
 -- ---- the whole path's check
 
