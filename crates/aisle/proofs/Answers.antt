@@ -47,7 +47,7 @@ pub refused : {out out′ : List ℕ} {n : ℕ} (r : Refusal) → Printed out 0 
 refused r p size = ended p size (omega (arith, p .next, refusal-few r))
 
 told-as : {out out′ text text′ : List ℕ} {n : ℕ} → text ≡ text′ → Ended out 0 text out′ n → Ended out 0 text′ out′ n
-told-as {out} {out′} {n = n} e h = subst (λ l. Ended out 0 l out′ n) e h
+told-as e h = rw e at h
 
 -- ---- a job on a floor that is read
 

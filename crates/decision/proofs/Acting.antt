@@ -120,12 +120,6 @@ pub looked-empty : (j : Job) (bytes : List ℕ) (s : ℕ) {base : ℕ} {mark cos
     → Used base mark cost list × (emptyRing j bytes (seen j bytes s) (seen j bytes s .last) ≡ true)
 looked-empty j bytes s e h = rw e at h
 
-pub used-at : {b base : ℕ} {mark cost list : List ℕ} → b ≡ base → Used base mark cost list → Used b mark cost list
-used-at e u = rw e u
-
-pub shown-at : {j : Job} {bytes : List ℕ} {s b base : ℕ} {a : Answer} {mark cost : List ℕ} → b ≡ base → Shown j bytes s a base mark cost → Shown j bytes s a b mark cost
-shown-at e h = rw e h
-
 -- m and n are variables so that the lists are not written out
 zeros-used : (m n : ℕ) → m ≡ 4096 → n ≡ 8192 → Used 1 (replicate m 0) (replicate m 0) (replicate n 0)
 zeros-used m n d e = record { marks = spent-zeros m d; costs = length-replicate {A = ℕ} m 0 ∙ d; cells = length-replicate {A = ℕ} n 0 ∙ e }
@@ -141,9 +135,6 @@ module _ {j : Job} {bytes : List ℕ} {s : State} where
 
   pub acts-refused : {r : Acted} {number base : ℕ} (table path : List ℕ) → r ≡ refusing s number base → Acts j bytes s (refused s table path number) r table path
   acts-refused table path q = rw q (record { answer = refl; way = refl; state = refl; rise = refl; cost = refl; table = refl; path = refl })
-
-  pub shown-refused : {r : Acted} {number base b : ℕ} {mark cost : List ℕ} → r ≡ refusing s number base → Shown j bytes (s .current) (r .answer) b mark cost
-  shown-refused q = rw q (record { window = tt })
 
   pub serves-refused : {r : Acted} {number base : ℕ} {mark cost list place path : List ℕ} → r ≡ refusing s number base → Used base mark cost list
       → Places place path (s .length) → Serves j bytes s r mark cost list place path
@@ -227,20 +218,20 @@ module _ {j : Job} {bytes : List ℕ} {s : State} {table : List ℕ} (path : Lis
     (at : old ≡ getD table (s .current) 0) (over : high ≡ (ltb old (a .figure) && ltb ceiling (a .figure))) where
   pub learns-over : {r : Acted} {base : ℕ} → high ≡ true → r ≡ refusing s 10 base → Acts j bytes s (learns j bytes s table path) r table path
   learns-over e q =
-      acts-as (as-learn j bytes s table path aimed ∙ learn-over j bytes s table path _ (a .figure) _ (ap (λ x. ltb x (a .figure) && ltb ceiling (a .figure)) (sym at) ∙ sym over ∙ e)) (acts-refused table path q)
+      acts-as (as-learn j bytes s table path aimed ∙ learn-over j bytes s table path _ (a .figure) _ (rw (← at, ← over) e)) (acts-refused table path q)
 
   module _ (low : high ≡ false) {u : ℕ} (risen : u ≡ a .figure - old) where
     pub learns-forward : {r : Acted} {table′ path′ : List ℕ} → s .learned + u ≤ j .q * j .quota
         → Acts j bytes s (forward j bytes s (seen j bytes (s .current)) table path (a .figure) (a .target)) r table′ path′ → Acts j bytes s (learns j bytes s table path) r table′ path′
     learns-forward h =
         let within : s .learned + rise table (s .current) (a .figure) ≤ j .q * j .quota = omega arith in
-        acts-as (as-learn j bytes s table path aimed ∙ learn-forward j bytes s table path _ (a .figure) _ (ap (λ x. ltb x (a .figure) && ltb ceiling (a .figure)) (sym at) ∙ sym over ∙ low) (le-leb _ _ within))
+        acts-as (as-learn j bytes s table path aimed ∙ learn-forward j bytes s table path _ (a .figure) _ (rw (← at, ← over) low) (le-leb _ _ within))
 
     pub learns-back : {r : Acted} {table′ path′ : List ℕ} → j .q * j .quota < s .learned + u → Acts j bytes s (goBack j bytes s table path (a .figure)) r table′ path′
         → Acts j bytes s (learns j bytes s table path) r table′ path′
     learns-back h =
         let past : j .q * j .quota < s .learned + rise table (s .current) (a .figure) = omega arith in
-        acts-as (as-learn j bytes s table path aimed ∙ learn-back j bytes s table path _ (a .figure) _ (ap (λ x. ltb x (a .figure) && ltb ceiling (a .figure)) (sym at) ∙ sym over ∙ low) (lt-leb _ _ past))
+        acts-as (as-learn j bytes s table path aimed ∙ learn-back j bytes s table path _ (a .figure) _ (rw (← at, ← over) low) (lt-leb _ _ past))
 
 -- ---- the public call
 

@@ -75,7 +75,8 @@ module _ {j : Job} {bytes : List ℕ} {l x n : ℕ} {out there : List ℕ} (t : 
       t .count ∙ sym (length-map (reverse (movesTo j bytes l x)) opposite ∙ length-reverse (movesTo j bytes l x)) in
       record {
         count = count;
-        moves = laid-in moves (wayBack j bytes l x) part from n d (p ∙ ap (λ (w : List ℕ). map opposite (reverse w) ++ drop n (take d (drop from moves))) way) count (omega arith) (omega (arith, t .few));
+        moves = laid-in moves (wayBack j bytes l x) part from n d
+        (p ∙ ap (λ (w : List ℕ). map opposite (reverse w) ++ drop n (take d (drop from moves))) way) count (omega arith) (omega (arith, t .few));
       }
 
 -- ---- a way turned round, move by move from its end
@@ -141,9 +142,6 @@ module _ {there part part′ : List ℕ} {n k : ℕ} (t : Turned there part n k 
 pub lays-none : (lent : List ℕ) (from : ℕ) → Lays lent from [] lent 0
 lays-none lent from = record { count = refl; moves = sym (ap (λ n. take from lent ++ drop n lent) (add-zero from) ∙ take-append-drop from lent) }
 
-module _ {a b : Answer} (e : a ≡ b) where
-  pub shown-as : {j : Job} {bytes : List ℕ} {s base : ℕ} {mark cost : List ℕ} → Shown j bytes s a base mark cost → Shown j bytes s b base mark cost
-  shown-as h = rw e at h
-
-  pub lays-as : (j : Job) (bytes : List ℕ) (s : ℕ) {lent moves : List ℕ} {from n : ℕ} → Lays lent from (wayOf j bytes s b) moves n → Lays lent from (wayOf j bytes s a) moves n
-  lays-as j bytes s h = rw e h
+pub lays-as : {a b : Answer} (e : a ≡ b) (j : Job) (bytes : List ℕ) (s : ℕ) {lent moves : List ℕ} {from n : ℕ} → Lays lent from (wayOf j bytes s b) moves n
+    → Lays lent from (wayOf j bytes s a) moves n
+lays-as e j bytes s h = rw e h

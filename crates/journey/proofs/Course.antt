@@ -75,7 +75,8 @@ module _ {j : Job} {bytes : List ℕ} {start trials : ℕ} {table₀ path₀ out
     may-tell = (s .going (omega arith) .1, s .told .room)
 
     one-more : (out′ : List ℕ) (at′ : ℕ) → Told out at (trialLine j bytes (ride j bytes start table path)) out′ at′
-        → Coursing j bytes start trials table₀ path₀ out₀ (made + 1) (pick (eqb (ride j bytes start table path .learned) 0) 0 limit) (ride j bytes start table path .table) (ride j bytes start table path .path) out′ at′
+        → Coursing j bytes start trials table₀ path₀ out₀ (made + 1) (pick (eqb (ride j bytes start table path .learned) 0) 0 limit) (ride j bytes start table path .table)
+        (ride j bytes start table path .path) out′ at′
     one-more out′ at′ t = by (eqb (ride j bytes start table path .learned) 0) refl
       where
         g : (made ≤ limit) × (openTrial j bytes start table path ≡ Vd.Done)
@@ -87,7 +88,7 @@ module _ {j : Job} {bytes : List ℕ} {start trials : ℕ} {table₀ path₀ out
         left = omega arith
 
         told-so : Told out₀ 0 (trialLines j bytes (s .done ++ ride j bytes start table path ∷ [])) out′ at′
-        told-so = subst (λ l. Told out₀ 0 l out′ at′) (lines-more j bytes (s .done) (ride j bytes start table path)) (told-then _ _ (s .told) t)
+        told-so = rw lines-more at (told-then _ _ (s .told) t)
 
         many-so : length (s .done ++ ride j bytes start table path ∷ []) ≡ made + 1
         many-so = omega (arith, length-append (s .done) (ride j bytes start table path ∷ []), s .many)
@@ -149,5 +150,5 @@ module _ {j : Job} {bytes : List ℕ} {start trials : ℕ} {table₀ path₀ out
     pub all-told : {out′ : List ℕ} {end : ℕ} → Printed out at (lastLine (eqb limit 0) made) out′ end
         → Ended out₀ 0 (courseLines j bytes (courseFrom j bytes start trials table₀ path₀)) out′ end
     all-told {out′} {end} p =
-        subst (λ l. Ended out₀ 0 l out′ end) lines-are
+        rw lines-are at
         (ended-then _ _ (s .told) (ended p (s .told .room .size) (omega (arith, p .next, last-few (eqb limit 0) made, s .told .room .left))))

@@ -86,9 +86,9 @@ module _ {out out′ text : List ℕ} {at end : ℕ} (p : Printed out at text ou
   told-one {r} s = by (decLe end 65024)
     where
       by : Dec (end ≤ 65024) → Told out at text out′ r
-      by (yes few) = subst (λ n. Told out at text out′ n) (sym (s .kept few))
+      by (yes few) = rw (s .kept few)
           (record { room = record { size = size-after; left = few }; follows = ended .follows })
-      by (no many) = subst (λ n. Told out at text out′ n) (sym (s .spilt (omega arith)))
+      by (no many) = rw (s .spilt (omega arith))
           (record {
             room = record { size = size-after; left = omega arith };
             follows = record {
@@ -195,7 +195,7 @@ module _ {j : Job} {bytes : List ℕ} {start : ℕ} {table₀ path₀ : List ℕ
 
     -- the moves laid are the decision's
     laying : Lays moves 0 (act j bytes (w .state) table path .way) moves′ n
-    laying = subst (λ v. Lays moves 0 v moves′ n) (sym (f .way)) l
+    laying = rw (f .way) l
 
     pub may-say : Room out at × ((n ≤ mostMoves) × (n ≤ length moves′) × ((i : ℕ) → i < n → getD moves′ i 0 < 8))
     may-say = (t .told .room, sayable j bytes start table₀ path₀ opened g e laying)
@@ -214,7 +214,7 @@ module _ {j : Job} {bytes : List ℕ} {start : ℕ} {table₀ path₀ : List ℕ
         }
 
 pub told-ride : {o o′ : Ride} {out out′ : List ℕ} {at at′ : ℕ} → o ≡ o′ → Told out at (moveDigits (o .moves)) out′ at′ → Told out at (moveDigits (o′ .moves)) out′ at′
-told-ride {out = out} {out′ = out′} {at = at} {at′ = at′} e t = subst (λ o. Told out at (moveDigits (o .moves)) out′ at′) e t
+told-ride e t = rw e at t
 
 -- ---- a trial's line
 
@@ -247,4 +247,4 @@ line-is j bytes o moved r e f = (λ i. moveDigits (o .moves) ++ (dash (e i) ++ c
 
 pub told-line : (j : Job) (bytes : List ℕ) (o : Ride) (moved : Bool) (r : Report) → moved ≡ some (o .moves) → r ≡ report j bytes o
     → {out mid out′ : List ℕ} {at end at′ : ℕ} → Told out at (moveDigits (o .moves)) mid end → Told mid end (dash moved ++ countFields r) out′ at′ → Told out at (trialLine j bytes o) out′ at′
-told-line j bytes o moved r e f {out} {mid} {out′} {at} {end} {at′} t u = subst (λ l. Told out at l out′ at′) (line-is j bytes o moved r e f) (told-then _ _ t u)
+told-line j bytes o moved r e f t u = rw (line-is j bytes o moved r e f) at (told-then _ _ t u)

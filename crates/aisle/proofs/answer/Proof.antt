@@ -15,5 +15,4 @@ answer-spec =
     tie.close (tie.spec (λ c κs. search needs) (λ c. search needs) (λ c κs. search needs) (λ c. search needs)
     (λ c. omega (arith, line-text (c .before .before .before .read-line .ensures) (c .before .settings .given .1) .1))
     (λ c. omega (arith, line-text (c .before .before .before .read-line .ensures) (c .before .settings .given .1) .1)) (λ c. search needs) (λ c κs. search needs) (λ c. search needs)
-    (λ c. search (malformed, line-none, refused))
-    (λ c. search needs) returns-2)
+    (λ c. search (malformed, line-none, refused)) (λ c. search needs) returns-2)

@@ -11,5 +11,5 @@ returns c =
 
 pub asked-spec : {M : Type 1} → f.Statement.statement M
 asked-spec =
-    tie.close (tie.spec (λ c κs. search needs) (λ c. search needs) (λ c κs. search needs) (λ c. search needs) (λ c κs. (sym (c .before .before .before .settings-hold .ensures) ∙ c .before .enum-told .given .1, search)) (λ c. search needs) returns (λ c. search needs)
-    (λ c. search needs))
+    tie.close (tie.spec (λ c κs. search needs) (λ c. search needs) (λ c κs. search needs) (λ c. search needs)
+    (λ c κs. (sym (c .before .before .before .settings-hold .ensures) ∙ c .before .enum-told .given .1, search)) (λ c. search needs) returns (λ c. search needs) (λ c. search needs))

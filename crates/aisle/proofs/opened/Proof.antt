@@ -29,5 +29,5 @@ returns-3 c =
 pub opened-spec : {M : Type 1} → f.Statement.statement M
 opened-spec =
     tie.close (tie.spec (λ c κs. search needs) (λ c. search needs) (λ c κs. search needs) (λ c. search needs) (λ c κs. search needs) (λ c. search needs) (λ c κs. search needs)
-    (λ c. search needs) tell-all-requires (λ c. search needs) (λ c. search needs) (λ c. search (fill-refused, refused)) (λ c. search needs) (λ c. search needs) returns-2
-    (λ c. search needs) (λ c. search needs) (λ c. search needs) returns-3)
+    (λ c. search needs) tell-all-requires (λ c. search needs) (λ c. search needs) (λ c. search (fill-refused, refused)) (λ c. search needs) (λ c. search needs) returns-2 (λ c. search needs)
+    (λ c. search needs) (λ c. search needs) returns-3)

@@ -7,6 +7,5 @@ use f.Tie as tie
 
 pub act-spec : {M : Type 1} → f.Statement.statement M
 act-spec =
-    tie.close (tie.spec (λ c κs. search needs) (λ c. (search acts-arrived, search)) (λ c κs. search needs)
-    (λ c κs. (search, (search asked, (search renewed, search)))) (λ c. search needs) (λ c. search needs) (λ c. search needs) (λ c. search needs) (λ c. search needs)
-    (λ c. search needs) (λ c. search needs))
+    tie.close (tie.spec (λ c κs. search needs) (λ c. (search acts-arrived, search)) (λ c κs. search needs) (λ c κs. (search, (search asked, (search renewed, search)))) (λ c. search needs)
+    (λ c. search needs) (λ c. search needs) (λ c. search needs) (λ c. search needs) (λ c. search needs) (λ c. search needs))

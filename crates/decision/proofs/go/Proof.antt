@@ -4,18 +4,21 @@ use Rattle.decision.proofs.Acting.{looked-window, looked-empty, serves-
 use Rattle.decision.proofs.go as f
 use f.Tie as tie
 
--- the lookahead, from the window that it found; and the call's start
+-- the lookahead and the marks that it lent, from the window that it found; and the call's start
 abbrev looked : tie.After-last → tie.After-look
 looked c = search
+
+abbrev lent : tie.After-last → tie.After-mark
+lent c = search
 
 abbrev start : tie.After-look → tie.Start
 start c = search
 
 same-length-3 : tie.Need-same-length-3
 same-length-3 c =
-    let lent : tie.After-mark2 = search in
+    let marked : tie.After-mark2 = search in
     let last : tie.After-last = search in
-    lent .mark2 .given ∙ last .before .before .before .before .before .before .before .mark .given
+    marked .mark2 .given ∙ lent last .mark .given
 
 returns : tie.Need-returns
 returns c =

@@ -1,8 +1,7 @@
 -- `decision::learn` meets its contract: one law of the model for each way by the ceiling and the quota, with what the called function promises.
-use Rattle.learning.proofs.Words.{sym, arith, needs}
+use Rattle.learning.proofs.Words.{arith, needs}
 use Rattle.lookahead.proofs.Fresh.{window-used}
-use Rattle.decision.proofs.Acting.{current-in, aimed-near, table-short, quota-low, weighed, used-at, shown-at, serves-refused, learns-over, learns-forward, learns-back}
-use Rattle.decision.proofs.Laying.{shown-as}
+use Rattle.decision.proofs.Acting.{current-in, aimed-near, table-short, quota-low, weighed, serves-refused, learns-over, learns-forward, learns-back}
 use Rattle.decision.proofs.Noting.{places-down}
 use Rattle.decision.proofs.learn as f
 use f.Tie as tie
@@ -46,9 +45,9 @@ returns-2 c =
     let left = at-forward .forward .ensures .1 in (
       search learns-forward,
       record {
-        used = used-at (left .0) (window-used (pre .1 .1 .0));
+        used = rw (left .0) (window-used (pre .1 .1 .0));
         places = left .2;
-        shown = shown-at (left .0) (shown-as (sym (left .1)) (record { window = record { asked = pre .1 .0; seen = pre .1 .1 .0 .view; near = aimed-near (aimed rise .aim .ensures) } }));
+        shown = rw (left .0, left .1) (record { window = record { asked = pre .1 .0; seen = pre .1 .1 .0 .view; near = aimed-near (aimed rise .aim .ensures) } });
       },
     )
 

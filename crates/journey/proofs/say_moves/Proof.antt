@@ -12,4 +12,6 @@ within m =
     omega (arith, m .moves .ensures .next, digits-length (start .args .moves .now) (start .args .n) (start .pre .1 .1))
 
 pub say-moves-spec : {M : Type 1} → f.Statement.statement M
-say-moves-spec = tie.close (tie.spec (λ c κs. search needs) (λ c κs. omega (arith, within (c .before .before .before))) (λ c. search needs) (λ c. told-one (search) (search) (within (c .before .before .before .before)) (search)))
+say-moves-spec =
+    tie.close (tie.spec (λ c κs. search needs) (λ c κs. omega (arith, within (c .before .before .before))) (λ c. search needs)
+    (λ c. told-one (search) (search) (within (c .before .before .before .before)) (search)))

@@ -6,5 +6,5 @@ use f.Tie as tie
 
 pub tell-spec : {M : Type 1} → f.Statement.statement M
 tell-spec =
-    tie.close (tie.spec (λ c. search needs) (λ c. search needs) (λ c. search needs) (λ c. search needs) (λ c. search needs) (λ c. search needs) (λ c κs. (search, (scratched, (refl, search)))) (λ c. search needs)
-    (λ c. search needs) (λ c. search needs) (λ c. search needs))
+    tie.close (tie.spec (λ c. search needs) (λ c. search needs) (λ c. search needs) (λ c. search needs) (λ c. search needs) (λ c. search needs)
+    (λ c κs. (search, (scratched, (refl, search)))) (λ c. search needs) (λ c. search needs) (λ c. search needs) (λ c. search needs))

@@ -12,5 +12,5 @@ returns c =
 
 pub tell-on-spec : {M : Type 1} → f.Statement.statement M
 tell-on-spec =
-    tie.close (tie.spec (λ c κs. search needs) (λ c κs. let moves : tie.After-tell-moves = search in moves .tell-moves .ensures .told .room) (λ c. search needs) (λ c. search needs) (λ c. search needs) (λ c. search needs) (λ c. search needs) (λ c. search needs)
-    (λ c. search needs) (λ c. search needs) (λ c. search needs) returns)
+    tie.close (tie.spec (λ c κs. search needs) (λ c κs. let moves : tie.After-tell-moves = search in moves .tell-moves .ensures .told .room) (λ c. search needs) (λ c. search needs)
+    (λ c. search needs) (λ c. search needs) (λ c. search needs) (λ c. search needs) (λ c. search needs) (λ c. search needs) (λ c. search needs) returns)

@@ -1,5 +1,5 @@
 -- `run::onward` meets its contract: `act` does the deed, `note_leg` notes its leg, and the sums fit.
-use Rattle.learning.proofs.Words.{_<_, refl, _∙_, arith, needs}
+use Rattle.learning.proofs.Words.{refl, _∙_, arith, needs}
 use Rattle.run.specs.Trials.{Fits, noted}
 use Rattle.run.proofs.onward as f
 use f.Tie as tie
@@ -13,31 +13,21 @@ acted e = search
 abbrev noting : tie.After-struct-known → tie.After-note-leg
 noting e = e .before .before .before
 
+-- from where the counts are added up to the deed
+abbrev done : tie.After-struct-known → tie.After-act
+done e = acted (noting e .before)
+
 note-leg-requires : tie.Need-note-leg-requires
 note-leg-requires c κs =
-    let a = acted c in
-    let did = a .act .ensures .0 in
-    let s = start a in
+    let did = acted c .act .ensures .0 in
+    let s = start (acted c) in
     coe 1 0 (i. Fits (s .args .along .now) (s .args .w .state .length) (did .state i .length) (did .cost i)) (s .pre .0 .fits)
-
--- the counts are low, and so is what is added to them
-low : (e : tie.After-struct-known) →
-    let r = acted (noting e .before) .act .result in
-    let w = start (acted (noting e .before)) .args .w in
-    (w .decisions < 9223372036854775808) × (w .learned < 9223372036854775808) × (w .travel < 9223372036854775808) × (r .rise < 9223372036854775808) × (r .cost < 9223372036854775808)
-low e =
-    let a = acted (noting e .before) in
-    let may = start a .pre .0 in
-    let did = a .act .ensures .0 in
-    omega (arith, may .decisions, may .learned, may .travel, may .rise, may .leg, did .rise, did .cost)
 
 returns : tie.Need-returns
 returns c =
     let n = noting (c .before .before) in
-    let a = acted (n .before) in
-    let did = a .act .ensures .0 in
-    let serves = a .act .ensures .1 in
-    let s = start a .args in (
+    let s = start (done (c .before .before)) .args in
+    let (did, serves) = done (c .before .before) .act .ensures in (
       record {
         state = did .state;
         decisions = refl;
@@ -52,5 +42,7 @@ returns c =
 
 pub onward-spec : {M : Type 1} → f.Statement.statement M
 onward-spec =
-    tie.close (tie.spec (λ c κs. search needs) note-leg-requires (λ c. omega (arith, low c)) (λ c. omega (arith, low (c .before))) (λ c. omega (arith, low (c .before .before)))
-    (λ c. search needs) (λ c. search needs) (λ c. search needs) (λ c. search needs) (λ c. search needs) (λ c. search needs) (λ c. search needs) returns)
+    tie.close (tie.spec (λ c κs. search needs) note-leg-requires (λ c. omega (arith, start (done c) .pre .0 .decisions))
+    (λ c. let a = done (c .before) in let may = start a .pre .0 in omega (arith, may .learned, may .rise, a .act .ensures .0 .rise))
+    (λ c. let a = done (c .before .before) in let may = start a .pre .0 in omega (arith, may .travel, may .leg, a .act .ensures .0 .cost)) (λ c. search needs) (λ c. search needs)
+    (λ c. search needs) (λ c. search needs) (λ c. search needs) (λ c. search needs) (λ c. search needs) returns)

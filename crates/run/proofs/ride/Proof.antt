@@ -6,5 +6,5 @@ use f.Tie as tie
 
 pub ride-spec : {M : Type 1} → f.Statement.statement M
 ride-spec =
-    tie.close (tie.spec (λ c. search needs) (λ c. search needs) (λ c. search needs) (λ c. search needs) (λ c. search needs) (λ c κs. (search, scratched)) (λ c. search needs) (λ c. search needs)
-    (λ c. search needs))
+    tie.close (tie.spec (λ c. search needs) (λ c. search needs) (λ c. search needs) (λ c. search needs) (λ c. search needs) (λ c κs. (search, scratched)) (λ c. search needs)
+    (λ c. search needs) (λ c. search needs))

@@ -6,9 +6,8 @@ use f.Tie as tie
 
 returns-2 : tie.Need-returns-2
 returns-2 c =
-    let rode = c .before .before .before .before in
-    let done = rode .before .before .before in
-    trial-made _ _ _ _ _ (done .before .before .open-trial .ensures _ refl) (done .enum-told .given .1) (rode .ride .ensures)
+    let done = c .before .before .before .before .before .before in
+    trial-made _ _ _ _ _ (done .before .before .before .open-trial .ensures _ refl) (done .before .enum-told .given .1) (search)
 
 pub trial-spec : {M : Type 1} → f.Statement.statement M
 trial-spec =

@@ -1,8 +1,7 @@
 -- `decision::back::back_to` meets its contract: by the test on the last ring, lost or back.
-use Rattle.learning.proofs.Words.{refl, ap, arith, needs, not-true, not-false}
-use Rattle.decision.specs.declared.Acted.{Acted}
+use Rattle.learning.proofs.Words.{refl, arith, needs, not-true, not-false}
 use Rattle.decision.specs.Laying.{Shows}
-use Rattle.decision.proofs.Acting.{shows-last, shown-refused, acts-lost, acts-returns}
+use Rattle.decision.proofs.Acting.{shows-last, acts-lost, acts-returns}
 use Rattle.decision.proofs.back.back_to as f
 use f.Tie as tie
 
@@ -14,9 +13,7 @@ shows : (c : tie.Else1) → let a = start c .args in Shows (a .job) (a .floor .n
 shows c = shows-last (c .before .on-last .ensures) (not-false _ (c .if1 .left)) (search) (search)
 
 returns : tie.Need-returns
-returns c =
-    let q = c .refuse .ensures in
-    (λ path e. search (acts-lost, not-true), (ap (λ (r : Acted). r .base) q, omega (arith, ap (λ (r : Acted). r .state .length) q), shown-refused q))
+returns c = (λ path e. search (acts-lost, not-true), rw (c .refuse .ensures) (refl, omega arith, record { window = tt }))
 
 returns-2 : tie.Need-returns-2
 returns-2 c =

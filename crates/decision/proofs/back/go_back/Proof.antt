@@ -1,8 +1,7 @@
 -- `decision::back::go_back` meets its contract: no path, an empty ring on the way, which means that the cart is lost, or a window.
-use Rattle.learning.proofs.Words.{refl, ap, arith, needs}
+use Rattle.learning.proofs.Words.{refl, arith, needs}
 use Rattle.lookahead.proofs.Fresh.{window-used, renewed}
-use Rattle.decision.specs.declared.Acted.{Acted}
-use Rattle.decision.proofs.Acting.{current-in, table-short, asked-last, looked-window, looked-empty, used-at, shown-at, shown-refused, lost, acts-stays, acts-lost}
+use Rattle.decision.proofs.Acting.{current-in, table-short, asked-last, looked-window, looked-empty, lost, acts-stays, acts-lost}
 use Rattle.decision.proofs.back.go_back as f
 use f.Tie as tie
 
@@ -40,16 +39,16 @@ returns-2 c =
     let at : tie.After-last = search in
     let v = looked-window (at .last .given .1) (looked at .look .ensures) in
     let left = to .back-to .ensures .1 in
-    (to .back-to .ensures .0 _ (last (looked at) .wide16 .ensures .0), (used-at (left .0) (window-used v), left .1, shown-at (left .0) (left .2)))
+    (to .back-to .ensures .0 _ (last (looked at) .wide16 .ensures .0), (rw (left .0) (window-used v), left .1, rw (left .0) (left .2)))
 
 returns-3 : tie.Need-returns-3
 returns-3 c =
     let look : tie.After-look = search in
     let wide = last look in
     let v = looked-empty _ _ _ (c .before .enum-told .given .1) (look .look .ensures) in
-    let q = c .refuse .ensures in (
-      acts-lost _ (wide .wide16 .ensures .0) (omega arith) refl (lost _ (asked-last (start wide .pre .0) (wide .wide16 .ensures .0) (omega arith)) (v .1)) q,
-      (used-at (ap (λ (r : Acted). r .base) q) (v .0), omega (arith, ap (λ (r : Acted). r .state .length) q), shown-refused q),
+    (
+      acts-lost _ (wide .wide16 .ensures .0) (omega arith) refl (lost _ (asked-last (start wide .pre .0) (wide .wide16 .ensures .0) (omega arith)) (v .1)) (c .refuse .ensures),
+      rw (c .refuse .ensures) (v .0, omega arith, record { window = tt }),
     )
 
 pub go-back-spec : {M : Type 1} → f.Statement.statement M

@@ -5,8 +5,5 @@ use f.Tie as tie
 
 pub count-spec : {M : Type 1} → f.Statement.statement M
 count-spec =
-    tie.close (tie.spec (λ c. search needs) (λ c. search needs) (λ c. search needs) (λ c. search needs) (λ c. search needs)
-    (λ c. rw (c .before .answer .given .1))
-    (λ c. rw (c .before .answer2 .given .1)) (λ c. search needs)
-    (λ c. rw (c .before .answer3 .given .1))
-    (λ c. rw (c .before .answer4 .given .1)))
+    tie.close (tie.spec (λ c. search needs) (λ c. search needs) (λ c. search needs) (λ c. search needs) (λ c. search needs) (λ c. rw (c .before .answer .given .1))
+    (λ c. rw (c .before .answer2 .given .1)) (λ c. search needs) (λ c. rw (c .before .answer3 .given .1)) (λ c. rw (c .before .answer4 .given .1)))
