@@ -15,21 +15,16 @@ abbrev μ-loop : tie.MeasureT-loop
 abbrev start : tie.At-loop Inv-loop μ-loop → tie.Start Inv-loop μ-loop
 start e = e .before .before
 
-put-counts-requires : tie.Need-put-counts-requires Inv-loop μ-loop
-put-counts-requires c κs =
-    let e = c .before .before .before in
-    (omega (arith, e .loop .inv .1, start e .pre .enough), omega (arith, start e .pre .few))
-
 loop-again : tie.Need-loop-again Inv-loop μ-loop
 loop-again c =
     let e = c .before .before .before .before .before .before in
     let s = start e in
     let put = c .before .before .put-counts .ensures in
     let size : length (s .args .t3) ≡ 1001 = s .good .1 .1 .0 .1 .0 .1 in
-    (omega arith, ap length put ∙ simp length-set (e .loop .inv .1), write-more _ (s .args .t3) _ (e .loop .inv .2) put refl (omega (arith, size, s .pre .few)) (omega (arith, s .pre .enough)))
+    (omega arith, ap length put ∙ simp length-set (e .loop .inv .1), write-more _ (s .args .t3) _ (e .loop .inv .2) put refl (omega arith) (omega arith))
 
 pub put-all-spec : {M : Type 1} → f.Statement.statement M
 put-all-spec =
-    tie.close (tie.spec Inv-loop μ-loop (λ c. (omega arith, refl, sym (written-none _ (c .before .args .t3)))) (λ c. omega (arith, start (c .before) .pre .few))
-    (λ c. omega (arith, start (c .before) .pre .few)) put-counts-requires (λ c. omega (arith, start (c .before .before .before .before .before .before) .pre .few)) (λ c. omega arith)
-    loop-again (λ c. c .before .loop .inv .1) (λ c. write-all _ _ _ (c .before .loop .i) (c .before .before .before .args .n) (omega arith) (c .before .loop .inv .2)))
+    tie.close (tie.spec Inv-loop μ-loop (λ c. (omega arith, refl, sym (written-none _ (c .before .args .t3)))) (λ c. omega arith) (λ c. omega arith) (λ c κs. (omega arith, omega arith))
+    (λ c. omega arith) (λ c. omega arith) loop-again (λ c. c .before .loop .inv .1)
+    (λ c. write-all _ _ _ (c .before .loop .i) (c .before .before .before .args .n) (omega arith) (c .before .loop .inv .2)))

@@ -15,11 +15,9 @@ abbrev μ-loop : tie.MeasureT-loop
 loop-again : tie.Need-loop-again Inv-loop μ-loop
 loop-again c =
     let g = c .before .before .loop .inv in
-    (omega arith, simp length-set (g .1), read-more _ _ _ _ (omega (arith, g .1, c .before .before .before .before .pre .few)) (g .2) (c .report-at .ensures))
+    (omega arith, simp length-set (g .1), read-more _ _ _ _ (omega arith) (g .2) (c .report-at .ensures))
 
 pub reports-of-spec : {M : Type 1} → f.Statement.statement M
 reports-of-spec =
-    tie.close (tie.spec Inv-loop μ-loop (λ c. (omega arith, refl, sym (records-none _)))
-    (λ c κs. (omega (arith, c .before .before .before .pre .enough), omega (arith, c .before .before .before .pre .few))) (λ c. omega (arith, c .before .before .before .before .pre .few))
-    (λ c. omega (arith, c .before .before .before .before .pre .few)) (λ c. omega (arith, c .before .before .before .before .pre .few)) (λ c. omega arith) loop-again
-    (λ c. read-all _ _ _ _ (omega arith) (c .before .loop .inv .2)))
+    tie.close (tie.spec Inv-loop μ-loop (λ c. (omega arith, refl, sym (records-none _))) (λ c κs. (omega arith, omega arith)) (λ c. omega arith) (λ c. omega arith) (λ c. omega arith)
+    (λ c. omega arith) loop-again (λ c. read-all _ _ _ _ (omega arith) (c .before .loop .inv .2)))
