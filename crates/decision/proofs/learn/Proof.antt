@@ -26,7 +26,7 @@ add-if2 : tie.Need-add-if2
 add-if2 c =
     let aim = aimed (c .before) in
     let r = start aim .pre .0 in
-    record { fits = omega (arith, r .within, quota-low (r .settings), aim .aim .ensures .high) }
+    record { fits = omega (arith, quota-low (r .settings)) }
 
 mul-if2 : tie.Need-mul-if2
 mul-if2 c = record { fits = omega (arith, quota-low (start (aimed (c .before .before)) .pre .0 .settings)) }

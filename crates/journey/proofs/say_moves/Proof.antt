@@ -9,7 +9,7 @@ use f.Tie as tie
 within : (m : tie.After-moves) → m .moves .result ≤ 65536
 within m =
     let start = m .before .before .before .before in
-    omega (arith, m .moves .ensures .next, digits-length (start .args .moves .now) (start .args .n) (start .pre .1 .1))
+    omega (arith, digits-length (start .args .moves .now) (start .args .n) (start .pre .1 .1))
 
 pub say-moves-spec : {M : Type 1} → f.Statement.statement M
 say-moves-spec =

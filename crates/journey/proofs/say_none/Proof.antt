@@ -5,7 +5,7 @@ use Rattle.journey.proofs.say_none as f
 use f.Tie as tie
 
 returns-2 : tie.Need-returns-2
-returns-2 c = (rw (c .before .before .before .before .if1 .left) (c .before .before .byte .ensures), omega (arith, c .before .before .byte .ensures .next))
+returns-2 c = (rw (c .before .before .before .before .if1 .left) (c .before .before .byte .ensures), omega arith)
 
 pub say-none-spec : {M : Type 1} → f.Statement.statement M
 say-none-spec = tie.close (tie.spec (λ c. (rw (c .if1 .taken) (printed-none _ _), omega arith)) (λ c κs. search needs) (λ c. search needs) returns-2)

@@ -31,8 +31,8 @@ returns c =
       record {
         state = did .state;
         decisions = refl;
-        learned = omega (arith, did .rise);
-        travel = omega (arith, did .cost);
+        learned = omega arith;
+        travel = omega arith;
         table = did .table;
         path = did .path;
         sums = n .note-leg .ensures ∙ (λ i. noted (s .along .now) (s .w .state .length) (did .state i .length) (did .cost i));
@@ -42,7 +42,7 @@ returns c =
 
 pub onward-spec : {M : Type 1} → f.Statement.statement M
 onward-spec =
-    tie.close (tie.spec (λ c κs. search needs) note-leg-requires (λ c. omega (arith, start (done c) .pre .0 .decisions))
-    (λ c. let a = done (c .before) in let may = start a .pre .0 in omega (arith, may .learned, may .rise, a .act .ensures .0 .rise))
-    (λ c. let a = done (c .before .before) in let may = start a .pre .0 in omega (arith, may .travel, may .leg, a .act .ensures .0 .cost)) (λ c. search needs) (λ c. search needs)
+    tie.close (tie.spec (λ c κs. search needs) note-leg-requires (λ c. let may = start (done c) .pre .0 in omega arith)
+    (λ c. let a = done (c .before) in let may = start a .pre .0 in omega arith)
+    (λ c. let a = done (c .before .before) in let may = start a .pre .0 in omega arith) (λ c. search needs) (λ c. search needs)
     (λ c. search needs) (λ c. search needs) (λ c. search needs) (λ c. search needs) (λ c. search needs) returns)

@@ -30,7 +30,7 @@ back-to-requires c κs =
     let pre = start wide .pre in
     let v = looked-window (at .last .given .1) (looked at .look .ensures) in (
       asked-last (pre .0) (wide .wide16 .ensures .0) (omega arith),
-      (v .view, (v .last-is, (omega (arith, v .depth, pre .0 .settings .shallow), omega arith, current-in (pre .0), table-short (pre .0), pre .1 .1 .0, pre .1 .1 .1))),
+      (v .view, (v .last-is, (omega arith, omega arith, current-in (pre .0), table-short (pre .0), pre .1 .1 .0, pre .1 .1 .1))),
     )
 
 returns-2 : tie.Need-returns-2

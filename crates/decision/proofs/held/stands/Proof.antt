@@ -25,10 +25,10 @@ returns-2 : tie.Need-returns-2
 returns-2 c = stands-unfair (search) (λ f. never (sym (c .before .is-goal .ensures) ∙ c .if2 .taken) (f .away))
 
 noted-requires : tie.Need-noted-requires
-noted-requires c κs = let g : tie.Else1 = search in (omega arith, omega (arith, start g .pre .1 .1 .size, few g))
+noted-requires c κs = let g : tie.Else1 = search in (omega arith, omega (arith, few g))
 
 slice-write-place : tie.Need-slice-write-place
-slice-write-place c = let g : tie.Else1 = search in omega (arith, start g .pre .1 .1 .size, few g)
+slice-write-place c = let g : tie.Else1 = search in omega (arith, few g)
 
 returns-5 : tie.Need-returns-5
 returns-5 c =

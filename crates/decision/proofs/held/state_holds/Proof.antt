@@ -12,12 +12,12 @@ start c = search
 returns-2 : tie.Need-returns-2
 returns-2 c =
     let start : tie.Start = search in
-    checked-refused (start .pre .1 .1 .0) (c .refuse2 .ensures) (λ h. omega (arith, h .short, start .pre .0 .cells))
+    checked-refused (start .pre .1 .1 .0) (c .refuse2 .ensures) (λ h. omega arith)
 
 path-holds-requires : tie.Need-path-holds-requires
 path-holds-requires c κs =
     let start : tie.Start = search in
-    (start .pre .0, ((omega (arith, start .pre .0 .cells), omega (arith, start .pre .0 .cells, sized-cells (start .pre .0))), start .pre .1 .1 .1))
+    (start .pre .0, ((omega arith, omega (arith, sized-cells (start .pre .0))), search))
 
 returns-3 : tie.Need-returns-3
 returns-3 c =
@@ -30,10 +30,10 @@ returns-4 c =
     let pre = start path .pre in
     let walked = path .path-holds .ensures in
     let r = not-false _ (c .if3 .left) in
-    checked-done (pre .1 .1 .0) (record { within = omega arith; short = omega (arith, pre .0 .cells); sound = walked .sound r }) (walked .places r)
+    checked-done (pre .1 .1 .0) (record { within = omega arith; short = omega arith; sound = walked .sound r }) (walked .places r)
 
 pub state-holds-spec : {M : Type 1} → f.Statement.statement M
 state-holds-spec =
     tie.close (tie.spec (λ c. record { fits = omega (arith, quota-low (c .before .before .before .before .pre .1 .0)) }) (λ c κs. search needs)
-    (λ c. checked-refused (search) (c .refuse .ensures) (λ h. omega (arith, h .within))) (λ c κs. search needs) returns-2 path-holds-requires (λ c κs. search needs) (λ c. search needs)
+    (λ c. checked-refused (search) (c .refuse .ensures) (λ h. omega arith)) (λ c κs. search needs) returns-2 path-holds-requires (λ c κs. search needs) (λ c. search needs)
     returns-3 (λ c. search needs) returns-4)

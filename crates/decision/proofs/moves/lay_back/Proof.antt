@@ -8,7 +8,7 @@ turn-requires : tie.Need-turn-requires
 turn-requires c κs =
     let start : tie.Start = search in
     let traced = c .before .before .before .trace .ensures in
-    ((omega (arith, traced .few), omega (arith, traced .few, part-long (start .args .moves .now) (start .args .from) (start .pre .1 .1 .1))), traced-moves traced)
+    ((omega arith, omega (arith, part-long (start .args .moves .now) (start .args .from) (start .pre .1 .1 .1))), traced-moves traced)
 
 pub lay-back-spec : {M : Type 1} → f.Statement.statement M
 lay-back-spec =

@@ -7,7 +7,7 @@ use f.Tie as tie
 add-t22 : tie.Need-add-t22
 add-t22 c =
     let start : tie.Start = search in
-    record { fits = omega (arith, start .pre .0 .within, quota-low (start .pre .0 .settings), start .pre .1 .1 .0 .high, start .pre .1 .1 .1 .0) }
+    record { fits = omega (arith, quota-low (start .pre .0 .settings)) }
 
 returns : tie.Need-returns
 returns c = (search acts-forward, (refl, refl, search))
