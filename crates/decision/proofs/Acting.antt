@@ -34,7 +34,7 @@ use Rattle.lookahead.specs.declared.Around.the-variants as R
 use Rattle.lookahead.specs.Contract.{Used, Asked, Near, Seen, Window, Looked, Aimed, Figures, movesTo}
 use Rattle.lookahead.proofs.Fresh.{spent-zeros}
 use Rattle.decision.specs.declared.Acted.{Acted}
-use Rattle.decision.specs.Laying.{wayBack, wayOf, counts, Shows, Shown, Lays}
+use Rattle.decision.specs.Laying.{wayBack, wayOf, counts, Shows, Lays}
 use Rattle.decision.specs.Ready.{Places, Ready, Judged, Acts, Serves, Decides}
 use Rattle.decision.specs.Inner.{Open, Extended, refusing, learns}
 

@@ -15,7 +15,7 @@ use Rattle.model.specs.Basics.{choose}
 use Rattle.model.specs.Floor.{opposite}
 use Rattle.model.specs.Decision.{stored, laid}
 use Rattle.lookahead.specs.Contract.{movesTo, Traced}
-use Rattle.decision.specs.Laying.{leastRoom, wayBack, wayOf, Shown, Lays}
+use Rattle.decision.specs.Laying.{leastRoom, wayBack, wayOf, Lays}
 
 -- ---- the figure
 
@@ -76,7 +76,7 @@ module _ {j : Job} {bytes : List ℕ} {l x n : ℕ} {out there : List ℕ} (t : 
       record {
         count = count;
         moves = laid-in moves (wayBack j bytes l x) part from n d
-        (p ∙ ap (λ (w : List ℕ). map opposite (reverse w) ++ drop n (take d (drop from moves))) way) count (omega arith) (omega (arith, t .few));
+            (p ∙ ap (λ (w : List ℕ). map opposite (reverse w) ++ drop n (take d (drop from moves))) way) count (omega arith) (omega (arith, t .few));
       }
 
 -- ---- a way turned round, move by move from its end

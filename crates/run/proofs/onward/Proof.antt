@@ -42,7 +42,6 @@ returns c =
 
 pub onward-spec : {M : Type 1} → f.Statement.statement M
 onward-spec =
-    tie.close (tie.spec (λ c κs. search needs) note-leg-requires (λ c. let may = start (done c) .pre .0 in omega arith)
-    (λ c. let a = done (c .before) in let may = start a .pre .0 in omega arith)
-    (λ c. let a = done (c .before .before) in let may = start a .pre .0 in omega arith) (λ c. search needs) (λ c. search needs)
-    (λ c. search needs) (λ c. search needs) (λ c. search needs) (λ c. search needs) (λ c. search needs) returns)
+    tie.close (tie.spec (λ c κs. search needs) note-leg-requires (λ c. omega (arith, start (done c) .pre .0))
+    (λ c. let a = done (c .before) in omega (arith, start a .pre .0, a .act .ensures .0)) (λ c. let a = done (c .before .before) in omega (arith, start a .pre .0, a .act .ensures .0))
+    (λ c. search needs) (λ c. search needs) (λ c. search needs) (λ c. search needs) (λ c. search needs) (λ c. search needs) (λ c. search needs) returns)

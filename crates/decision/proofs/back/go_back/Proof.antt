@@ -45,8 +45,7 @@ returns-3 : tie.Need-returns-3
 returns-3 c =
     let look : tie.After-look = search in
     let wide = last look in
-    let v = looked-empty _ _ _ (c .before .enum-told .given .1) (look .look .ensures) in
-    (
+    let v = looked-empty _ _ _ (c .before .enum-told .given .1) (look .look .ensures) in (
       acts-lost _ (wide .wide16 .ensures .0) (omega arith) refl (lost _ (asked-last (start wide .pre .0) (wide .wide16 .ensures .0) (omega arith)) (v .1)) (c .refuse .ensures),
       rw (c .refuse .ensures) (v .0, omega arith, record { window = tt }),
     )

@@ -6,34 +6,24 @@ use Rattle.decision.proofs.Judging.{checked-refused, checked-done}
 use Rattle.decision.proofs.held.state_holds as f
 use f.Tie as tie
 
-abbrev start : tie.After-path-holds → tie.Start
-start c = search
-
-returns-2 : tie.Need-returns-2
-returns-2 c =
-    let start : tie.Start = search in
-    checked-refused (start .pre .1 .1 .0) (c .refuse2 .ensures) (λ h. omega arith)
-
 path-holds-requires : tie.Need-path-holds-requires
 path-holds-requires c κs =
     let start : tie.Start = search in
-    (start .pre .0, ((omega arith, omega (arith, sized-cells (start .pre .0))), search))
+    (start .pre .0, ((omega arith, omega (arith, sized-cells (start .pre .0))), start .pre .1 .1 .1))
 
 returns-3 : tie.Need-returns-3
 returns-3 c =
-    let path = c .before .before .before .before in
-    checked-refused (start path .pre .1 .1 .0) (c .refuse3 .ensures) (λ h. path .path-holds .ensures .fault (not-true _ (c .before .if3 .taken)) (h .sound))
+    let walked = c .before .before .before .before .path-holds .ensures in
+    checked-refused (search) (c .refuse3 .ensures) (λ h. walked .fault (not-true _ (c .before .if3 .taken)) (h .sound))
 
 returns-4 : tie.Need-returns-4
 returns-4 c =
-    let path = c .before .before .before in
-    let pre = start path .pre in
-    let walked = path .path-holds .ensures in
+    let walked = c .before .before .before .path-holds .ensures in
     let r = not-false _ (c .if3 .left) in
-    checked-done (pre .1 .1 .0) (record { within = omega arith; short = omega arith; sound = walked .sound r }) (walked .places r)
+    checked-done (search) (record { within = omega arith; short = omega arith; sound = walked .sound r }) (walked .places r)
 
 pub state-holds-spec : {M : Type 1} → f.Statement.statement M
 state-holds-spec =
     tie.close (tie.spec (λ c. record { fits = omega (arith, quota-low (c .before .before .before .before .pre .1 .0)) }) (λ c κs. search needs)
-    (λ c. checked-refused (search) (c .refuse .ensures) (λ h. omega arith)) (λ c κs. search needs) returns-2 path-holds-requires (λ c κs. search needs) (λ c. search needs)
-    returns-3 (λ c. search needs) returns-4)
+    (λ c. checked-refused (search) (c .refuse .ensures) (λ h. omega arith)) (λ c κs. search needs) (λ c. checked-refused (search) (c .refuse2 .ensures) (λ h. omega arith))
+    path-holds-requires (λ c κs. search needs) (λ c. search needs) returns-3 (λ c. search needs) returns-4)
