@@ -147,7 +147,7 @@ module _ (j : Job) (bytes : List ℕ) (start : ℕ) (table₀ path₀ : List ℕ
     sayable = (
       omega (arith, l .count, done .few, ap (λ x. length (x .way)) same),
       omega (arith, l .count, ap length (l .moves), length-append (d .way) (drop (0 + length (d .way)) moves)),
-      λ i h. subst (λ l. getD l i 0 < 8) (sym (l .moves)) (all-at (subst (λ x. All (λ m. m < 8) (x .way)) same (done .low)) _ i (omega (arith, l .count))),
+      λ i h. rw (l .moves) (all-at (rw same at (done .low)) _ i (omega (arith, l .count))),
     )
 
     -- told after the moves before it, they are those of the ride so far
@@ -206,9 +206,7 @@ module _ {j : Job} {bytes : List ℕ} {start : ℕ} {table₀ path₀ : List ℕ
         let so = sym (goes-on-at opened (t .under) e a f) in
         record {
           under = goes-on opened (t .under) e a f;
-          told =
-              subst (λ o. Told out₀ from (moveDigits (o .moves)) out′ at′) so
-              (subst (λ l. Told out₀ from l out′ at′) (more-moves j bytes start table₀ path₀ opened g e laying) (told-then _ _ (t .told) u));
+          told = rw so at (rw (more-moves j bytes start table₀ path₀ opened g e laying) at (told-then _ _ (t .told) u));
           moved-is = m ∙ ap (λ b. b || ltb 0 n) (t .moved-is) ∙ moved-more j bytes start table₀ path₀ opened g e laying ∙ ap (λ o. some (o .moves)) so;
           room = size ∙ t .room;
         }
