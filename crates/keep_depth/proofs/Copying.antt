@@ -122,8 +122,8 @@ depth-few : (line : List ℕ) → length (withOldDepth line) ≤ length line + 2
 depth-few line = by (ℕ-discrete (numbersGiven line) 2)
   where
     by : Dec (numbersGiven line ≡ 2) → length (withOldDepth line) ≤ length line + 2
-    by (yes e) = omega (arith, two-long line e)
-    by (no e) = omega (arith, others-long line e)
+    by (yes e) = omega (arith, two-long line _ refl e .whole)
+    by (no e) = omega (arith, others-long line _ refl e)
 
 -- ---- a part, line by line
 

@@ -5,22 +5,23 @@ use mathlib.Core.List.{List, [], _∷_, _++_}
 use native.Mathlib.Nat.{zero-add}
 use native.Mathlib.Decide.{ℕ-discrete}
 use native.Mathlib.Omega.{arith}
-use mathlib.Core.Bool.{true, false}
+use mathlib.Core.Bool.{Bool, true, false}
 use mathlib.Core.Logic.{_⊎_, inl, inr, ⊎-elim}
-use borrow.Author.Tests.{le-leb, lt-leb, eq-eqb, ne-eqb}
+use borrow.Author.Tests.{le-leb, lt-leb, leb-true, leb-false, eq-eqb, ne-eqb}
 use mathlib.Core.Option.{none}
 use lib.Dec.{eqb, leb}
 use lib.ListN.{length, take, drop, length-append, length-drop}
 use lib.Seq.{length-take-le, sets-eq}
 use Rattle.answers.specs.declared.Place.the-variants as P
-use Rattle.answers.specs.declared.Verdict.the-variants as Vd
-use Rattle.model.specs.Basics.{choose, refuseAt}
+use Rattle.answers.specs.declared.Written.the-variants as Wr
+use Rattle.model.specs.Basics.{choose}
 use Rattle.model.specs.Line.{numbersIn, afterLine, readLineBy, defaultDepth, settingsOf, decimalIn}
-use Rattle.model.specs.KeepDepth.{isAsked, givenOf, numbersFirst, numbersGiven, withOldDepth, depthVerdict}
+use Rattle.model.specs.KeepDepth.{isAsked, givenOf, numbersFirst, numbersGiven, withOldDepth, depthVerdict, withDepth}
+use Rattle.model.specs.Writing.{Writes}
 use Rattle.model.proofs.Accepted.{then-refused, then-next, same-told, le-tells}
 use Rattle.model.proofs.Cut.{asksOf}
 use Rattle.model.proofs.LineForm.{first-none, given-none, given-left, form-judges, formed-ended}
-use Rattle.model.proofs.Writings.{room-judges}
+use Rattle.model.proofs.Writings.{room-judges, writes-refused, writes-done}
 use Rattle.notation.specs.Printing.{Printed}
 use Rattle.notation.proofs.Decimals.{printed-then}
 use Rattle.line.specs.declared.Word.{Word}
@@ -37,43 +38,53 @@ positive (suc n) h = omega arith
 pub line-long : (line : List ℕ) → 1 ≤ numbersGiven line → 1 ≤ length line
 line-long line h = let l = formed-ended line h in omega (arith, ap length (l .is), length-append (l .body) (10 ∷ []))
 
-pub two-become : (line : List ℕ) → numbersGiven line ≡ 2 → withOldDepth line ≡ take (length line - 1) line ++ 32 ∷ 49 ∷ 10 ∷ []
-unfolding withOldDepth decimalIn
-two-become line e = rw (eq-eqb (numbersGiven line) 2 e, withOldDepth)
+-- a line of two numbers: all of it but its LF, and how long it is with its depth
+pub record TwoLong (line : List ℕ) : Type 0 where
+  pub some : 1 ≤ length line
+  pub body : length (take (length line - 1) line) ≡ length line - 1
+  pub whole : length (withOldDepth line) ≡ length line + 2
 
-pub others-stay : (line : List ℕ) → (numbersGiven line ≡ 2 → ⊥) → withOldDepth line ≡ line
-unfolding withOldDepth
-others-stay line e = rw (ne-eqb (numbersGiven line) 2 e, withOldDepth)
+-- a line with its depth, how long it is then, and whether there is room for it
+module _ (line : List ℕ) (given : ℕ) (e : given ≡ numbersGiven line) where
+  module _ (t : given ≡ 2) where
+    two-become : withOldDepth line ≡ take (length line - 1) line ++ 32 ∷ 49 ∷ 10 ∷ []
+    unfolding withOldDepth decimalIn
+    two-become = rw (eq-eqb (numbersGiven line) 2 (sym e ∙ t), withOldDepth)
 
--- all of a line but its LF, as a part of it
-pub body-long : (line : List ℕ) → length (take (length line - 1) line) ≡ length line - 1
-body-long line = length-take-le (length line - 1) line (omega arith)
+    pub two-long : TwoLong line
+    two-long =
+        let l : 1 ≤ length line = line-long line (omega arith) in
+        let b : length (take (length line - 1) line) ≡ length line - 1 = length-take-le (length line - 1) line (omega arith) in
+        record { some = l; body = b; whole = omega (arith, ap length two-become, length-append (take (length line - 1) line) (32 ∷ 49 ∷ 10 ∷ [])) }
 
--- how long it is then
-pub two-long : (line : List ℕ) → numbersGiven line ≡ 2 → length (withOldDepth line) ≡ length line + 2
-two-long line e =
-    let l : 1 ≤ length line = line-long line (omega arith) in
-    omega (arith, ap length (two-become line e), length-append (take (length line - 1) line) (32 ∷ 49 ∷ 10 ∷ []), body-long line)
+    pub two-room : (room : ℕ) → length line ≤ room → leb 2 (room - length line) ≡ leb (length (withOldDepth line)) room
+    two-room room h = let z = two-long .whole in same-told (le-tells 2 (room - length line)) (le-tells (length (withOldDepth line)) room) (λ k. omega arith) (λ k. omega arith)
 
-pub others-long : (line : List ℕ) → (numbersGiven line ≡ 2 → ⊥) → length (withOldDepth line) ≡ length line
-others-long line e = ap length (others-stay line e)
+    -- two become three by what is printed after all but the LF
+    pub two-printed : {buffer mid after : List ℕ} {from at end : ℕ} → Printed buffer from (take (length line - 1) line) mid at → Printed mid at (32 ∷ 49 ∷ 10 ∷ []) after end
+        → Printed buffer from (withOldDepth line) after end
+    two-printed p q = rw two-become (printed-then _ _ p q)
 
--- and whether there is room for it
-module _ (line : List ℕ) (given room : ℕ) (e : given ≡ numbersGiven line) where
-  pub no-room : room < length line → false ≡ leb (length (withOldDepth line)) room
-  no-room h = sym (lt-leb (length (withOldDepth line)) room (by (ℕ-discrete (numbersGiven line) 2)))
+  module _ (t : given ≡ 2 → ⊥) where
+    others-stay : withOldDepth line ≡ line
+    unfolding withOldDepth
+    others-stay = rw (ne-eqb (numbersGiven line) 2 (λ z. t (e ∙ z)), withOldDepth)
+
+    pub others-long : length (withOldDepth line) ≡ length line
+    others-long = ap length others-stay
+
+    pub others-room : (room : ℕ) → length line ≤ room → true ≡ leb (length (withOldDepth line)) room
+    others-room room h = sym (le-leb (length (withOldDepth line)) room (omega (arith, others-long)))
+
+    pub others-printed : {buffer after : List ℕ} {from end : ℕ} → Printed buffer from line after end → Printed buffer from (withOldDepth line) after end
+    others-printed p = rw others-stay p
+
+  pub no-room : (room : ℕ) → room < length line → false ≡ leb (length (withOldDepth line)) room
+  no-room room h = sym (lt-leb (length (withOldDepth line)) room (by (ℕ-discrete given 2)))
     where
-      by : Dec (numbersGiven line ≡ 2) → room < length (withOldDepth line)
-      by (yes t) = omega (arith, two-long line t)
-      by (no t) = omega (arith, others-long line t)
-
-  pub two-room : given ≡ 2 → length line ≤ room → leb 2 (room - length line) ≡ leb (length (withOldDepth line)) room
-  two-room t h =
-      let long : length (withOldDepth line) ≡ length line + 2 = two-long line (sym e ∙ t) in
-      same-told (le-tells 2 (room - length line)) (le-tells (length (withOldDepth line)) room) (λ k. omega arith) (λ k. omega arith)
-
-  pub others-room : (given ≡ 2 → ⊥) → length line ≤ room → true ≡ leb (length (withOldDepth line)) room
-  others-room t h = sym (le-leb (length (withOldDepth line)) room (omega (arith, others-long line (λ z. t (e ∙ z)))))
+      by : Dec (given ≡ 2) → room < length (withOldDepth line)
+      by (yes t) = omega (arith, two-long t)
+      by (no t) = omega (arith, others-long t)
 
 -- the numbers of the line from a place on, counted while they are read
 pub record Counting (bytes : List ℕ) (from count i : ℕ) : Type 0 where
@@ -96,11 +107,11 @@ module _ (bytes : List ℕ) (from : ℕ) (f : First) (z : f .given ≡ 0) where
   none-first e = first-bad (first-none (drop from bytes) (ap (asksOf defaultDepth) e))
 
   pub first-unended : {count i : ℕ} → Counting bytes from count i → length bytes ≤ i → FirstLine bytes from f
-  first-unended g h = none-first (scanned-none (g .scanning) h)
+  first-unended g h = none-first (scanned-none _ (g .scanning) h)
 
   module _ {count i : ℕ} {w : Word} (g : Counting bytes from count i) (W : Worded bytes i w) where
     pub first-no-word : w .good ≡ false → FirstLine bytes from f
-    first-no-word b = none-first (scanned-bad (g .scanning) W b)
+    first-no-word b = none-first (scanned-bad _ (g .scanning) W b)
 
 -- one number more, the last or one with others after it
 module _ {bytes : List ℕ} {from count i : ℕ} {w : Word} (g : Counting bytes from count i) (W : Worded bytes i w) (t : w .good ≡ true) where
@@ -111,7 +122,7 @@ module _ {bytes : List ℕ} {from count i : ℕ} {w : Word} (g : Counting bytes 
       → FirstLine bytes from (record { given = r; end = w .next })
   unfolding numbersFirst
   first-last l f =
-      let z = scanned-last (g .scanning) W t l in
+      let z = scanned-last _ (g .scanning) W t l in
       let all : List ℕ = g .numbers ++ w .value ∷ [] in
       record {
         count = f all one-more ∙ ap (λ (k : ℕ). choose (isAsked (settingsOf all)) k 0) (sym one-more)
@@ -120,7 +131,7 @@ module _ {bytes : List ℕ} {from count i : ℕ} {w : Word} (g : Counting bytes 
       }
 
   pub counting-more : w .last ≡ false → Counting bytes from (count + 1) (w .next)
-  counting-more l = record { numbers = g .numbers ++ w .value ∷ []; scanning = scanning-more (g .scanning) W t l; many = one-more; few = omega (arith, g .few, W .on t .0) }
+  counting-more l = record { numbers = g .numbers ++ w .value ∷ []; scanning = scanning-more _ (g .scanning) W t l; many = one-more; few = omega (arith, g .few, W .on t .0) }
 
 -- how many numbers a line by itself has
 module _ {line : List ℕ} {f : First} (F : FirstLine line 0 f) where
@@ -167,25 +178,33 @@ formed-all (s ∷ g ∷ d ∷ p ∷ q ∷ t ∷ []) n e a b h = refl
 formed-all (s ∷ g ∷ d ∷ p ∷ q ∷ t ∷ m ∷ []) n e a b h = refl
 formed-all (s ∷ g ∷ d ∷ p ∷ q ∷ t ∷ m ∷ x ∷ xs) n e a b h = absurd (omega arith)
 
--- two become three by what is printed after that
-pub two-printed : (line buffer mid after : List ℕ) (from at end : ℕ) → numbersGiven line ≡ 2 → Printed buffer from (take (length line - 1) line) mid at → Printed mid at (32 ∷ 49 ∷ 10 ∷ []) after end
-    → Printed buffer from (withOldDepth line) after end
-two-printed line buffer mid after from at end e p q = rw (two-become line e) (printed-then (take (length line - 1) line) (32 ∷ 49 ∷ 10 ∷ []) p q)
-
 -- bytes printed from the first place on, and what stands after them
-pub printed-first : (buffer bytes after : List ℕ) (end : ℕ) → length bytes ≤ length buffer → Printed buffer 0 bytes after end → (end ≡ length bytes) × (after ≡ bytes ++ drop (length bytes) buffer)
+printed-first : (buffer bytes after : List ℕ) (end : ℕ) → length bytes ≤ length buffer → Printed buffer 0 bytes after end → (end ≡ length bytes) × (after ≡ bytes ++ drop (length bytes) buffer)
 printed-first buffer bytes after end h p = (omega (arith, p .next), p .written ∙ sets-eq bytes buffer 0 (omega arith) ∙ ap (λ (k : ℕ). bytes ++ drop k buffer) (zero-add (length bytes)))
 
 -- what one line is refused by, and when it is written
-module _ (line : List ℕ) (room : ℕ) where
-  pub depth-malformed : numbersGiven line ≡ 0 → refuseAt 3 P.Nowhere ≡ depthVerdict line room
-  unfolding depthVerdict
-  depth-malformed e = sym (then-refused _ (form-judges line .refused (λ h. omega arith)))
+module _ (line buffer : List ℕ) (given : ℕ) (e : given ≡ numbersGiven line) where
+  pub depth-malformed : given ≡ 0 → Writes (withDepth line buffer) (Wr.Refused (record { number = 3; place = P.Nowhere })) buffer
+  unfolding withDepth depthVerdict
+  depth-malformed z = writes-refused _ _ (sym (then-refused _ (form-judges line .refused (λ h. omega arith)))) _ refl
 
-  pub depth-no-room : 1 ≤ numbersGiven line → room < length (withOldDepth line) → refuseAt 17 P.Nowhere ≡ depthVerdict line room
-  unfolding depthVerdict
-  depth-no-room h k = sym (then-next _ (form-judges line .done h) ∙ room-judges _ _ .refused (λ l. omega arith))
+  module _ (some : given ≡ 0 → ⊥) (r : Bool) (f : r ≡ leb (length (withOldDepth line)) (length buffer)) where
+    formed : 1 ≤ numbersGiven line
+    formed = omega (arith, positive given some)
 
-  pub depth-done : 1 ≤ numbersGiven line → length (withOldDepth line) ≤ room → Vd.Done ≡ depthVerdict line room
-  unfolding depthVerdict
-  depth-done h k = sym (then-next _ (form-judges line .done h) ∙ room-judges _ _ .done k)
+    pub depth-no-room : r ≡ false → Writes (withDepth line buffer) (Wr.Refused (record { number = 17; place = P.Nowhere })) buffer
+    unfolding withDepth depthVerdict
+    depth-no-room t =
+        let small : length buffer < length (withOldDepth line) = leb-false _ _ (sym f ∙ t) in
+        writes-refused _ _ (sym (then-next _ (form-judges line .done formed) ∙ room-judges _ _ .refused (λ l. omega arith))) _ refl
+
+    module _ (t : r ≡ true) where
+      pub depth-fits : 0 + length (withOldDepth line) ≤ length buffer
+      depth-fits = let fits : length (withOldDepth line) ≤ length buffer = leb-true _ _ (sym f ∙ t) in omega arith
+
+      pub depth-done : {after : List ℕ} {end : ℕ} → Printed buffer 0 (withOldDepth line) after end → Writes (withDepth line buffer) (Wr.Length end) after
+      unfolding withDepth depthVerdict
+      depth-done p =
+          let fits : length (withOldDepth line) ≤ length buffer = omega (arith, depth-fits) in
+          let whole = printed-first _ _ _ _ fits p in
+          writes-done _ _ (sym (then-next _ (form-judges line .done formed) ∙ room-judges _ _ .done fits)) _ _ refl (whole .0) (whole .1)

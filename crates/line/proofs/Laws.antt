@@ -16,7 +16,7 @@ use Rattle.line.specs.declared.Word.{Word}
 use Rattle.line.specs.declared.Reading.{Reading}
 use Rattle.line.specs.declared.Line.{Line}
 use Rattle.line.specs.declared.Line.the-variants.{Asked, Malformed}
-use Rattle.line.specs.Reading.{joined, after, numbersOf, Beyond, Worded, Goes, Pushed, Scanned, asked, textOf, Said}
+use Rattle.line.specs.Reading.{joined, after, numbersOf, Beyond, Worded, Goes, Pushed, Scanned, asked, textOf, Said, Reads}
 use Rattle.line.proofs.Words.{none-left}
 
 -- a number done, then the others
@@ -69,8 +69,8 @@ module _ {r n : Reading} {value end : ℕ} (G : Goes r) (P : Pushed r value end 
     few = omega (arith, g .0, g .2);
   }
 
-pub full : {r : Reading} → Goes r → 7 ≤ r .count → length (numbersOf r) ≡ 7
-full {r} G h = length-take-le (r .count) (r .numbers) (omega (arith, G .room, G .few)) ∙ omega (arith, G .few)
+pub full : {r n : Reading} {value end : ℕ} → Goes r → Pushed r value end n → n .ok ≡ false → length (numbersOf r) ≡ 7
+full {r} G P f = length-take-le (r .count) (r .numbers) (omega (arith, G .room, G .few)) ∙ omega (arith, G .few, P .bad f (G .ok))
 
 -- the line from a place on, read up to i: its numbers are these and those of the bytes left, and what stands after it
 pub record Scanning (input : List ℕ) (from : ℕ) (ns : List ℕ) (i : ℕ) : Type 0 where
@@ -94,10 +94,10 @@ pub goes : (r : Reading) → (r .ok ≡ true) × (r .count ≡ 0) × (length (r 
 goes r e = record { ok = e .0; room = e .2; few = omega (arith, e .1) }
 
 -- the LF is never there
-pub scanned-none : {input ns : List ℕ} {from i : ℕ} → Scanning input from ns i → length input ≤ i → numbersIn 0 0 (drop from input) ≡ none
-scanned-none {input} {ns} {from} {i} g h = sym (g .same) ∙ ap (λ l. after ns (numbersIn 0 0 l)) (drop-of-length-le input h) ∙ ap (after ns) (none-left 0 0)
+pub scanned-none : (from : ℕ) {input ns : List ℕ} {i : ℕ} → Scanning input from ns i → length input ≤ i → numbersIn 0 0 (drop from input) ≡ none
+scanned-none from {input} {ns} g h = sym (g .same) ∙ ap (λ l. after ns (numbersIn 0 0 l)) (drop-of-length-le input h) ∙ ap (after ns) (none-left 0 0)
 
-module _ {input ns : List ℕ} {from i : ℕ} {w : Word} (g : Scanning input from ns i) (W : Worded input i w) where
+module _ (from : ℕ) {input ns : List ℕ} {i : ℕ} {w : Word} (g : Scanning input from ns i) (W : Worded input i w) where
   pub scanned-bad : w .good ≡ false → numbersIn 0 0 (drop from input) ≡ none
   scanned-bad f = sym (g .same) ∙ ap (after ns) (W .bad f)
 
@@ -126,13 +126,13 @@ module _ {input ns : List ℕ} {from i : ℕ} {w : Word} (g : Scanning input fro
 -- a line that goes on, with one number more
 pub scanning-pushed : {input : List ℕ} {r n : Reading} {i : ℕ} {w : Word} → Scanning input 0 (numbersOf r) i → Worded input i w → w .good ≡ true → w .last ≡ false
     → Goes r → Pushed r (w .value) (w .next) n → n .ok ≡ true → Scanning input 0 (numbersOf n) (w .next) × Goes n
-scanning-pushed {input} {w = w} g W t l G P o = (subst (λ (ns : List ℕ). Scanning input 0 ns (w .next)) (sym (numbers-more G P o)) (scanning-more g W t l), goes-on G P o)
+scanning-pushed {input} {w = w} g W t l G P o = (subst (λ (ns : List ℕ). Scanning input 0 ns (w .next)) (sym (numbers-more G P o)) (scanning-more 0 g W t l), goes-on G P o)
 
 -- a line that is read to its LF
 pub scanned : {input : List ℕ} {r n : Reading} {i : ℕ} {w : Word} → Scanning input 0 (numbersOf r) i → Worded input i w → w .good ≡ true → w .last ≡ true
     → Goes r → Pushed r (w .value) (w .next) n → n .ok ≡ true → Scanned input n
 scanned {input} {n = n} {w = w} g W t l G P o =
-    let z = scanned-last g W t l in
+    let z = scanned-last 0 g W t l in
     let k = goes-on G P o in
     let e = P .good o .3 in
     record {
@@ -141,7 +141,7 @@ scanned {input} {n = n} {w = w} g W t l G P o =
     }
 
 -- what a line's numbers say; more than seven ask for nothing
-pub beyond-asks-nothing : (input : List ℕ) → Beyond (numbersIn 0 0 input) → readLine input ≡ none
+beyond-asks-nothing : (input : List ℕ) → Beyond (numbersIn 0 0 input) → readLine input ≡ none
 unfolding readLineBy
 beyond-asks-nothing input b = by (numbersIn 0 0 input) b
   where
@@ -160,7 +160,7 @@ beyond-asks-nothing input b = by (numbersIn 0 0 input) b
         many (s ∷ g ∷ d ∷ p ∷ q ∷ t ∷ []) h = absurd (omega arith)
         many (s ∷ g ∷ d ∷ p ∷ q ∷ t ∷ k ∷ []) h = absurd (omega arith)
 
-pub none-some : (s : Settings) → none ≡ some s → ⊥
+none-some : (s : Settings) → none ≡ some s → ⊥
 none-some s e = subst holds e tt
   where
     holds : Option Settings → Type 0
@@ -188,3 +188,23 @@ said-none ns count start h n = record { settings = sym (ap (λ l. settingsOf (ta
     few (suc (suc (suc (suc (suc (suc zero)))))) n = absurd (n .4 refl)
     few (suc (suc (suc (suc (suc (suc (suc zero))))))) n = absurd (n .5 refl)
     few (suc (suc (suc (suc (suc (suc (suc (suc k)))))))) n = absurd (omega (arith, n .0))
+
+-- the line that is read: malformed, or what its numbers say
+module _ {input : List ℕ} {r : Reading} (S : Scanned input r) where
+  pub reads-none : r .ok ≡ false → Reads input Malformed
+  reads-none f = record { settings = sym (beyond-asks-nothing _ (S .bad f)); text = λ s e. absurd (none-some s e) }
+
+  module _ (t : r .ok ≡ true) where
+    pub few-read : (r .count ≤ 7) × (length (r .numbers) ≡ 7)
+    few-read = (S .good t .1, S .good t .0)
+
+    pub reads : {l : Line} → Said (r .numbers) (r .count) (r .end) l → Reads input l
+    unfolding readLineBy
+    reads e =
+        let g = S .good t in
+        record {
+          settings = e .settings ∙ sym (ap (asksOf defaultDepth) (g .2));
+          text = λ s f.
+              let k = e .text s f in
+              (ap (λ n. drop n input) k ∙ g .3, omega (arith, k, g .4));
+        }

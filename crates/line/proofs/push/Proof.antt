@@ -6,5 +6,5 @@ use f.Tie as tie
 
 pub push-spec : {M : Type 1} → f.Statement.statement M
 push-spec =
-    tie.close (tie.spec (λ c κs. search needs) (λ c. record { good = λ t. absurd (never t (c .blank .ensures .0)); bad = λ f o. omega arith }) (λ c. search needs) (λ c. search needs)
-    (λ c. search needs) (λ c. record { good = λ t. (omega arith, refl, refl, refl); bad = λ f o. absurd (never o f) }))
+    tie.close (tie.spec (search needs) (λ c. record { good = λ t. absurd (never t (c .blank .ensures .0)); bad = λ f o. omega arith }) (search needs) (search needs) (search needs)
+    (λ c. record { good = λ t. (omega arith, refl, refl, refl); bad = λ f o. absurd (never o f) }))
