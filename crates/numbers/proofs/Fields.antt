@@ -42,5 +42,5 @@ module _ (out : List ℕ) (at : ℕ) (list : List ℕ) where
           printed = rw f at (printed-then (fieldsOf (take i list)) (field x) (g .printed) (P .0));
         }
 
-    pub fields-all : length list ≤ i → Printed out at (fieldsOf list) mid end × (end ≤ at + 21 * length list)
-    fields-all h = (rw (take-all i list h) at (g .printed), omega (arith, g .few, g .short))
+    pub fields-all : length list ≤ i → Printed out at (fieldsOf list) mid end
+    fields-all h = rw (take-all i list h) at (g .printed)

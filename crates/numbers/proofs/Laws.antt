@@ -109,13 +109,14 @@ module _ (input : List ℕ) (at : ℕ) (r : Run) (e : r ≡ runAt greatest input
       then-byte : digitsFrom (r .after) (r .value) (getD input (r .after) 0 ∷ drop (r .after + 1) input) ≡ digitsFrom at 0 (drop at input)
       then-byte = ap (digitsFrom (r .after) (r .value)) (sym (here input (r .after) l)) ∙ after-run
 
-      pub digits-blank : isBlank (getD input (r .after) 0) ≡ true → Number (r .value) (r .after) ≡ digitsFrom at 0 (drop at input)
-      digits-blank b = at-blank (r .after) (r .value) (getD input (r .after) 0) (drop (r .after + 1) input) b ∙ then-byte
+      module _ (b : Bool) (f : b ≡ isBlank (getD input (r .after) 0)) where
+        pub digits-blank : b ≡ true → Number (r .value) (r .after) ≡ digitsFrom at 0 (drop at input)
+        digits-blank t = at-blank (r .after) (r .value) (getD input (r .after) 0) (drop (r .after + 1) input) (sym f ∙ t) ∙ then-byte
 
-      pub digits-bad : isBlank (getD input (r .after) 0) ≡ false → Malformed ≡ digitsFrom at 0 (drop at input)
-      digits-bad b =
-          let d : isDigit (getD input (r .after) 0) ≡ false = rw e (run-after greatest input at) in
-          at-bad (r .after) (r .value) (getD input (r .after) 0) (drop (r .after + 1) input) b (rw d) ∙ then-byte
+        pub digits-bad : b ≡ false → Malformed ≡ digitsFrom at 0 (drop at input)
+        digits-bad t =
+            let d : isDigit (getD input (r .after) 0) ≡ false = rw e (run-after greatest input at) in
+            at-bad (r .after) (r .value) (getD input (r .after) 0) (drop (r .after + 1) input) (sym f ∙ t) (rw d) ∙ then-byte
 
 -- the first byte of what may begin with blanks
 module _ (i : ℕ) where
@@ -136,13 +137,14 @@ module _ (input : List ℕ) (at i : ℕ) (same : numberFrom i (drop i input) ≡
   pub blanks-end : length input ≤ i → End ≡ numberAt input at
   blanks-end h = no-byte i (drop i input) (drop-of-length-le input h) ∙ same
 
-  module _ (h : i < length input) where
-    pub blanks-over : isBlank (getD input i 0) ≡ false → digitsFrom i 0 (drop i input) ≡ numberAt input at
-    blanks-over e = ap (digitsFrom i 0) (here input i h) ∙ no-blank i (getD input i 0) (drop (i + 1) input) e ∙ ap (numberFrom i) (sym (here input i h)) ∙ same
+  module _ (h : i < length input) (b : Bool) (f : b ≡ isBlank (getD input i 0)) where
+    pub blanks-over : b ≡ false → (n : Item) → n ≡ digitsFrom i 0 (drop i input) → n ≡ numberAt input at
+    blanks-over t n e =
+        e ∙ ap (digitsFrom i 0) (here input i h) ∙ no-blank i (getD input i 0) (drop (i + 1) input) (sym f ∙ t) ∙ ap (numberFrom i) (sym (here input i h)) ∙ same
 
-    pub blanks-more : isBlank (getD input i 0) ≡ true → numberFrom (i + 1) (drop (i + 1) input) ≡ numberAt input at
-    blanks-more e =
-        ap (λ n. numberFrom n (drop (i + 1) input)) (add-one i) ∙ one-blank i (getD input i 0) (drop (i + 1) input) e ∙ ap (numberFrom i) (sym (here input i h)) ∙ same
+    pub blanks-more : b ≡ true → numberFrom (i + 1) (drop (i + 1) input) ≡ numberAt input at
+    blanks-more t =
+        ap (λ n. numberFrom n (drop (i + 1) input)) (add-one i) ∙ one-blank i (getD input i 0) (drop (i + 1) input) (sym f ∙ t) ∙ ap (numberFrom i) (sym (here input i h)) ∙ same
 
 -- one number more
 module _ (most : ℕ) (input : List ℕ) (c : Cursor) where
@@ -150,17 +152,17 @@ module _ (most : ℕ) (input : List ℕ) (c : Cursor) where
   unfolding numberIn
   number-not e = rw e
 
-  module _ (t : c .ok ≡ true) where
-    pub number-by : (n m : Item) → n ≡ numberAt input (c .at) → n ≡ m → atMost most m ≡ numberIn most input c
+  module _ (t : c .ok ≡ true) (n : Item) (e : n ≡ numberAt input (c .at)) where
+    pub number-by : (m : Item) → n ≡ m → (r : Cursor) → r ≡ atMost most m → r ≡ numberIn most input c
     unfolding numberIn
-    number-by n m e f = sym (rw (t, ← e, f))
+    number-by m f r g = g ∙ sym (rw (t, ← e, f))
 
-    module _ (v after : ℕ) (n : Item) (e : n ≡ numberAt input (c .at)) (f : n ≡ Number v after) where
+    module _ (v after : ℕ) (f : n ≡ Number v after) where
       pub number-read : v ≤ most → record { ok = true; at = after; value = v } ≡ numberIn most input c
-      number-read h = sym (rw (le-leb v most h)) ∙ number-by n (Number v after) e f
+      number-read h = number-by (Number v after) f _ (sym (rw (le-leb v most h)))
 
       pub number-over : most < v → failed ≡ numberIn most input c
-      number-over h = sym (rw (lt-leb v most h)) ∙ number-by n (Number v after) e f
+      number-over h = number-by (Number v after) f _ (sym (rw (lt-leb v most h)))
 
 -- nothing left
 module _ (input : List ℕ) (c : Cursor) where
@@ -168,6 +170,6 @@ module _ (input : List ℕ) (c : Cursor) where
   unfolding endedAt
   ended-not e = rw e
 
-  pub ended-by : c .ok ≡ true → (n m : Item) → n ≡ numberAt input (c .at) → n ≡ m → isEnd m ≡ endedAt input c
+  pub ended-by : c .ok ≡ true → (n m : Item) → n ≡ numberAt input (c .at) → n ≡ m → (b : Bool) → b ≡ isEnd m → b ≡ endedAt input c
   unfolding endedAt
-  ended-by t n m e f = sym (rw (t, ← e, f))
+  ended-by t n m e f b g = g ∙ sym (rw (t, ← e, f))

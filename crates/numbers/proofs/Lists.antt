@@ -34,9 +34,9 @@ module _ (most : ℕ) (input : List ℕ) (i : ℕ) (d : Cursor) (list : List ℕ
     unfolding turned
     good-turn t = ap (turned n e) (sym t) ∙ one-turn n e same
 
--- a list that is read: what it is, and that its count is one of its entries
-abbrev Ends : (most : ℕ) (input : List ℕ) → Cursor → (list : List ℕ) → Cursor → List ℕ → Type 0
-Ends most input c list r mid = Read (readList most input c list) r mid × ((r .value ≤ length mid) × (r .value ≡ length (take (r .value) mid)))
+-- a list that is read, where the cursor is told in another way
+pub read-after : (most : ℕ) (input list : List ℕ) {mid : List ℕ} {c d r : Cursor} → c ≡ d → Read (readList most input c list) r mid → Read (readList most input d list) r mid
+read-after most input list e x = rw e at x
 
 -- a list so far, i of as many entries as the cursor says: reading on from here gives what reading the whole list gives
 pub record Filling (most : ℕ) (input : List ℕ) (c : Cursor) (list : List ℕ) (count : ℕ) (mid : List ℕ) (d : Cursor) (i : ℕ) : Type 0 where
@@ -47,15 +47,12 @@ pub record Filling (most : ℕ) (input : List ℕ) (c : Cursor) (list : List ℕ
   pub left : fillFrom most input (c .value - i) i d mid ≡ readList most input c list
 
 module _ (most : ℕ) (input : List ℕ) (c : Cursor) (list : List ℕ) where
-  ends : (mid : List ℕ) (r : Cursor) → r .value ≤ length mid → filled r mid ≡ readList most input c list → Ends most input c list r mid
-  ends mid r h e = (record { cursor = ap (λ x. x .cursor) e; entries = ap (λ x. x .list) e }, (h, sym (length-take-le (r .value) mid h)))
+  read : (mid : List ℕ) (r : Cursor) → filled r mid ≡ readList most input c list → Read (readList most input c list) r mid
+  read mid r e = record { cursor = ap (λ x. x .cursor) e; entries = ap (λ x. x .list) e }
 
-  fails : (mid : List ℕ) (r : Cursor) → r ≡ failed → filled failed mid ≡ readList most input c list → Ends most input c list r mid
-  fails mid r e f = ends mid r (omega (arith, ap (λ x. x .value) e)) (ap (λ x. filled x mid) e ∙ f)
-
-  pub filling-long : length list < c .value → (r : Cursor) → r ≡ failed → Ends most input c list r list
+  pub filling-long : length list < c .value → Read (readList most input c list) failed list
   unfolding readList
-  filling-long h r e = fails list r e (sym (rw (lt-leb (c .value) (length list) h)))
+  filling-long h = read list failed (sym (rw (lt-leb (c .value) (length list) h)))
 
   pub filling : c .value ≤ length list → Filling most input c list (c .value) list c 0
   unfolding readList
@@ -67,27 +64,31 @@ module _ (most : ℕ) (input : List ℕ) (c : Cursor) (list : List ℕ) where
     left = ap (λ n. fillFrom most input n 0 c list) z ∙ sym (rw (le-leb (c .value) (length list) h));
   }
 
-  module _ {count : ℕ} {mid : List ℕ} {d : Cursor} {i : ℕ} (g : Filling most input c list count mid d i) where
-    pub filling-all : count ≤ i → (r : Cursor) → r ≡ record { ok = d .ok; at = d .at; value = count } → Ends most input c list r mid
-    filling-all h r e =
-        let z : zero ≡ c .value - i = omega (arith, g .all) in
-        let n : count ≡ i = omega (arith, g .few) in
-        ends mid r (omega (arith, ap (λ x. x .value) e, g .room, g .same))
-        (ap (λ x. filled x mid) e ∙ ap (λ n. filled (record { ok = d .ok; at = d .at; value = n }) mid) n ∙ no-turn most input i d mid
-        ∙ ap (λ n. fillFrom most input n i d mid) z ∙ g .left)
+-- read on: to the end, where its count is that of its entries, or one turn more
+module _ {most : ℕ} {input : List ℕ} {c : Cursor} {list : List ℕ} {count : ℕ} {mid : List ℕ} {d : Cursor} {i : ℕ} (g : Filling most input c list count mid d i) where
+  pub filling-all : {r : Cursor} → count ≤ i → r ≡ record { ok = d .ok; at = d .at; value = count }
+      → Read (readList most input c list) r mid × ((r .value ≤ length mid) × (r .value ≡ length (take (r .value) mid)))
+  filling-all h e =
+      let z : zero ≡ c .value - i = omega (arith, g .all) in
+      let n : count ≡ i = omega (arith, g .few) in
+      let fits : count ≤ length mid = omega (arith, g .room, g .same) in
+      rw e (
+        read most input c list mid _ (ap (λ n. filled (record { ok = d .ok; at = d .at; value = n }) mid) n ∙ no-turn most input i d mid ∙ ap (λ n. fillFrom most input n i d mid) z ∙ g .left),
+        (fits, sym (length-take-le count mid fits)),
+      )
 
-    module _ (h : i < count) (e : Cursor) (same-e : e ≡ numberIn most input d) where
-      turn : fillFrom most input (suc (c .value - (i + 1))) i d mid ≡ readList most input c list
-      turn = let z : suc (c .value - (i + 1)) ≡ c .value - i = omega (arith, g .all) in ap (λ n. fillFrom most input n i d mid) z ∙ g .left
+  module _ (h : i < count) (e : Cursor) (same-e : e ≡ numberIn most input d) where
+    turn : fillFrom most input (suc (c .value - (i + 1))) i d mid ≡ readList most input c list
+    turn = let z : suc (c .value - (i + 1)) ≡ c .value - i = omega (arith, g .all) in ap (λ n. fillFrom most input n i d mid) z ∙ g .left
 
-      pub filling-off : e .ok ≡ false → (r : Cursor) → r ≡ failed → Ends most input c list r mid
-      filling-off t r f = fails mid r f (bad-turn most input i d mid (c .value - (i + 1)) e same-e t ∙ turn)
+    pub filling-off : e .ok ≡ false → Read (readList most input c list) failed mid
+    filling-off t = read most input c list mid failed (bad-turn most input i d mid (c .value - (i + 1)) e same-e t ∙ turn)
 
-      pub filling-more : e .ok ≡ true → Filling most input c list count (set mid i (e .value)) e (i + 1)
-      filling-more t = record {
-        all = g .all;
-        few = omega arith;
-        room = g .room;
-        same = length-set mid i (e .value) ∙ g .same;
-        left = ap (λ k. fillFrom most input (c .value - (i + 1)) k e (set mid i (e .value))) (add-one i) ∙ good-turn most input i d mid (c .value - (i + 1)) e same-e t ∙ turn;
-      }
+    pub filling-more : e .ok ≡ true → Filling most input c list count (set mid i (e .value)) e (i + 1)
+    filling-more t = record {
+      all = g .all;
+      few = omega arith;
+      room = g .room;
+      same = length-set mid i (e .value) ∙ g .same;
+      left = ap (λ k. fillFrom most input (c .value - (i + 1)) k e (set mid i (e .value))) (add-one i) ∙ good-turn most input i d mid (c .value - (i + 1)) e same-e t ∙ turn;
+    }

@@ -11,18 +11,8 @@ Inv-loop input list₀ count d₀ i₀ list d i = Filling 65535 input d₀ list�
 abbrev μ-loop : tie.MeasureT-loop
 μ-loop input list₀ count d₀ i₀ list d i = count - i
 
-loop-off : tie.Need-returns-2 Inv-loop μ-loop
-loop-off c =
-    let turn = c .before .before .before in
-    filling-off _ _ _ _ (turn .before .before .loop .inv) (omega arith) _ (turn .number .ensures .0) (not-true _ (c .before .if2 .taken)) _ (c .fail2 .ensures)
-
-loop-again : tie.Need-loop-again Inv-loop μ-loop
-loop-again c =
-    let turn = c .before .before .before in
-    filling-more _ _ _ _ (turn .before .before .loop .inv) (omega arith) _ (turn .number .ensures .0) (not-false _ (c .before .if2 .left))
-
 pub fill16-spec : {M : Type 1} → f.Statement.statement M
 fill16-spec =
-    tie.close (tie.spec Inv-loop μ-loop (λ c κs. search needs) (λ c. filling-long _ _ _ _ (omega arith) _ (c .fail .ensures)) (λ c. filling _ _ _ _ (omega arith)) (λ c κs. search needs)
-    (λ c κs. search needs) (λ c. omega arith) loop-off (λ c. omega (arith, c .before .before .before .number .ensures .1)) (λ c. omega arith) (λ c. omega arith) (λ c. omega arith)
-    (λ c. omega arith) loop-again (λ c κs. search needs) (λ c. omega arith) (λ c. filling-all _ _ _ _ (c .before .before .loop .inv) (omega arith) _ (c .expect .ensures)))
+    tie.close (tie.spec Inv-loop μ-loop (search needs) (λ c. rw (c .fail .ensures) (search (filling-long, needs))) (λ c. search (filling, needs)) (search needs) (search needs) (search needs)
+    (λ c. rw (c .fail2 .ensures) (search (filling-off, not-true, needs))) (λ c. omega (arith, c .before .before .before .number .ensures .1)) (search needs) (search needs) (search needs)
+    (search needs) (λ c. search (filling-more, not-false, needs)) (search needs) (search needs) (λ c. filling-all (c .before .before .loop .inv) (omega arith) (c .expect .ensures)))
