@@ -6,10 +6,10 @@ use Rattle.line.proofs.scan as f
 use f.Tie as tie
 
 abbrev Inv-loop : tie.InvT-loop
-Inv-loop input r₀ i₀ r i = Scanning input 0 (numbersOf r) i × Goes r
+Inv-loop input _ _ r i = Scanning input 0 (numbersOf r) i × Goes r
 
 abbrev μ-loop : tie.MeasureT-loop
-μ-loop input r₀ i₀ r i = length input - i
+μ-loop input _ _ _ i = length input - i
 
 loop-again : tie.Need-loop-again Inv-loop μ-loop
 loop-again c =

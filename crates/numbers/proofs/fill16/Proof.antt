@@ -6,10 +6,10 @@ use Rattle.numbers.proofs.fill16 as f
 use f.Tie as tie
 
 abbrev Inv-loop : tie.InvT-loop
-Inv-loop input list₀ count d₀ i₀ list d i = Filling 65535 input d₀ list₀ count list d i
+Inv-loop input list₀ count d₀ _ list d i = Filling 65535 input d₀ list₀ count list d i
 
 abbrev μ-loop : tie.MeasureT-loop
-μ-loop input list₀ count d₀ i₀ list d i = count - i
+μ-loop _ _ count _ _ _ _ i = count - i
 
 pub fill16-spec : {M : Type 1} → f.Statement.statement M
 fill16-spec =

@@ -6,10 +6,10 @@ use Rattle.numbers.proofs.next as f
 use f.Tie as tie
 
 abbrev Inv-loop : tie.InvT-loop
-Inv-loop input at i₀ i = numberFrom i (drop i input) ≡ numberAt input at
+Inv-loop input at _ i = numberFrom i (drop i input) ≡ numberAt input at
 
 abbrev μ-loop : tie.MeasureT-loop
-μ-loop input at i₀ i = length input - i
+μ-loop input _ _ i = length input - i
 
 pub next-spec : {M : Type 1} → f.Statement.statement M
 next-spec =

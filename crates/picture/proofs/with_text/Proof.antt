@@ -5,5 +5,5 @@ use f.Tie as tie
 
 pub with-text-spec : {M : Type 1} → f.Statement.statement M
 with-text-spec =
-    tie.close (tie.spec (λ c κs. search needs) (λ c. search needs) (λ c κs. search needs) (λ c. search needs) (λ c κs. search needs) (λ c. search needs) (λ c κs. search needs)
-    (λ c. search needs) (λ c. sym (length-take-le _ _ (omega arith))) (λ c κs. search needs) (λ c. search needs) (λ c. search needs))
+    tie.close (tie.spec (search needs) (search needs) (search needs) (search needs) (search needs) (search needs) (search needs) (search needs) (λ c. sym (length-take-le _ _ (omega arith)))
+    (search needs) (search needs) (search needs))

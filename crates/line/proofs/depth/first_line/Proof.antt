@@ -5,10 +5,10 @@ use Rattle.line.proofs.depth.first_line as f
 use f.Tie as tie
 
 abbrev Inv-loop : tie.InvT-loop
-Inv-loop bytes from count₀ i₀ count i = Counting bytes from count i
+Inv-loop bytes from _ _ count i = Counting bytes from count i
 
 abbrev μ-loop : tie.MeasureT-loop
-μ-loop bytes from count₀ i₀ count i = length bytes - i
+μ-loop bytes _ _ _ _ i = length bytes - i
 
 pub first-line-spec : {M : Type 1} → f.Statement.statement M
 first-line-spec =

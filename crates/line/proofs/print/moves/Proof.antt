@@ -6,10 +6,10 @@ use Rattle.line.proofs.print.moves as f
 use f.Tie as tie
 
 abbrev Inv-loop : tie.InvT-loop
-Inv-loop out₀ at ms n i₀ out i = (i ≤ n) × (length out ≡ length out₀) × (out ≡ sets out₀ at (take i (moveDigits (take n ms))))
+Inv-loop out₀ at ms n _ out i = (i ≤ n) × (length out ≡ length out₀) × (out ≡ sets out₀ at (take i (moveDigits (take n ms))))
 
 abbrev μ-loop : tie.MeasureT-loop
-μ-loop out₀ at ms n i₀ out i = n - i
+μ-loop _ _ _ n _ _ i = n - i
 
 pub moves-spec : {M : Type 1} → f.Statement.statement M
 moves-spec =

@@ -12,4 +12,4 @@ returns c =
     put-then (a .at) _ (half (a .n / 65536)) (half (a .n)) _ _ _ (high .put-half .ensures) (c .before .before .put-half2 .ensures) refl (omega arith)
 
 pub put-word-spec : {M : Type 1} → f.Statement.statement M
-put-word-spec = tie.close (tie.spec (λ c κs. search needs) (λ c. search needs) (λ c κs. search needs) (λ c. search needs) returns)
+put-word-spec = tie.close (tie.spec (search needs) (search needs) (search needs) (search needs) returns)

@@ -5,10 +5,10 @@ use Rattle.notation.proofs.digits.read as f
 use f.Tie as tie
 
 abbrev Inv-loop : tie.InvT-loop
-Inv-loop text at most value₀ i₀ value i = Reading most text at value i
+Inv-loop text at most _ _ value i = Reading most text at value i
 
 abbrev μ-loop : tie.MeasureT-loop
-μ-loop text at most value₀ i₀ value i = length text - i
+μ-loop text _ _ _ _ _ i = length text - i
 
 returns : tie.Need-returns Inv-loop μ-loop
 returns c =
@@ -27,5 +27,5 @@ loop-again c =
 
 pub read-spec : {M : Type 1} → f.Statement.statement M
 read-spec =
-    tie.close (tie.spec Inv-loop μ-loop (λ c. reading _ _ _) (λ c. omega arith) (λ c κs. search needs) returns with-digit-requires (λ c. omega arith) (λ c. omega arith) loop-again
+    tie.close (tie.spec Inv-loop μ-loop (λ c. reading _ _ _) (λ c. omega arith) (search needs) returns with-digit-requires (λ c. omega arith) (λ c. omega arith) loop-again
     (λ c. reading-end _ _ _ (c .before .loop .inv) (omega arith)))

@@ -19,4 +19,4 @@ returns-2 c =
 
 pub with-digit-spec : {M : Type 1} → f.Statement.statement M
 with-digit-spec =
-    tie.close (tie.spec (λ c. search needs) (λ c. omega (arith, digit-bounds (c .args .b) (c .pre .2))) (λ c κs. search needs) (λ c. search needs) (λ c. search needs) returns returns-2)
+    tie.close (tie.spec (search needs) (λ c. omega (arith, digit-bounds (c .args .b) (c .pre .2))) (search needs) (search needs) (search needs) returns returns-2)

@@ -5,10 +5,10 @@ use Rattle.notation.proofs.print.bytes as f
 use f.Tie as tie
 
 abbrev Inv-loop : tie.InvT-loop
-Inv-loop out₀ at s i₀ out i = (i ≤ length s) × (length out ≡ length out₀) × (out ≡ sets out₀ at (take i s))
+Inv-loop out₀ at s _ out i = (i ≤ length s) × (length out ≡ length out₀) × (out ≡ sets out₀ at (take i s))
 
 abbrev μ-loop : tie.MeasureT-loop
-μ-loop out₀ at s i₀ out i = length s - i
+μ-loop _ _ s _ _ i = length s - i
 
 loop-again : tie.Need-loop-again Inv-loop μ-loop
 loop-again c =

@@ -20,4 +20,4 @@ returns c =
 
 pub field-spec : {M : Type 1} → f.Statement.statement M
 field-spec =
-    tie.close (tie.spec (λ c. search needs) (λ c. search needs) (λ c κs. let a = c .before .before in simp length-set (omega (arith, a .pre, digits-few (a .args .n)))) same-length returns)
+    tie.close (tie.spec (search needs) (search needs) (λ c κs. let a = c .before .before in simp length-set (omega (arith, a .pre, digits-few (a .args .n)))) same-length returns)

@@ -6,10 +6,10 @@ use Rattle.numbers.proofs.print.fields64 as f
 use f.Tie as tie
 
 abbrev Inv-loop : tie.InvT-loop
-Inv-loop out₀ at list end₀ i₀ out end i = Fields out₀ at list out end i
+Inv-loop out₀ at list _ _ out end i = Fields out₀ at list out end i
 
 abbrev μ-loop : tie.MeasureT-loop
-μ-loop out₀ at list end₀ i₀ out end i = length list - i
+μ-loop _ _ list _ _ _ _ i = length list - i
 
 pub fields64-spec : {M : Type 1} → f.Statement.statement M
 fields64-spec =

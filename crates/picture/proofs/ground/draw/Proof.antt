@@ -4,6 +4,4 @@ use Rattle.picture.proofs.ground.draw as f
 use f.Tie as tie
 
 pub draw-spec : {M : Type 1} → f.Statement.statement M
-draw-spec =
-    tie.close (tie.spec (λ c κs. search needs) (λ c κs. search needs) (λ c. search needs) (λ c. sym (length-take-le _ _ (omega arith))) (λ c κs. search needs) (λ c κs. search needs)
-    (λ c κs. search needs) (λ c κs. search needs) (λ c. search needs))
+draw-spec = tie.close (tie.spec (search needs) (search needs) (search needs) (λ c. sym (length-take-le _ _ (omega arith))) (search needs) (search needs) (search needs) (search needs) (search needs))

@@ -4,10 +4,10 @@ use Rattle.picture.proofs.ground.of_all_shades as f
 use f.Tie as tie
 
 abbrev Inv-loop : tie.InvT-loop
-Inv-loop page₀ from columns shade at₀ which₀ page at which = which ≤ 8
+Inv-loop _ _ _ _ _ _ _ _ which = which ≤ 8
 
 abbrev μ-loop : tie.MeasureT-loop
-μ-loop page₀ from columns shade at₀ which₀ page at which = 8 - which
+μ-loop _ _ _ _ _ _ _ _ which = 8 - which
 
 pub of-all-shades-spec : {M : Type 1} → f.Statement.statement M
-of-all-shades-spec = tie.close (tie.spec Inv-loop μ-loop (λ c. search needs) (λ c κs. search needs) (λ c. search needs) (λ c. search needs) (λ c. search needs) (λ c. search needs))
+of-all-shades-spec = tie.close (tie.spec Inv-loop μ-loop (search needs) (search needs) (search needs) (search needs) (search needs) (search needs))

@@ -4,12 +4,12 @@ use Rattle.picture.proofs.ground.stretch_end as f
 use f.Tie as tie
 
 abbrev Inv-loop : tie.InvT-loop
-Inv-loop kinds columns x row end₀ end = (x < end) × (end ≤ length kinds) × (1 ≤ row)
+Inv-loop kinds _ x row _ end = (x < end) × (end ≤ length kinds) × (1 ≤ row)
 
 abbrev μ-loop : tie.MeasureT-loop
-μ-loop kinds columns x row end₀ end = length kinds - end
+μ-loop kinds _ _ _ _ end = length kinds - end
 
 pub stretch-end-spec : {M : Type 1} → f.Statement.statement M
 stretch-end-spec =
-    tie.close (tie.spec Inv-loop μ-loop (λ c κs. search needs) (λ c. search needs) (λ c. search needs) (λ c. search needs) (λ c. search needs) (λ c. search needs) (λ c. search needs)
-    (λ c. search needs) (λ c. search needs) (λ c. search needs) (λ c. search needs) (λ c. search needs))
+    tie.close (tie.spec Inv-loop μ-loop (search needs) (search needs) (search needs) (search needs) (search needs) (search needs) (search needs) (search needs) (search needs) (search needs)
+    (search needs) (search needs))

@@ -4,12 +4,10 @@ use Rattle.picture.proofs.legend.ranges as f
 use f.Tie as tie
 
 abbrev Inv-loop : tie.InvT-loop
-Inv-loop page₀ from x row most n at₀ k₀ page at k = (n ≤ 6) × (k ≤ n)
+Inv-loop _ _ _ _ _ n _ _ _ _ k = (n ≤ 6) × (k ≤ n)
 
 abbrev μ-loop : tie.MeasureT-loop
-μ-loop page₀ from x row most n at₀ k₀ page at k = n - k
+μ-loop _ _ _ _ _ n _ _ _ _ k = n - k
 
 pub ranges-spec : {M : Type 1} → f.Statement.statement M
-ranges-spec =
-    tie.close (tie.spec Inv-loop μ-loop (λ c κs. search needs) (λ c. search needs) (λ c. search needs) (λ c κs. search needs) (λ c. search needs) (λ c. search needs) (λ c. search needs)
-    (λ c. search needs))
+ranges-spec = tie.close (tie.spec Inv-loop μ-loop (search needs) (search needs) (search needs) (search needs) (search needs) (search needs) (search needs) (search needs))

@@ -4,4 +4,4 @@ use Rattle.picture.proofs.shades.bound as f
 use f.Tie as tie
 
 pub bound-spec : {M : Type 1} → f.Statement.statement M
-bound-spec = tie.close (tie.spec (λ c κs. search needs) (λ c κs. search needs) (λ c. search needs) (λ c. lt-of-le-of-lt (div-le-self _ _) (omega arith)))
+bound-spec = tie.close (tie.spec (search needs) (search needs) (search needs) (λ c. lt-of-le-of-lt (div-le-self _ _) (omega arith)))

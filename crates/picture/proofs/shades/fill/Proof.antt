@@ -4,12 +4,11 @@ use Rattle.picture.proofs.shades.fill as f
 use f.Tie as tie
 
 abbrev Inv-loop : tie.InvT-loop
-Inv-loop floor table first most shades₀ x₀ shades x = (x ≤ length shades₀) × (length shades ≡ length shades₀)
+Inv-loop _ _ _ _ shades₀ _ shades x = (x ≤ length shades₀) × (length shades ≡ length shades₀)
 
 abbrev μ-loop : tie.MeasureT-loop
-μ-loop floor table first most shades₀ x₀ shades x = length shades₀ - x
+μ-loop _ _ _ _ shades₀ _ _ x = length shades₀ - x
 
 pub fill-spec : {M : Type 1} → f.Statement.statement M
 fill-spec =
-    tie.close (tie.spec Inv-loop μ-loop (λ c. search needs) (λ c κs. search needs) (λ c. search needs) (λ c. search needs) (λ c. search needs) (λ c. search needs) (λ c. search needs)
-    (λ c. search needs))
+    tie.close (tie.spec Inv-loop μ-loop (search needs) (search needs) (search needs) (search needs) (search needs) (λ c. search needs) (search needs) (search needs))

@@ -4,11 +4,10 @@ use Rattle.picture.proofs.shades.largest as f
 use f.Tie as tie
 
 abbrev Inv-loop : tie.InvT-loop
-Inv-loop table first most₀ x₀ most x = (x ≤ length table) × (most < 4294967296)
+Inv-loop table _ _ _ most x = (x ≤ length table) × (most < 4294967296)
 
 abbrev μ-loop : tie.MeasureT-loop
-μ-loop table first most₀ x₀ most x = length table - x
+μ-loop table _ _ _ _ x = length table - x
 
 pub largest-spec : {M : Type 1} → f.Statement.statement M
-largest-spec =
-    tie.close (tie.spec Inv-loop μ-loop (λ c. search needs) (λ c κs. search needs) (λ c κs. search needs) (λ c. search needs) (λ c. search needs) (λ c. search needs) (λ c. search needs))
+largest-spec = tie.close (tie.spec Inv-loop μ-loop (search needs) (search needs) (search needs) (search needs) (search needs) (search needs) (search needs))

@@ -4,12 +4,10 @@ use Rattle.picture.proofs.shades.step_of as f
 use f.Tie as tie
 
 abbrev Inv-loop : tie.InvT-loop
-Inv-loop rise most n k₀ k = (n ≤ 6) × (k ≤ 6)
+Inv-loop _ _ n _ k = (n ≤ 6) × (k ≤ 6)
 
 abbrev μ-loop : tie.MeasureT-loop
-μ-loop rise most n k₀ k = n - k
+μ-loop _ _ n _ k = n - k
 
 pub step-of-spec : {M : Type 1} → f.Statement.statement M
-step-of-spec =
-    tie.close (tie.spec Inv-loop μ-loop (λ c κs. search needs) (λ c. search needs) (λ c κs. search needs) (λ c. search needs) (λ c. search needs) (λ c. search needs) (λ c. search needs)
-    (λ c. search needs))
+step-of-spec = tie.close (tie.spec Inv-loop μ-loop (search needs) (search needs) (search needs) (search needs) (search needs) (search needs) (search needs) (search needs))

@@ -5,5 +5,5 @@ use f.Tie as tie
 
 pub reach-spec : {M : Type 1} → f.Statement.statement M
 reach-spec =
-    tie.close (tie.spec (λ c. search needs) (λ c. search needs) (λ c. record { fits = lt-of-le-of-lt (mul-le-mul {n₂ = 96} {m₂ = 64} (omega arith) (omega arith)) (lit< tt) })
+    tie.close (tie.spec (search needs) (search needs) (λ c. record { fits = lt-of-le-of-lt (mul-le-mul {n₂ = 96} {m₂ = 64} (omega arith) (omega arith)) (lit< tt) })
     (λ c. mul-le-mul {n₂ = 96} {m₂ = 64} (omega arith) (omega arith)))

@@ -5,12 +5,12 @@ use Rattle.picture.proofs.ways.draw_leg as f
 use f.Tie as tie
 
 abbrev Inv-loop : tie.InvT-loop
-Inv-loop page₀ from legs place at₀ front n i₀ page at i = (i ≤ n) × (n ≤ mostMoves) × (front + suc mostMoves ≤ 4096 * suc mostMoves)
+Inv-loop _ _ _ _ _ front n _ _ _ i = (i ≤ n) × (n ≤ mostMoves) × (front + suc mostMoves ≤ 4096 * suc mostMoves)
 
 abbrev μ-loop : tie.MeasureT-loop
-μ-loop page₀ from legs place at₀ front n i₀ page at i = n - i
+μ-loop _ _ _ _ _ _ n _ _ _ i = n - i
 
 pub draw-leg-spec : {M : Type 1} → f.Statement.statement M
 draw-leg-spec =
-    tie.close (tie.spec Inv-loop μ-loop (λ c. search needs) (λ c. search needs) (λ c. search needs) (λ c κs. search needs) (λ c. search needs) (λ c. search needs) (λ c. search needs)
-    (λ c. search needs) (λ c. search needs) (λ c κs. search needs) (λ c. search needs) (λ c. search needs) (λ c. search needs) (λ c. search needs))
+    tie.close (tie.spec Inv-loop μ-loop (search needs) (search needs) (search needs) (search needs) (search needs) (search needs) (search needs) (search needs) (search needs) (search needs)
+    (search needs) (search needs) (search needs) (search needs))

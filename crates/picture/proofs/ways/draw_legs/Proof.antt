@@ -4,10 +4,10 @@ use Rattle.picture.proofs.ways.draw_legs as f
 use f.Tie as tie
 
 abbrev Inv-loop : tie.InvT-loop
-Inv-loop page₀ from legs length at₀ place₀ page at place = place ≤ length
+Inv-loop _ _ _ length _ _ _ _ place = place ≤ length
 
 abbrev μ-loop : tie.MeasureT-loop
-μ-loop page₀ from legs length at₀ place₀ page at place = length - place
+μ-loop _ _ _ length _ _ _ _ place = length - place
 
 pub draw-legs-spec : {M : Type 1} → f.Statement.statement M
-draw-legs-spec = tie.close (tie.spec Inv-loop μ-loop (λ c. search needs) (λ c κs. search needs) (λ c. search needs) (λ c. search needs) (λ c. search needs) (λ c. search needs))
+draw-legs-spec = tie.close (tie.spec Inv-loop μ-loop (search needs) (search needs) (search needs) (search needs) (search needs) (search needs))

@@ -5,11 +5,10 @@ use Rattle.picture.proofs.ways.draw_moves as f
 use f.Tie as tie
 
 abbrev Inv-loop : tie.InvT-loop
-Inv-loop page₀ from moves n at₀ i₀ page at i = (i ≤ n) × (n ≤ mostMoves)
+Inv-loop _ _ _ n _ _ _ _ i = (i ≤ n) × (n ≤ mostMoves)
 
 abbrev μ-loop : tie.MeasureT-loop
-μ-loop page₀ from moves n at₀ i₀ page at i = n - i
+μ-loop _ _ _ n _ _ _ _ i = n - i
 
 pub draw-moves-spec : {M : Type 1} → f.Statement.statement M
-draw-moves-spec =
-    tie.close (tie.spec Inv-loop μ-loop (λ c. search needs) (λ c. search needs) (λ c κs. search needs) (λ c. search needs) (λ c. search needs) (λ c. search needs) (λ c. search needs))
+draw-moves-spec = tie.close (tie.spec Inv-loop μ-loop (search needs) (search needs) (search needs) (search needs) (search needs) (search needs) (search needs))

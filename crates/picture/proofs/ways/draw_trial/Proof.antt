@@ -4,12 +4,10 @@ use Rattle.picture.proofs.ways.draw_trial as f
 use f.Tie as tie
 
 abbrev Inv-loop : tie.InvT-loop
-Inv-loop job floor start decisions table₀ path₀ legs₀ page₀ at under₀ made₀ table path legs page under made = (made ≤ decisions) × (length table ≡ length table₀) × (length path ≡ length path₀)
+Inv-loop _ _ _ decisions table₀ path₀ _ _ _ _ _ table path _ _ _ made = (made ≤ decisions) × (length table ≡ length table₀) × (length path ≡ length path₀)
 
 abbrev μ-loop : tie.MeasureT-loop
-μ-loop job floor start decisions table₀ path₀ legs₀ page₀ at under₀ made₀ table path legs page under made = decisions - made
+μ-loop _ _ _ decisions _ _ _ _ _ _ _ _ _ _ _ _ made = decisions - made
 
 pub draw-trial-spec : {M : Type 1} → f.Statement.statement M
-draw-trial-spec =
-    tie.close (tie.spec Inv-loop μ-loop (λ c. search needs) (λ c κs. search needs) (λ c. search needs) (λ c. search needs) (λ c. search needs) (λ c. search needs) (λ c. search needs)
-    (λ c. search needs))
+draw-trial-spec = tie.close (tie.spec Inv-loop μ-loop (search needs) (search needs) (search needs) (search needs) (search needs) (search needs) (search needs) (search needs))

@@ -5,12 +5,12 @@ use Rattle.picture.proofs.ways.note as f
 use f.Tie as tie
 
 abbrev Inv-loop : tie.InvT-loop
-Inv-loop legs₀ place moves n front i₀ legs i = (i ≤ n) × (n ≤ mostMoves) × (front + suc mostMoves ≤ 4096 * suc mostMoves)
+Inv-loop _ _ _ n front _ _ i = (i ≤ n) × (n ≤ mostMoves) × (front + suc mostMoves ≤ 4096 * suc mostMoves)
 
 abbrev μ-loop : tie.MeasureT-loop
-μ-loop legs₀ place moves n front i₀ legs i = n - i
+μ-loop _ _ _ n _ _ _ i = n - i
 
 pub note-spec : {M : Type 1} → f.Statement.statement M
 note-spec =
-    tie.close (tie.spec Inv-loop μ-loop (λ c. search needs) (λ c. search needs) (λ c. search needs) (λ c. search needs) (λ c. search needs) (λ c. search needs) (λ c. search needs)
-    (λ c. search needs) (λ c. search needs) (λ c. search needs) (λ c. search needs) (λ c. search needs) (λ c. search needs))
+    tie.close (tie.spec Inv-loop μ-loop (search needs) (search needs) (search needs) (search needs) (search needs) (search needs) (search needs) (search needs) (search needs) (search needs)
+    (search needs) (search needs) (search needs))
