@@ -29,14 +29,14 @@ use Rattle.keep_depth.proofs.Copying.{ahead-ahead, ahead-stopped}
 
 module _ {kept : List ℕ} {held : ℕ} {part : List ℕ} {line : ℕ} {out kept₁ : List ℕ} {n : ℕ} (R : Room kept held part line out) (W : Printed kept held part kept₁ n) where
   -- both stand in the list's first places
-  pub within : n ≤ length kept₁
+  within : n ≤ length kept₁
   within = omega (arith, W .next, ap length (W .written), length-sets kept held part, R .list, R .piece, R .few)
 
   both : take n kept₁ ≡ take held kept ++ part
   both = printed-front part W (omega (arith, R .list, R .piece, R .few))
 
-  pub bytes-long : length (take n kept₁) ≡ n
-  bytes-long = length-take-le n kept₁ within
+  pub bytes-long : n ≡ length (take n kept₁)
+  bytes-long = sym (length-take-le n kept₁ within)
 
   pub part-fits : Fits (take n kept₁) line out
   part-fits = record { room = omega (arith, bytes-long, W .next, R .piece, R .few, R .copies); counted = omega (arith, bytes-long, W .next, R .piece, R .few, R .counted) }
@@ -47,6 +47,9 @@ module _ {kept : List ℕ} {held : ℕ} {part : List ℕ} {line : ℕ} {out kept
   module _ {c : Reach} {out′ : List ℕ} (C : Copies (take n kept₁) line c out′) where
     pub done-within : c .done ≤ n
     done-within = omega (arith, C .within, bytes-long)
+
+    pub left-within : c .done + (n - c .done) ≤ length kept₁
+    left-within = omega (arith, within, done-within)
 
     counted : c .line ≤ line + keptRoom
     counted = omega (arith, C .counted, done-within, W .next, R .piece, R .few)
@@ -61,7 +64,7 @@ module _ {kept : List ℕ} {held : ℕ} {part : List ℕ} {line : ℕ} {out kept
 
     module _ (e : c .stops ≡ false) where
       left : length (drop (c .done) (take n kept₁)) ≡ n - c .done
-      left = length-drop (c .done) (take n kept₁) ∙ ap (λ (k : ℕ). k - c .done) bytes-long
+      left = length-drop (c .done) (take n kept₁) ∙ ap (λ (k : ℕ). k - c .done) (sym bytes-long)
 
       -- so much of a line without its LF is malformed
       pub stops-long : longestLine ≤ n - c .done → (kept′ : List ℕ) → Stepped kept held part line (record { held = 0; wrote = c .wrote; line = c .line; stops = true }) kept′ out′

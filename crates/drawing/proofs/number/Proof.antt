@@ -5,4 +5,4 @@ use Rattle.drawing.proofs.number as f
 use f.Tie as tie
 
 pub number-spec : {M : Type 1} → f.Statement.statement M
-number-spec = tie.close (tie.spec (λ c κs. search needs) (λ c κs. omega (arith, digits-few (c .before .before .before .args .n))) (λ c. search needs))
+number-spec = tie.close (tie.spec (search needs) (λ c κs. omega (arith, digits-few (c .before .before .before .args .n))) (search needs))

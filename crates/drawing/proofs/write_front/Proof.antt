@@ -4,4 +4,4 @@ use Rattle.drawing.proofs.write_front as f
 use f.Tie as tie
 
 pub write-front-spec : {M : Type 1} → f.Statement.statement M
-write-front-spec = tie.close (tie.spec (λ c. sym (length-take-le _ _ (omega arith))) (λ c κs. search needs) (λ c. search needs) (λ c. search needs))
+write-front-spec = tie.close (tie.spec (λ c. sym (length-take-le _ _ (omega arith))) (search needs) (search needs) (search needs))

@@ -4,4 +4,4 @@ use Rattle.keep_depth.proofs.at_end as f
 use f.Tie as tie
 
 pub at-end-spec : {M : Type 1} → f.Statement.statement M
-at-end-spec = tie.close (tie.spec (λ c. (λ e. refl, λ h. absurd (omega arith))) (λ c κs. search needs) (λ c. (λ e. absurd (omega arith), λ h. c .malformed .ensures)))
+at-end-spec = tie.close (tie.spec (λ c. (λ e. refl, λ h. absurd (omega arith))) (search needs) (λ c. (λ e. absurd (omega arith), λ h. c .malformed .ensures)))

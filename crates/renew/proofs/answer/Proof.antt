@@ -6,4 +6,4 @@ use f.Tie as tie
 
 pub answer-spec : {M : Type 1} → f.Statement.statement M
 answer-spec =
-    tie.close (tie.spec (λ c κs. search needs) (λ c. search needs) (λ c. let made = c .before .before in answered _ _ _ _ (made .renew-file .kept .1 .0) (made .renew-file .ensures)))
+    tie.close (tie.spec (search needs) (search needs) (λ c. let made = c .before .before in answered _ _ _ _ (made .renew-file .kept .1 .0) (made .renew-file .ensures)))

@@ -7,10 +7,10 @@ use Rattle.renew.proofs.take_in as f
 use f.Tie as tie
 
 abbrev Inv-loop : tie.InvT-loop
-Inv-loop kept₀ part₀ held₀ turns₀ kept part held turns = Taken kept held × (length kept ≡ length kept₀) × (length part ≡ length part₀)
+Inv-loop kept₀ part₀ _ _ kept part held _ = Taken kept held × (length kept ≡ length kept₀) × (length part ≡ length part₀)
 
 abbrev μ-loop : tie.MeasureT-loop
-μ-loop kept₀ part₀ held₀ turns₀ kept part held turns = turns
+μ-loop _ _ _ _ _ _ _ turns = turns
 
 -- what is held, and that so many of a list's bytes are so many
 taken : (kept : List ℕ) (held : ℕ) → Taken kept held → Taken kept held × Counts held kept
@@ -33,6 +33,6 @@ loop-again c =
 
 pub take-in-spec : {M : Type 1} → f.Statement.statement M
 take-in-spec =
-    tie.close (tie.spec Inv-loop μ-loop (λ c. (([], kept-none _), refl, refl)) (λ c κs. search needs) (λ c. omega arith) (λ c. omega arith)
-    (λ c. taken _ _ (c .before .before .before .before .before .before .loop .inv .0)) (λ c κs. search needs) (λ c. search needs) (λ c. search needs) keep-requires (λ c. omega arith)
+    tie.close (tie.spec Inv-loop μ-loop (λ c. (([], kept-none _), refl, refl)) (search needs) (λ c. omega arith) (λ c. omega arith)
+    (λ c. taken _ _ (c .before .before .before .before .before .before .loop .inv .0)) (search needs) (search needs) (search needs) keep-requires (λ c. omega arith)
     (λ c. omega arith) loop-again (λ c. omega arith) (λ c. omega arith) (λ c. taken _ _ (c .before .loop .inv .0)))

@@ -11,5 +11,5 @@ write-requires c κs =
 
 pub tell-spec : {M : Type 1} → f.Statement.statement M
 tell-spec =
-    tie.close (tie.spec (λ c κs. search needs) (λ c. search needs) write-requires (λ c. search needs) (λ c κs. search needs) (λ c. search needs) (λ c. search needs) (λ c. search needs)
-    (λ c. search needs))
+    tie.close (tie.spec (search needs) (search needs) write-requires (search needs) (search needs) (search needs) (search needs) (search needs)
+    (search needs))

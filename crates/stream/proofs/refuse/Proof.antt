@@ -10,5 +10,5 @@ short e = let r = e .before .before .args .r in omega (arith, e .refusal-line .e
 
 pub refuse-spec : {M : Type 1} → f.Statement.statement M
 refuse-spec =
-    tie.close (tie.spec (λ c. search needs) (λ c κs. search needs) (λ c. short (c .before)) (λ c. sym (length-take-le _ _ (short (c .before .before)))) (λ c κs. search needs)
-    (λ c. search needs))
+    tie.close (tie.spec (search needs) (search needs) (λ c. short (c .before)) (λ c. sym (length-take-le _ _ (short (c .before .before)))) (search needs)
+    (search needs))

@@ -5,13 +5,13 @@ use Rattle.stream.proofs.to_front as f
 use f.Tie as tie
 
 abbrev Inv-loop : tie.InvT-loop
-Inv-loop list₀ from n i₀ list i = Moving list₀ from n list i
+Inv-loop list₀ from n _ list i = Moving list₀ from n list i
 
 abbrev μ-loop : tie.MeasureT-loop
-μ-loop list₀ from n i₀ list i = n - i
+μ-loop _ _ n _ _ i = n - i
 
 pub to-front-spec : {M : Type 1} → f.Statement.statement M
 to-front-spec =
-    tie.close (tie.spec Inv-loop μ-loop (λ c. moving _ _ _) (λ c. search needs) (λ c. search needs) (λ c. search needs) (λ c. search needs) (λ c. search needs)
-    (λ c. let l = c .before .before .loop in moving-more _ _ _ (l .list) (l .i) (l .inv) (omega arith) (omega arith)) (λ c. search needs)
+    tie.close (tie.spec Inv-loop μ-loop (λ c. moving _ _ _) (search needs) (search needs) (search needs) (search needs) (search needs)
+    (λ c. let l = c .before .before .loop in moving-more _ _ _ (l .list) (l .i) (l .inv) (omega arith) (omega arith)) (search needs)
     (λ c. let l = c .before .loop in moving-all _ _ _ (l .list) (l .i) (l .inv) (omega arith)))

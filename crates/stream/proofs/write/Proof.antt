@@ -4,4 +4,4 @@ use Rattle.stream.proofs.write as f
 use f.Tie as tie
 
 pub write-spec : {M : Type 1} → f.Statement.statement M
-write-spec = tie.close (tie.spec (λ c. sym (length-take-le _ _ (c .before .before .pre))) (λ c κs. search needs) (λ c. search needs))
+write-spec = tie.close (tie.spec (λ c. sym (length-take-le _ _ (c .before .before .pre))) (search needs) (search needs))

@@ -13,5 +13,5 @@ returns c = let printed = c .before .before in omega (arith, part (printed .befo
 
 pub found-spec : {M : Type 1} → f.Statement.statement M
 found-spec =
-    tie.close (tie.spec (λ c κs. search needs) (λ c κs. omega (arith, part (c .before))) (λ c κs. omega (arith, part (c .before .before .before .before .before))) (λ c. search needs)
+    tie.close (tie.spec (search needs) (λ c κs. omega (arith, part (c .before))) (λ c κs. omega (arith, part (c .before .before .before .before .before))) (search needs)
     returns)

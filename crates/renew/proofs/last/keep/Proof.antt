@@ -14,6 +14,6 @@ room c =
 
 pub keep-spec : {M : Type 1} → f.Statement.statement M
 keep-spec =
-    tie.close (tie.spec (λ c. search needs) (λ c. search needs) (λ c κs. search needs) (λ c κs. room (c .before) .room)
+    tie.close (tie.spec (search needs) (search needs) (search needs) (λ c κs. room (c .before) .room)
     (λ c. let b = c .before .before in roomy-more (room (b .before .before)) (b .bytes .ensures) .1 .1)
     (λ c. let b = c .before .before in roomy-more (room (b .before .before)) (b .bytes .ensures)))
