@@ -5,5 +5,4 @@ use Rattle.renew.proofs.answer as f
 use f.Tie as tie
 
 pub answer-spec : {M : Type 1} → f.Statement.statement M
-answer-spec =
-    tie.close (tie.spec (search needs) (search needs) (λ c. let made = c .before .before in answered _ _ _ _ (made .renew-file .kept .1 .0) (made .renew-file .ensures)))
+answer-spec = tie.close (tie.spec (search needs) (search needs) (λ c. search (answered, needs)))

@@ -1,5 +1,5 @@
 -- `renew::take_in` meets its contract: the list holds the last bytes of all the parts that were read, and each further part is put behind them.
-use Rattle.learning.proofs.Words.{ℕ, _≡_, refl, sym, List, [], length, length-take-le, needs, arith}
+use Rattle.learning.proofs.Words.{ℕ, _≡_, refl, sym, List, [], length, length-take-le, needs}
 use Rattle.io.specs.Counts.{Counts}
 use Rattle.renew.specs.Kept.{Taken}
 use Rattle.renew.proofs.Keeping.{kept-none}
@@ -16,23 +16,15 @@ abbrev μ-loop : tie.MeasureT-loop
 taken : (kept : List ℕ) (held : ℕ) → Taken kept held → Taken kept held × Counts held kept
 taken kept held (all, k) = ((all, k), (k .within, sym (length-take-le held kept (k .within))))
 
-keep-requires : tie.Need-keep-requires Inv-loop μ-loop
-keep-requires c κs =
-    let counted = c .before .before in
-    let read = counted .before .before .before .before .before in
-    let l = read .before .before .before .loop in
-    (l .inv .0 .1 .within, omega arith)
-
 loop-again : tie.Need-loop-again Inv-loop μ-loop
 loop-again c =
     let kept = c .before .before in
     let counted = kept .before .before .before in
     let read = counted .before .before .before .before .before in
     let l = read .before .before .before .loop in
-    ((_, kept .keep .ensures .0 (l .inv .0 .0) (l .inv .0 .1)), omega arith, omega arith)
+    ((_, kept .keep .ensures .0 (l .inv .0 .0) (l .inv .0 .1)), search needs, search needs)
 
 pub take-in-spec : {M : Type 1} → f.Statement.statement M
 take-in-spec =
-    tie.close (tie.spec Inv-loop μ-loop (λ c. (([], kept-none _), refl, refl)) (search needs) (λ c. omega arith) (λ c. omega arith)
-    (λ c. taken _ _ (c .before .before .before .before .before .before .loop .inv .0)) (search needs) (search needs) (search needs) keep-requires (λ c. omega arith)
-    (λ c. omega arith) loop-again (λ c. omega arith) (λ c. omega arith) (λ c. taken _ _ (c .before .loop .inv .0)))
+    tie.close (tie.spec Inv-loop μ-loop (λ c. (([], kept-none _), refl, refl)) (search needs) (search needs) (search needs) (λ c. search (taken, needs)) (search needs) (search needs)
+    (search needs) (λ c κs. search needs) (search needs) (search needs) loop-again (search needs) (search needs) (λ c. search (taken, needs)))

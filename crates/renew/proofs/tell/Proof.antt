@@ -10,6 +10,4 @@ write-requires c κs =
     told .answer .ensures .fits _ (known .n .given .1)
 
 pub tell-spec : {M : Type 1} → f.Statement.statement M
-tell-spec =
-    tie.close (tie.spec (search needs) (search needs) write-requires (search needs) (search needs) (search needs) (search needs) (search needs)
-    (search needs))
+tell-spec = tie.close (tie.spec (search needs) (search needs) write-requires (search needs) (search needs) (search needs) (search needs) (search needs) (search needs))

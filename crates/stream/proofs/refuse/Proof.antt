@@ -9,6 +9,4 @@ short : (e : tie.After-refusal-line) → e .refusal-line .result ≤ length (e .
 short e = let r = e .before .before .args .r in omega (arith, e .refusal-line .ensures .next, refusal-few r, e .refusal-line .kept)
 
 pub refuse-spec : {M : Type 1} → f.Statement.statement M
-refuse-spec =
-    tie.close (tie.spec (search needs) (search needs) (λ c. short (c .before)) (λ c. sym (length-take-le _ _ (short (c .before .before)))) (search needs)
-    (search needs))
+refuse-spec = tie.close (tie.spec (search needs) (search needs) (λ c. short (c .before)) (λ c. sym (length-take-le _ _ (short (c .before .before)))) (search needs) (search needs))

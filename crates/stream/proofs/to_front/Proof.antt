@@ -1,5 +1,5 @@
 -- `stream::to_front` meets its contract: the invariant: `Moving`, i bytes stand in front.
-use Rattle.learning.proofs.Words.{_-_, needs, arith}
+use Rattle.learning.proofs.Words.{_-_, needs}
 use Rattle.stream.proofs.Moving.{Moving, moving, moving-more, moving-all}
 use Rattle.stream.proofs.to_front as f
 use f.Tie as tie
@@ -12,6 +12,5 @@ abbrev μ-loop : tie.MeasureT-loop
 
 pub to-front-spec : {M : Type 1} → f.Statement.statement M
 to-front-spec =
-    tie.close (tie.spec Inv-loop μ-loop (λ c. moving _ _ _) (search needs) (search needs) (search needs) (search needs) (search needs)
-    (λ c. let l = c .before .before .loop in moving-more _ _ _ (l .list) (l .i) (l .inv) (omega arith) (omega arith)) (search needs)
-    (λ c. let l = c .before .loop in moving-all _ _ _ (l .list) (l .i) (l .inv) (omega arith)))
+    tie.close (tie.spec Inv-loop μ-loop (λ c. moving _ _ _) (search needs) (search needs) (search needs) (search needs) (search needs) (λ c. search (moving-more, needs)) (search needs)
+    (λ c. search (moving-all, needs)))

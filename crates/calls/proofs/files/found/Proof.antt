@@ -12,6 +12,4 @@ returns : tie.Need-returns
 returns c = let printed = c .before .before in omega (arith, part (printed .before .before .before .before .before .before), printed .byte .ensures .next)
 
 pub found-spec : {M : Type 1} → f.Statement.statement M
-found-spec =
-    tie.close (tie.spec (search needs) (λ c κs. omega (arith, part (c .before))) (λ c κs. omega (arith, part (c .before .before .before .before .before))) (search needs)
-    returns)
+found-spec = tie.close (tie.spec (search needs) (λ c κs. omega (arith, part (c .before))) (λ c κs. omega (arith, part (c .before .before .before .before .before))) (search needs) returns)
