@@ -14,11 +14,11 @@ use Rattle.line.specs.Printing.{Printed, moveDigits}
 use Rattle.notation.proofs.Decimals.{bytes-more, bytes-all}
 pub use Rattle.notation.proofs.Decimals.{digits-few, field-few, printed-then, printed-none}
 
+pub digits-length : (ms : List ℕ) (n : ℕ) → n ≤ length ms → length (moveDigits (take n ms)) ≡ n
+digits-length ms n h = length-map (take n ms) (λ x. 48 + x) ∙ length-take-le n ms h
+
 -- the first n moves as digits, written one by one from a place on
 module _ (out ms : List ℕ) (at n : ℕ) (h : n ≤ length ms) where
-  digits-length : length (moveDigits (take n ms)) ≡ n
-  digits-length = length-map (take n ms) (λ x. 48 + x) ∙ length-take-le n ms h
-
   digit-at : (i : ℕ) → i < n → 48 + getD ms i 0 ≡ getD (moveDigits (take n ms)) i 0
   digit-at i k = ap (λ x. 48 + x) (sym (getD-take n ms i 0 k)) ∙ sym (map-at (take n ms) i (omega (arith, length-take-le n ms h)))
     where
@@ -29,10 +29,10 @@ module _ (out ms : List ℕ) (at n : ℕ) (h : n ≤ length ms) where
 
   module _ (mid : List ℕ) (i : ℕ) (e : mid ≡ sets out at (take i (moveDigits (take n ms)))) where
     pub moves-more : i < n → at + n ≤ length out → set mid (at + i) (48 + getD ms i 0) ≡ sets out at (take (i + 1) (moveDigits (take n ms)))
-    moves-more k r = ap (set mid (at + i)) (digit-at i k) ∙ bytes-more out (moveDigits (take n ms)) mid at i (omega (arith, digits-length)) (omega (arith, digits-length)) e
+    moves-more k r = ap (set mid (at + i)) (digit-at i k) ∙ bytes-more out (moveDigits (take n ms)) mid at i (omega (arith, digits-length ms n h)) (omega (arith, digits-length ms n h)) e
 
     pub moves-all : n ≤ i → i ≤ n → Printed out at (moveDigits (take n ms)) mid (at + i)
-    moves-all k l = bytes-all out (moveDigits (take n ms)) mid at i (omega (arith, digits-length)) (omega (arith, digits-length)) e
+    moves-all k l = bytes-all out (moveDigits (take n ms)) mid at i (omega (arith, digits-length ms n h)) (omega (arith, digits-length ms n h)) e
 
 -- the line of a refusal, at its longest
 place-few : (p : Place) → length (placeField p) ≤ 21
