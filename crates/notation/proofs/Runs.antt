@@ -117,17 +117,19 @@ module _ (most : ℕ) (text : List ℕ) (at : ℕ) where
     unfolding run
     reading-end h = stops (no-digit-at most value text i (ap isDigit (List·getD-eq-default text 0 h)))
 
-    pub reading-stop : isDigit (getD text i 0) ≡ false → record { value = value; after = i } ≡ runAt most text at
-    unfolding run
-    reading-stop t = stops (no-digit-at most value text i t)
+    -- by whether the byte here is a digit
+    module _ (b : Bool) (f : b ≡ isDigit (getD text i 0)) where
+      pub reading-stop : b ≡ false → record { value = value; after = i } ≡ runAt most text at
+      unfolding run
+      reading-stop t = stops (no-digit-at most value text i (sym f ∙ t))
 
-    pub reading-more : isDigit (getD text i 0) ≡ true → (v : ℕ) → (v ≡ withDigit most value (getD text i 0)) × (v ≤ most + 1) → Reading most text at v (i + 1)
-    unfolding run
-    reading-more t v e =
-        let o = digit-at most value text i t in
-        let n : i + 1 + digitsIn (drop (i + 1) text) ≡ i + digitsIn (drop i text) = omega (arith, o .0) in
-        record {
-          small = e .1;
-          left = ap (run (valueIn most v (drop (i + 1) text))) n
-              ∙ ap (λ x. run x (i + digitsIn (drop i text))) (ap (λ x. valueIn most x (drop (i + 1) text)) (e .0) ∙ sym (o .1)) ∙ g .left;
-        }
+      pub reading-more : b ≡ true → (v : ℕ) → (v ≡ withDigit most value (getD text i 0)) × (v ≤ most + 1) → Reading most text at v (i + 1)
+      unfolding run
+      reading-more t v e =
+          let o = digit-at most value text i (sym f ∙ t) in
+          let n : i + 1 + digitsIn (drop (i + 1) text) ≡ i + digitsIn (drop i text) = omega (arith, o .0) in
+          record {
+            small = e .1;
+            left = ap (run (valueIn most v (drop (i + 1) text))) n
+                ∙ ap (λ x. run x (i + digitsIn (drop i text))) (ap (λ x. valueIn most x (drop (i + 1) text)) (e .0) ∙ sym (o .1)) ∙ g .left;
+          }

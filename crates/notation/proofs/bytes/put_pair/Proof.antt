@@ -5,6 +5,4 @@ use Rattle.notation.proofs.bytes.put_pair as f
 use f.Tie as tie
 
 pub put-pair-spec : {M : Type 1} → f.Statement.statement M
-put-pair-spec =
-    tie.close (tie.spec (search needs) (search needs) (search needs) (search needs) (λ c. simp length-set (omega arith)) (search needs)
-    (λ c. put-two (c .args .at) _ _ (c .args .out .now) (omega arith)))
+put-pair-spec = tie.close (tie.spec (search needs) (search needs) (search needs) (search needs) (λ c. simp length-set (omega arith)) (search needs) (λ c. search (put-two, needs)))

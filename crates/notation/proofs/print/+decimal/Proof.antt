@@ -1,9 +1,7 @@
 -- The proof of the cycle of calls {decimal}. The measure is the number that is printed: its digits but the last are printed first.
 -- Assumes nothing.
-use native.Mathlib.Omega.{arith}
-use lib.ListN.{length-set}
+use Rattle.learning.proofs.Words.{ℕ, _<_, length-set, arith}
 use Rattle.notation.proofs.Decimals.{printed-one, printed-more, room-one, room-more}
-use Prim.Native.Nat.{ℕ, _<_}
 use borrow.Fn.Kinds.{In}
 use borrow.Fn.PlainCycle.{Measures, is, falls, and}
 use Rattle.notation.proofs.print.decimal.Reads as decimal
@@ -31,21 +29,18 @@ pub +decimal-spec : {M : Type 1} → statement M
     decimal.Post
     (λ c. omega arith)
     (λ c. omega arith)
-    (λ c. let a = c .before .before in room-one (a .args .out .now) (a .args .at) (a .args .n) (omega arith) (a .pre .1))
-    (λ c. let a = c .before .before in omega (arith, room-one (a .args .out .now) (a .args .at) (a .args .n) (omega arith) (a .pre .1)))
+    (λ c. let a = c .before .before in room-one (a .args .out .now) _ _ (omega arith) (a .pre .1))
+    (λ c. let a = c .before .before in omega (arith, room-one (a .args .out .now) _ (a .args .n) (omega arith) (a .pre .1)))
     (λ c. simp length-set)
-    (λ c. let a = c .before .before .args in printed-one (a .out .now) (a .at) (a .n) (omega arith))
-    (λ c κs. let a = c .before .before .before in
-    (omega (arith, a .pre .0), omega (arith, room-more (a .args .out .now) (a .args .at) (a .args .n) (omega arith) (omega arith) (a .pre .1))))
-    (λ c. omega arith)
-    (λ c. omega arith)
+    (λ c. printed-one _ _ _ (omega arith))
+    (λ c κs. let a = c .before .before .before in (omega (arith, a .pre .0), omega (arith, room-more (a .args .out .now) _ (a .args .n) (omega arith) (omega arith) (a .pre .1))))
+    (omega arith)
+    (omega arith)
     (λ c. let d = c .before .before in
     let a = d .before .before .before .before in
-    omega (arith, room-more (a .args .out .now) (a .args .at) (a .args .n) (omega arith) (omega arith) (a .pre .1), d .decimal .ensures .next, d .decimal .kept .0))
+    omega (arith, room-more (a .args .out .now) _ (a .args .n) (omega arith) (omega arith) (a .pre .1), d .decimal .ensures .next, d .decimal .kept .0))
     (λ c. let d = c .before .before in
     let a = d .before .before .before .before in
-    omega (arith, room-more (a .args .out .now) (a .args .at) (a .args .n) (omega arith) (omega arith) (a .pre .1), d .decimal .ensures .next))
+    omega (arith, room-more (a .args .out .now) _ (a .args .n) (omega arith) (omega arith) (a .pre .1), d .decimal .ensures .next))
     (λ c. simp length-set (c .before .before .decimal .kept .0))
-    (λ c. let d = c .before .before in
-    let a = d .before .before .before .before .args in
-    printed-more (a .out .now) (a .at) (a .n) (d .decimal .last .0) (d .decimal .result) (omega arith) (omega arith) (d .decimal .ensures))
+    (λ c. printed-more _ _ _ _ _ (omega arith) (omega arith) (c .before .before .decimal .ensures))
