@@ -5,3 +5,4 @@ pub mod Part
 pub mod Locals
 pub mod Calling
 pub mod Lent
+pub mod Params

@@ -143,3 +143,8 @@ module _ {M : Type 1} {𝓤 : URA M} {H : Heap 𝓤} {A : Atoms 𝓤} {K : Type 
   -- the locals at the head of the context are freed, whatever they hold
   pub frees-all : (ls : List Local) (l : ℕ → ℕ) (hs : List Held) {Γ : List (Item 𝓤)} {g : Goal 𝓤 H} → Step K W Γ g (locals 𝓤 H A ls l hs Γ) (frees (env 𝓤 H A ls l) g)
   frees-all ls l hs {Γ} {g} = step (λ s. record { prf = released 𝓤 H A W ls l hs Γ (aim 𝓤 H g) (s .prf) })
+
+-- the n positions from a on
+abbrev pub span : ℕ → ℕ → List ℕ
+span a zero = []
+span a (suc n) = a ∷ span (suc a) n
