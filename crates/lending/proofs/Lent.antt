@@ -11,11 +11,11 @@ use mir.Val.{Val}
 use base.Fml.{Lft, GName, Share, Fml, fsep, feq, flft}
 use prog.Wp.{Heap}
 use ghost.Atoms.{Atoms}
-use types.Kit.{Given, Item, ‵, _⊛_, some, later, Goal, Soaks, Seq, _$_, move, use2, use3, split, pick, fsplit, feqL, await}
+use types.Kit.{Given, Item, ‵, _⊛_, some, later, Goal, Soaks, cut, Seq, Step, _$_, move, use1, use2, use3, split, pick, fsplit, feqL, await}
 use types.Tokens.{lft-new, lft-end}
 use denote.RattleType.{RattleType}
 use denote.Ref.{RefT}
-use denote.Slice.{sliceVal, MutSlice, Room, finally}
+use denote.Slice.{sliceVal, MutSlice, ShrSlice, Room, finally, slice-vals, shr-slice-copy}
 use Rattle.lending.proofs.Whole.{Waits, lends-on, comes-back}
 
 -- its elements, its lifetime as the code names it and as it is, the share of that lifetime's token, and the borrow itself
@@ -61,3 +61,9 @@ module _ (L : Lent) where
     takes-back t z {ν} {δ} zs room k = move t (2 ∷ []) $ fsplit t $ move t (1 ∷ []) $ feqL t (λ same. move t (1 ∷ []) $ lft-end t z $ move t (0 ∷ 2 ∷ 1 ∷ []) $
         use3 W (later (‵ (Owns zs) ⊛ ‵ (flft (L .κ) (L .q))))
         (comes-back (L .row) (L .κ) (ν ∷ []) (L .q) (L .first .name) (L .first .ptr .0) (L .first .ptr .1) 𝓤 H A W (L .ℓ) ℓ′ ys (length (L .first .now)) e δ zs room same) $ await t z $ split t $ k same)
+
+-- a list that is only read can be had twice: once to pass on, and once to keep
+pub twice : {M : Type 1} {𝓤 : URA M} {H : Heap 𝓤} {A : Atoms 𝓤} {K : Type 0} (W : Given 𝓤 H A) (ℓ : Lifetime) (κ : Lft) (R : RattleType) (x : RefT (List (R .Denot))) {Γ : List (Item 𝓤)} {G : Goal 𝓤 H}
+    → Step K W (‵ (ShrSlice ℓ κ R .own x (slice-vals x)) ∷ ‵ (ShrSlice ℓ κ R .own x (slice-vals x)) ∷ Γ) G (‵ (ShrSlice ℓ κ R .own x (slice-vals x)) ∷ Γ) G
+twice {𝓤 = 𝓤} {H = H} {A = A} W ℓ κ R x = cut (‵ (ShrSlice ℓ κ R .own x (slice-vals x)) ∷ []) (‵ (ShrSlice ℓ κ R .own x (slice-vals x)) ∷ ‵ (ShrSlice ℓ κ R .own x (slice-vals x)) ∷ []) _
+    (shr-slice-copy 𝓤 H A W ℓ κ R .twice x (slice-vals x))

@@ -6,3 +6,4 @@ pub mod Locals
 pub mod Calling
 pub mod Lent
 pub mod Params
+pub mod Steps

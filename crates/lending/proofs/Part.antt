@@ -12,11 +12,12 @@ use mir.Syntax.{Ty, Lifetime, tyArray}
 use mir.Raw.{raw as rawTy}
 use mir.Val.{Val}
 use base.Logic.{ent, sep, ex}
-use base.Fml.{Lft, GName, Fml, fsep, fat, fdead, flent}
+use base.Fml.{Lft, GName, Fml, fsep, feq, fat, flft, fdead, flent}
 use prog.Wp.{Heap}
 use ghost.Atoms.{Atoms, sem}
 use types.Kit.{Given, ‵, _⊛_, some, later, _$_, _∵_, !, qed, by, drop, move, rewrite, use1, use2, use3, split, pick, fsplit, fjoin, fpick, fpack, feqL, feqI, await, updating, now as at-once}
-use types.Kit.{show, done}
+use types.Kit.{show, done, Item, Goal, Soaks, Seq}
+use types.Tokens.{lft-new, lft-end}
 use types.SemTy.{cells, Arr}
 use types.Share.{arr-parts}
 use borrow.Table.Elements.{at, cut-app, join-app}
@@ -97,3 +98,22 @@ module _ (R : RattleType) (l : ℕ) where
           first : List Val → Val
           first [] = arrayVal []
           first (v ∷ vs) = v
+
+-- the first k of the array, lent for ν under the name δ
+abbrev pub PartOn : (R : RattleType) → ℕ → Lifetime → ℕ → List (R .Denot) → ℕ → GName → Fml
+PartOn R l ℓ k xs ν δ = MutSlice ℓ (ν ∷ []) R .own (part-at R l δ (take k xs)) (sliceVal (l, 0) k ∷ [])
+
+-- the two as steps: a lifetime is made and the first k are lent for it; and it is ended, and the array is whole again
+module _ (R : RattleType) (l : ℕ) {M : Type 1} {𝓤 : URA M} {H : Heap 𝓤} {A : Atoms 𝓤} {K : Type 0} (W : Given 𝓤 H A) {Γ : List (Item 𝓤)} {G : Goal 𝓤 H} (ℓ : Lifetime) (one : Single (R .mir)) (n k : ℕ)
+    (xs : List (R .Denot)) (long : length xs ≡ n) (few : k ≤ n) where
+  pub lends-first : K → Soaks G → (w : Val) → Room R k → ((ν : ℕ) (δ : GName) → Seq K W (‵ (flft (ν ∷ []) fullShare) ∷ ‵ (PartOn R l ℓ k xs ν δ) ∷ ‵ (Rests R l (ν ∷ []) k k xs δ) ∷ Γ) G)
+      → Seq K W (‵ (fat fullShare (tyArray (lone (R .mir)) n) l 0 w) ∷ ‵ (Array R n .own xs (w ∷ [])) ∷ Γ) G
+  lends-first t z w room go = lft-new t z (λ ν. move t (1 ∷ 2 ∷ []) $ use2 W (later (some (λ (δ : GName). ‵ (fsep (PartOn R l ℓ k xs ν δ) (Rests R l (ν ∷ []) k k xs δ)))))
+      (lends-part R l 𝓤 H A W ℓ (ν ∷ []) one n k xs w long few room) $ await t z $ pick t (λ δ. fsplit t $ move t (2 ∷ []) $ go ν δ))
+
+  pub takes-first-back : K → Soaks G → (vals : R .Denot → List Val) → Tells R (Is R) vals → {ν : ℕ} {δ : GName} (zs : List (R .Denot))
+      → (length zs ≡ length (take k xs) → (w : Val) → Seq K W (‵ (fat fullShare (tyArray (lone (R .mir)) n) l 0 w) ∷ ‵ (Array R n .own (zs ++ past k xs) (w ∷ [])) ∷ Γ) G)
+      → Seq K W (‵ (flft (ν ∷ []) fullShare) ∷ ‵ (Rests R l (ν ∷ []) k k xs δ) ∷ ‵ (fsep (finally R δ zs) (feq ℕ (length zs) (length (take k xs)))) ∷ Γ) G
+  takes-first-back t z vals tells {ν} {δ} zs go = move t (2 ∷ []) $ fsplit t $ move t (1 ∷ []) $ feqL t (λ same. move t (1 ∷ []) $ lft-end t z $ move t (0 ∷ 2 ∷ 1 ∷ []) $
+      use3 W (later (some (λ (w : Val). ‵ (fsep (fat fullShare (tyArray (lone (R .mir)) n) l 0 w) (Array R n .own (zs ++ past k xs) (w ∷ []))))))
+      (part-back R l 𝓤 H A W ℓ (ν ∷ []) one vals tells n k δ xs zs long few) $ await t z $ pick t (λ w. fsplit t $ go same w))
