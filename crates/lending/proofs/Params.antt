@@ -109,7 +109,7 @@ module _ {M : Type 1} {𝓤 : URA M} {H : Heap 𝓤} {A : Atoms 𝓤} (W : Given
   rows κs = typesAt (T .signature .params) κs
 
   -- a walk with the arguments in the locals, at a choice of lifetimes, shares and arguments
-  abbrev Walk : (κs : Lfts n) (qs : Shares n) → AllOutlive n (T .signature .outlives) κs → (a : Args (T .signature) κs) → Valss (rows κs) → c κs a .ghost → (ℕ → ℕ) → Type 1
+  abbrev pub Walk : (κs : Lfts n) (qs : Shares n) → AllOutlive n (T .signature .outlives) κs → (a : Args (T .signature) κs) → Valss (rows κs) → c κs a .ghost → (ℕ → ℕ) → Type 1
   Walk κs qs bounds a vss g l =
       Sq W (locals 𝓤 H A (f .locals) l (empty ∷ map has (flat (rows κs) vss)) (tokens 𝓤 H A n κs qs (owned-by 𝓤 H A (rows κs) a vss)))
       (runs (𝓣 .C) (𝓣 .Λ) (env 𝓤 H A (f .locals) l) (f .body) (atRet (env 𝓤 H A (f .locals) l) (walkOf 𝓤 H A T hs c .post ((κs, qs, bounds, a, vss), g))))
