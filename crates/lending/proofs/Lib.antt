@@ -1,9 +1,8 @@
--- A list that is lent on to a call and comes back. Whole: all of it. Part: the first cells of a local array, as a slice.
--- And the parts of a walk of MIR. Locals: a function's locals as one list.
+-- A list that is lent on to a call and comes back. Whole: all of it. Part: the first cells of a local array, as a slice. Lent: the steps of both in a walk.
+-- And what else a walk of MIR has. Params: its parameters, told once. Locals: its locals, as one list. Calling: its calls, and its exit.
 pub mod Whole
 pub mod Part
-pub mod Locals
-pub mod Calling
 pub mod Lent
 pub mod Params
-pub mod Steps
+pub mod Locals
+pub mod Calling

@@ -75,8 +75,7 @@ use contract.Monad.{factI}
 use denote.Triple.Entry.{Args}
 use Rattle.lending.proofs.Locals.{Held, empty, has, env, locals, span, frees-all}
 use Rattle.lending.proofs.Calling.{Way, here, made, number, calls, ends as exits-with}
-use Rattle.lending.proofs.Lent.{Lent, mach, at, Owns, lends, takes-back, twice}
-use Rattle.lending.proofs.Steps.{held, reslices}
+use Rattle.lending.proofs.Lent.{Lent, mach, at, Owns, lends, takes-back, twice, held, reslices}
 use Rattle.lending.proofs.Params.{Param, list-read, list-kept, number-of, data-of, stays as stays-of, goes-all, spells, tells-all, lawfuls, Walk, proves}
 
 -- a number and its machine value
@@ -164,10 +163,10 @@ module _ {M : Type 1} (𝓤 : URA M) (H : Heap 𝓤) (A : Atoms 𝓤) (W : Given
     the-job = made (J.the-row .own job sj) (LL.makes J.the-type J′.the-plain 𝓤 H A job sj (are .0))
 
     abbrev the-start : Way 𝓤 H A
-    the-start = number 𝓤 H A W start (are .1 .1 .0 .1)
+    the-start = number W start (are .1 .1 .0 .1)
 
     abbrev the-trials : Way 𝓤 H A
-    the-trials = number 𝓤 H A W trials (are .1 .1 .1 .0 .1)
+    the-trials = number W trials (are .1 .1 .1 .0 .1)
 
     abbrev the-verdict : (v : Verdict) (w : Val) → Is O.the-row v (w ∷ []) → Way 𝓤 H A
     the-verdict v w is = made (O.the-row .own v (w ∷ [])) (EL.makes O.the-type O′.the-plain 𝓤 H A v (w ∷ []) is)
@@ -218,15 +217,15 @@ module _ {M : Type 1} (𝓤 : URA M) (H : Heap 𝓤) (A : Atoms 𝓤) (W : Given
     made-fits i = lt-of-le-of-lt (i .running .within) (lit< tt)
 
     abbrev En : Env 𝓤 H
-    En = env 𝓤 H A (code.function .locals) l
+    En = env (code.function .locals) l
 
     -- the context of a run whose lists stand so: the parameters and `room` are in their locals, then come `opened`, `limit` and `made` as they are given, and the others are room
     abbrev Has : List ℕ → List ℕ → List Report → List Held → List (Item 𝓤)
     Has t p rs hs =
         ‵ (Owns table t) ∷ ‵ (flft (κs .1 .0) (qs .1 .0)) ∷ ‵ (Owns path p) ∷ ‵ (flft (κs .1 .1 .0) (qs .1 .1 .0)) ∷ ‵ (Owns reports rs) ∷ ‵ (flft (κs .1 .1 .1 .0) (qs .1 .1 .1 .0))
-        ∷ ‵ (ShrSlice (named 0) (κs .0) u8 .own fl (floor-val ∷ [])) ∷ ‵ (flft (κs .0) (qs .0)) ∷ locals 𝓤 H A (code.function .locals) l
+        ∷ ‵ (ShrSlice (named 0) (κs .0) u8 .own fl (floor-val ∷ [])) ∷ ‵ (flft (κs .0) (qs .0)) ∷ locals (code.function .locals) l
         (empty ∷ has (LL.val J.the-type J′.the-laws job) ∷ has floor-val ∷ has (vint w64 start) ∷ has (vint w64 trials) ∷ has (mach table) ∷ has (mach path) ∷ has (mach reports)
-        ∷ has (vint w64 (length (re .now))) ∷ hs) []
+        ∷ has (vint w64 (length (re .now))) ∷ hs)
 
     module _ (v : Verdict) (wv : Val) (is-v : Is O.the-row v (wv ∷ [])) where
       -- the context at the loop's head
@@ -241,58 +240,58 @@ module _ {M : Type 1} (𝓤 : URA M) (H : Heap 𝓤) (A : Atoms 𝓤) (W : Given
       ends : (i : Here v) → ltb (i .made) (i .limit) ≡ false → Sq W (At i) (runs C Λ En mir′.turn-1 (anyQ (Turned i)))
       unfolding afterTurn
       ends i over =
-          assigns ! (bin ! (held ! 34 refl) (held ! 36 refl) tt) (from ! (stop !)) (init ! 22 refl (tt, tt)) $ rewrite ! 22 (λ (t : Bool). ‵ (fat fullShare tyBool (l 17) 0 (vbool t))) over refl $
-          leaves-loop ! (held ! 22 refl) $ exec ! C Λ En mir′.t-10 (atRet En Post) $
-          calls W _ fm answer.ended (answer.clauses 𝓤 H A mem run) known-answer ((tt, tt, tt, (v, (i .made, (i .limit, tt))), (wv ∷ [], (num (i .made), (num (i .limit), tt)))), tt)
-          (the-verdict v wv is-v ∷ number 𝓤 H A W (i .made) (made-fits i) ∷ number 𝓤 H A W (i .limit) (limit-fits i) ∷ []) refl (id⊢ 𝓤 _)
-          (λ t _. t ≡ answered v (i .made) (i .limit)) (λ t _. id⊢ 𝓤 _) ! (and-then ! (held ! 38 refl) (and-then ! (held ! 34 refl) (and-then ! (held ! 36 refl) (no-more !)))) (λ u t _ is-t told.
-          land ! (from ! (stop !)) (init ! 57 refl (EL.lawful R.the-type R′.the-laws 𝓤 H A W tt .typed t _ is-t .0)) $ returns ! (look ! 57 refl) $
-          forget ! 23 refl $ move ! (span 9 50) $ frees-all W (code.function .locals) l
-          (has _ ∷ has _ ∷ has _ ∷ has _ ∷ has _ ∷ has _ ∷ has _ ∷ has _ ∷ has _ ∷ has _ ∷ has _ ∷ has _ ∷ []) $
+          assigns ! (bin ! (held ! 30 refl) (held ! 28 refl) tt) (from ! (stop !)) (init ! 42 refl (tt, tt)) $ rewrite ! 42 (λ (t : Bool). ‵ (fat fullShare tyBool (l 17) 0 (vbool t))) over refl $
+          leaves-loop ! (held ! 42 refl) $ exec ! C Λ En mir′.t-10 (atRet En Post) $
+          calls W answer.ended (answer.clauses 𝓤 H A mem run) ((tt, tt, tt, (v, (i .made, (i .limit, tt))), (wv ∷ [], (num (i .made), (num (i .limit), tt)))), tt) _ fm known-answer
+          (the-verdict v wv is-v ∷ number W (i .made) (made-fits i) ∷ number W (i .limit) (limit-fits i) ∷ []) refl (id⊢ 𝓤 _)
+          (λ t _. t ≡ answered v (i .made) (i .limit)) (λ t _. id⊢ 𝓤 _) ! (and-then ! (held ! 27 refl) (and-then ! (held ! 31 refl) (and-then ! (held ! 29 refl) (no-more !)))) (λ u t _ is-t told.
+          land ! (from ! (stop !)) (init ! 9 refl (EL.lawful R.the-type R′.the-laws 𝓤 H A W tt .typed t _ is-t .0)) $ returns ! (look ! 9 refl) $
+          forget ! 43 refl $ move ! (span 9 50) $ frees-all W (code.function .locals) l
+          (has _ ∷ has _ ∷ has _ ∷ has _ ∷ has _ ∷ has _ ∷ has _ ∷ has _ ∷ has _ ∷ has _ ∷ has _ ∷ has _ ∷ []) ! $
           -- [the result; the table; its token; the path; its token; the reports; their token; the floor; its token]
           move ! (0 ∷ 8 ∷ 2 ∷ 4 ∷ 6 ∷ 7 ∷ 1 ∷ 3 ∷ 5 ∷ []) $
-          exits-with W _ f.ended (stays-of params) (f.clauses 𝓤 H A mem run) ((κs, qs, tt, a, valss (rows κs) (spells params κs) a), tt) u t
+          exits-with W f.ended (f.clauses 𝓤 H A mem run) ((κs, qs, tt, a, valss (rows κs) (spells params κs) a), tt) _ (stays-of params) u t
           (tt, (tt, (tt, (tt, (i .table, (i .path, (i .reports, tt))))))) (tt, (tt, (tt, (tt, (i .table-long, (i .path-long, (i .reports-long, tt)))))))
           (the-job ∷ here _ ∷ the-start ∷ the-trials ∷ here _ ∷ here _ ∷ here _ ∷ []) refl
           (factI 𝓤 _ (emp 𝓤) (subst (λ (y : Ran). IsRun outcome y (i .table) (i .path) (i .reports)) (sym told)
-          (C′.ends job (fl .now) start outcome v (i .made) (i .limit) (i .table) (i .path) (i .reports) (i .running) (ltb-false (i .made) (i .limit) over)))))
+          (C′.ends job (fl .now) start outcome v (i .made) (i .limit) (i .table) (i .path) (i .reports) (i .running) (ltb-false (i .made) (i .limit) over)))) !)
 
       -- a turn that makes a trial
       more : (i : Here v) → ltb (i .made) (i .limit) ≡ true → Sq W (At i) (runs C Λ En mir′.turn-1 (anyQ (Turned i)))
       unfolding afterTurn
       more i test =
-          assigns ! (bin ! (held ! 34 refl) (held ! 36 refl) tt) (from ! (stop !)) (init ! 22 refl (tt, tt)) $ rewrite ! 22 (λ (t : Bool). ‵ (fat fullShare tyBool (l 17) 0 (vbool t))) test refl $
-          stays ! (held ! 22 refl) $
+          assigns ! (bin ! (held ! 30 refl) (held ! 28 refl) tt) (from ! (stop !)) (init ! 42 refl (tt, tt)) $ rewrite ! 42 (λ (t : Bool). ‵ (fat fullShare tyBool (l 17) 0 (vbool t))) test refl $
+          stays ! (held ! 42 refl) $
           -- `ride`, with the table and the path lent on
-          reslices ! 46 20 18 refl (sub ! 0 refl (whole !)) refl (tt, tt) refl refl (sub ! 1 refl (whole !)) refl (tt, (tt, (record { fits = room-t .0 }, tt))) $
-          reslices ! 44 16 14 refl (sub ! 0 refl (whole !)) refl (tt, tt) refl refl (sub ! 1 refl (whole !)) refl (tt, (tt, (record { fits = room-p .0 }, tt))) $
+          reslices ! 18 44 46 refl (sub ! 0 refl (whole !)) refl (tt, tt) refl refl (sub ! 1 refl (whole !)) refl (tt, (tt, (record { fits = room-t .0 }, tt))) $
+          reslices ! 20 48 50 refl (sub ! 0 refl (whole !)) refl (tt, tt) refl refl (sub ! 1 refl (whole !)) refl (tt, (tt, (record { fits = room-p .0 }, tt))) $
           lends table W (named 1) (i .table) (i .table-long) ! tt (λ ν₁ δ₁. move ! (3 ∷ 4 ∷ []) $ lends path W (named 2) (i .path) (i .path-long) ! tt (λ ν₂ δ₂.
           move ! (8 ∷ []) $ twice W (named 0) (κs .0) u8 fl $ move ! (10 ∷ 5 ∷ 2 ∷ 0 ∷ 6 ∷ 3 ∷ []) $
-          calls W _ fm ride′.ended (ride′.clauses 𝓤 H A mem run) known-ride (((κs .0, (ν₁ ∷ [], (ν₂ ∷ [], tt))), (qs .0, (fullShare, (fullShare, tt))), tt,
-          (job, (fl, (start, (at table δ₁ (i .table), (at path δ₂ (i .path), tt))))), (sj, (floor-val ∷ [], (num start, (mach table ∷ [], (mach path ∷ [], tt)))))), tt)
+          calls W ride′.ended (ride′.clauses 𝓤 H A mem run) (((κs .0, (ν₁ ∷ [], (ν₂ ∷ [], tt))), (qs .0, (fullShare, (fullShare, tt))), tt,
+          (job, (fl, (start, (at table δ₁ (i .table), (at path δ₂ (i .path), tt))))), (sj, (floor-val ∷ [], (num start, (mach table ∷ [], (mach path ∷ [], tt)))))), tt) _ fm known-ride
           (the-job ∷ here _ ∷ the-start ∷ here _ ∷ here _ ∷ []) refl (factI 𝓤 _ (emp 𝓤) (C′.may-ride job (fl .now) start (i .running) less))
           (λ r zs. Rode job (fl .now) (ride job (fl .now) start (i .table) (i .path)) r (zs .1 .1 .1 .0) (zs .1 .1 .1 .1 .0)) (λ r zs. id⊢ 𝓤 _) !
-          (and-then ! (held ! 57 refl) (and-then ! (held ! 55 refl) (and-then ! (held ! 53 refl) (and-then ! (held ! 21 refl) (and-then ! (held ! 17 refl) (no-more !)))))) (λ w r zs is-r rode.
+          (and-then ! (held ! 8 refl) (and-then ! (held ! 10 refl) (and-then ! (held ! 12 refl) (and-then ! (held ! 44 refl) (and-then ! (held ! 48 refl) (no-more !)))))) (λ w r zs is-r rode.
           land ! (from ! (stop !)) (init ! 35 refl (LL.lawful T.the-type T′.the-laws 𝓤 H A W .typed r _ is-r .0)) $
           move ! (3 ∷ 7 ∷ 5 ∷ []) $ takes-back path W (named 2) (i .path) (i .path-long) ! tt (zs .1 .1 .1 .1 .0) room-p (λ same-p.
           move ! (4 ∷ 7 ∷ 5 ∷ []) $ takes-back table W (named 1) (i .table) (i .table-long) ! tt (zs .1 .1 .1 .0) room-t (λ same-t.
           -- `store_report`, with the reports lent on
-          reslices ! 43 11 9 refl (sub ! 0 refl (whole !)) refl (tt, tt) refl refl (sub ! 1 refl (whole !)) refl (tt, (tt, (record { fits = room .0 }, tt))) $
+          reslices ! 23 55 57 refl (sub ! 0 refl (whole !)) refl (tt, tt) refl refl (sub ! 1 refl (whole !)) refl (tt, (tt, (record { fits = room .0 }, tt))) $
           move ! (7 ∷ 8 ∷ []) $ lends reports W (named 0) (i .reports) (i .reports-long) ! tt (λ ν₃ δ₃.
-          calls W _ fm store-report.ended (store-report.clauses 𝓤 H A mem run) known-store
-          (((ν₃ ∷ [], tt), (fullShare, tt), tt, (at reports δ₃ (i .reports), (i .made, (r, tt))), (mach reports ∷ [], (num (i .made), (w ∷ [], tt)))), tt)
-          (here _ ∷ number 𝓤 H A W (i .made) (made-fits i) ∷ the-report r w is-r ∷ []) refl (factI 𝓤 _ (emp 𝓤) (C′.has-room job (fl .now) start (i .running) less))
-          (λ _ ys. ys .0 ≡ set (i .reports) (i .made) r) (λ _ ys. id⊢ 𝓤 _) ! (and-then ! (held ! 10 refl) (and-then ! (held ! 36 refl) (and-then ! (held ! 34 refl) (no-more !)))) (λ u t ys is-u put.
-          land ! (from ! (stop !)) (init ! 15 refl (nothing-lawful 𝓤 H A W .typed t _ is-u .0)) $
+          calls W store-report.ended (store-report.clauses 𝓤 H A mem run)
+          (((ν₃ ∷ [], tt), (fullShare, tt), tt, (at reports δ₃ (i .reports), (i .made, (r, tt))), (mach reports ∷ [], (num (i .made), (w ∷ [], tt)))), tt) _ fm known-store
+          (here _ ∷ number W (i .made) (made-fits i) ∷ the-report r w is-r ∷ []) refl (factI 𝓤 _ (emp 𝓤) (C′.has-room job (fl .now) start (i .running) less))
+          (λ _ ys. ys .0 ≡ set (i .reports) (i .made) r) (λ _ ys. id⊢ 𝓤 _) ! (and-then ! (held ! 57 refl) (and-then ! (held ! 31 refl) (and-then ! (held ! 33 refl) (no-more !)))) (λ u t ys is-u put.
+          land ! (from ! (stop !)) (init ! 55 refl (nothing-lawful 𝓤 H A W .typed t _ is-u .0)) $
           move ! (1 ∷ 3 ∷ 2 ∷ []) $ takes-back reports W (named 0) (i .reports) (i .reports-long) ! tt (ys .0) room (λ _. rewrite ! 0 (λ (rs : List Report). ‵ (Owns reports rs)) put refl $
           -- `limit_after`, and one more is made
-          calls W _ fm limit-after.ended (limit-after.clauses 𝓤 H A mem run) known-limit ((tt, tt, tt, (i .limit, (r, tt)), (num (i .limit), (w ∷ [], tt))), tt)
-          (number 𝓤 H A W (i .limit) (limit-fits i) ∷ the-report r w is-r ∷ []) refl (id⊢ 𝓤 _) (λ n _. n ≡ limitAfter (i .limit) r) (λ n _. id⊢ 𝓤 _) !
-          (and-then ! (held ! 38 refl) (and-then ! (held ! 34 refl) (no-more !))) (λ y n _ is-n told.
-          land ! (from ! (stop !)) (store ! 39 refl (word-typed n y is-n)) $
-          rewrite ! 39 (λ (z : Val). ‵ (fat fullShare (tyInt w64) (l 10) 0 z)) (word-is n y is-n ∙ ap (λ (k : ℕ). vint w64 k) told) refl $
-          assigns-last ! (bin ! (held ! 37 refl) (lit ! tt) (record { fits = next-fits })) (from ! (stop !)) (store ! 37 refl (tt, record { fits = next-fits })) $
-          forget ! 11 refl $ forget ! 13 refl $ forget ! 15 refl $ forget ! 17 refl $ forget ! 19 refl $ forget ! 21 refl $ forget ! 23 refl $ forget ! 25 refl $ forget ! 35 refl $
+          calls W limit-after.ended (limit-after.clauses 𝓤 H A mem run) ((tt, tt, tt, (i .limit, (r, tt)), (num (i .limit), (w ∷ [], tt))), tt) _ fm known-limit
+          (number W (i .limit) (limit-fits i) ∷ the-report r w is-r ∷ []) refl (id⊢ 𝓤 _) (λ n _. n ≡ limitAfter (i .limit) r) (λ n _. id⊢ 𝓤 _) !
+          (and-then ! (held ! 31 refl) (and-then ! (held ! 35 refl) (no-more !))) (λ y n _ is-n told.
+          land ! (from ! (stop !)) (store ! 31 refl (word-typed n y is-n)) $
+          rewrite ! 31 (λ (z : Val). ‵ (fat fullShare (tyInt w64) (l 10) 0 z)) (word-is n y is-n ∙ ap (λ (k : ℕ). vint w64 k) told) refl $
+          assigns-last ! (bin ! (held ! 33 refl) (lit ! tt) (record { fits = next-fits })) (from ! (stop !)) (store ! 33 refl (tt, record { fits = next-fits })) $
+          forget ! 35 refl $ forget ! 45 refl $ forget ! 47 refl $ forget ! 49 refl $ forget ! 51 refl $ forget ! 53 refl $ forget ! 55 refl $ forget ! 57 refl $ forget ! 59 refl $
           keep ! (4 ∷ 5 ∷ 6 ∷ 7 ∷ 1 ∷ 2 ∷ 10 ∷ 9 ∷ span 11 50) $
           again ! (Nearer v) At i (C′.after job (fl .now) start outcome v (length (tb .now)) (length (pa .now)) (length (re .now)) i less r (zs .1 .1 .1 .0) (zs .1 .1 .1 .1 .0) rode same-t same-p)
           (C′.fewer job (fl .now) start (i .made) (i .limit) r less))))))))))
@@ -313,34 +312,34 @@ module _ {M : Type 1} (𝓤 : URA M) (H : Heap 𝓤) (A : Atoms 𝓤) (W : Given
       -- once the opening has answered: `allowed`, and the loop
       goes-on : v ≡ verdict → Sq W (Has (tb .now) (pa .now) (re .now) (has wv ∷ [])) (runs C Λ En mir′.t-7 (atRet En Post))
       goes-on opened =
-          calls W _ fm allowed.ended (allowed.clauses 𝓤 H A mem run) known-allowed ((tt, tt, tt, (v, (trials, tt)), (wv ∷ [], (num trials, tt))), tt)
-          (the-verdict v wv is-v ∷ the-trials ∷ []) refl (id⊢ 𝓤 _) (λ n _. n ≡ allowedBy v trials) (λ n _. id⊢ 𝓤 _) ! (and-then ! (held ! 38 refl) (and-then ! (held ! 48 refl) (no-more !))) (λ u n _ is-n told.
-          land ! (from ! (stop !)) (init ! 37 refl (word-typed n u is-n)) $ drop ! $
-          rewrite ! 36 (λ (y : Val). ‵ (fat fullShare (tyInt w64) (l 10) 0 y)) (word-is n u is-n ∙ ap (λ (k : ℕ). vint w64 k) told) refl $
-          assigns ! (of-opd ! (lit ! tt)) (from ! (stop !)) (init ! 34 refl (tt, record { fits = lit< tt })) $
+          calls W allowed.ended (allowed.clauses 𝓤 H A mem run) ((tt, tt, tt, (v, (trials, tt)), (wv ∷ [], (num trials, tt))), tt) _ fm known-allowed
+          (the-verdict v wv is-v ∷ the-trials ∷ []) refl (id⊢ 𝓤 _) (λ n _. n ≡ allowedBy v trials) (λ n _. id⊢ 𝓤 _) ! (and-then ! (held ! 27 refl) (and-then ! (held ! 17 refl) (no-more !))) (λ u n _ is-n told.
+          land ! (from ! (stop !)) (init ! 29 refl (word-typed n u is-n)) $ drop ! $
+          rewrite ! 28 (λ (y : Val). ‵ (fat fullShare (tyInt w64) (l 10) 0 y)) (word-is n u is-n ∙ ap (λ (k : ℕ). vint w64 k) told) refl $
+          assigns ! (of-opd ! (lit ! tt)) (from ! (stop !)) (init ! 30 refl (tt, record { fits = lit< tt })) $
           first ! $ blocks ! $ loops ! 𝓣 (Nearer v) (Nearer-wf v) At turns (stand v opened))
 
     -- the MIR up to there
-    opens : Walk W 𝓣 code.function f.ended (f.clauses 𝓤 H A mem run) (stays-of params) κs qs tt a (valss (rows κs) (spells params κs) a) tt l
+    opens : Walk W 𝓣 code.function f.ended (f.clauses 𝓤 H A mem run) (stays-of params) ((κs, qs, tt, a, valss (rows κs) (spells params κs) a), tt) l
     opens =
         move ! (58 ∷ 51 ∷ 59 ∷ 52 ∷ 60 ∷ 53 ∷ 55 ∷ 50 ∷ []) $
-        assigns ! (of-opd ! (load ! (from ! (fld ! refl (stop !))) (look-in ! 42 (sub ! 1 refl (whole !))))) (from ! (stop !)) (init ! 40 refl (tt, record { fits = room .0 })) $
-        reslices ! 46 30 28 refl (sub ! 0 refl (whole !)) refl (tt, tt) refl refl (sub ! 1 refl (whole !)) refl (tt, (tt, (record { fits = room-t .0 }, tt))) $
-        reslices ! 44 26 24 refl (sub ! 0 refl (whole !)) refl (tt, tt) refl refl (sub ! 1 refl (whole !)) refl (tt, (tt, (record { fits = room-p .0 }, tt))) $
+        assigns ! (of-opd ! (load ! (from ! (fld ! refl (stop !))) (look-in ! 22 (sub ! 1 refl (whole !))))) (from ! (stop !)) (init ! 24 refl (tt, record { fits = room .0 })) $
+        reslices ! 18 34 36 refl (sub ! 0 refl (whole !)) refl (tt, tt) refl refl (sub ! 1 refl (whole !)) refl (tt, (tt, (record { fits = room-t .0 }, tt))) $
+        reslices ! 20 38 40 refl (sub ! 0 refl (whole !)) refl (tt, tt) refl refl (sub ! 1 refl (whole !)) refl (tt, (tt, (record { fits = room-p .0 }, tt))) $
         -- `judge`, with the table and the path lent on for lifetimes ν₁ and ν₂ of the call
         lends table W (named 1) (tb .now) refl ! tt (λ ν₁ δ₁. move ! (3 ∷ 4 ∷ []) $ lends path W (named 2) (pa .now) refl ! tt (λ ν₂ δ₂.
         move ! (8 ∷ []) $ twice W (named 0) (κs .0) u8 fl $ move ! (10 ∷ 5 ∷ 2 ∷ 0 ∷ 6 ∷ 3 ∷ []) $
-        calls W _ fm judge.ended (judge.clauses 𝓤 H A mem run) known-judge (((κs .0, (ν₁ ∷ [], (ν₂ ∷ [], tt))), (qs .0, (fullShare, (fullShare, tt))), tt,
+        calls W judge.ended (judge.clauses 𝓤 H A mem run) (((κs .0, (ν₁ ∷ [], (ν₂ ∷ [], tt))), (qs .0, (fullShare, (fullShare, tt))), tt,
         (job, (fl, (start, (trials, (at table δ₁ (tb .now), (at path δ₂ (pa .now), (length (re .now), tt))))))),
-        (sj, (floor-val ∷ [], (num start, (num trials, (mach table ∷ [], (mach path ∷ [], (num (length (re .now)), tt)))))))), tt)
-        (the-job ∷ here _ ∷ the-start ∷ the-trials ∷ here _ ∷ here _ ∷ number 𝓤 H A W (length (re .now)) (room .0) ∷ []) refl (id⊢ 𝓤 _)
+        (sj, (floor-val ∷ [], (num start, (num trials, (mach table ∷ [], (mach path ∷ [], (num (length (re .now)), tt)))))))), tt) _ fm known-judge
+        (the-job ∷ here _ ∷ the-start ∷ the-trials ∷ here _ ∷ here _ ∷ number W (length (re .now)) (room .0) ∷ []) refl (id⊢ 𝓤 _)
         (λ v zs. (v ≡ verdict) × (zs .1 .1 .1 .1 .0 ≡ tb .now) × (zs .1 .1 .1 .1 .1 .0 ≡ pa .now)) (λ v zs. id⊢ 𝓤 _) !
-        (and-then ! (held ! 57 refl) (and-then ! (held ! 55 refl) (and-then ! (held ! 53 refl) (and-then ! (held ! 51 refl)
-        (and-then ! (held ! 31 refl) (and-then ! (held ! 27 refl) (and-then ! (held ! 43 refl) (no-more !)))))))) (λ w v zs is-v said.
-        land ! (from ! (stop !)) (init ! 41 refl (EL.lawful O.the-type O′.the-laws 𝓤 H A W tt .typed v _ is-v .0)) $
+        (and-then ! (held ! 8 refl) (and-then ! (held ! 10 refl) (and-then ! (held ! 12 refl) (and-then ! (held ! 14 refl)
+        (and-then ! (held ! 34 refl) (and-then ! (held ! 38 refl) (and-then ! (held ! 22 refl) (no-more !)))))))) (λ w v zs is-v said.
+        land ! (from ! (stop !)) (init ! 29 refl (EL.lawful O.the-type O′.the-laws 𝓤 H A W tt .typed v _ is-v .0)) $
         move ! (3 ∷ 7 ∷ 5 ∷ []) $ takes-back path W (named 2) (pa .now) refl ! tt (zs .1 .1 .1 .1 .1 .0) room-p (λ _. rewrite ! 0 (λ (p : List ℕ). ‵ (Owns path p)) (said .2) refl $
         move ! (4 ∷ 7 ∷ 5 ∷ []) $ takes-back table W (named 1) (tb .now) refl ! tt (zs .1 .1 .1 .1 .0) room-t (λ _. rewrite ! 0 (λ (t : List ℕ). ‵ (Owns table t)) (said .1) refl $
-        forget ! 31 refl $ forget ! 29 refl $ forget ! 27 refl $ forget ! 25 refl $
+        forget ! 35 refl $ forget ! 37 refl $ forget ! 39 refl $ forget ! 41 refl $
         keep ! (0 ∷ 1 ∷ 2 ∷ 3 ∷ 7 ∷ 8 ∷ 6 ∷ 5 ∷ span 9 50) $ goes-on v w is-v (said .0))))))
 
   run-meets : Meets 𝓤 H A f.signature (WpFn 𝓤 H C Λ code.function) (f.spec 𝓤 H A mem run)

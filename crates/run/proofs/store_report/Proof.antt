@@ -71,26 +71,26 @@ module _ {M : Type 1} (𝓤 : URA M) (H : Heap 𝓤) (A : Atoms 𝓤) (W : Given
       let long : length zs ≡ length ys = length-set ys i v in
       let is : Is T.the-row v (mach v ∷ []) = are .1 .1 .0 in
       let bytes-fit : i * 32 < 2 ^ 64 = lt-trans (mul-lt-mul-of-pos-right within (lit< tt)) (lt-trans (are .0 .0 .1 .1) (lit< tt)) in
-      -- [_5; …; _4; …; _3; …; _2; …; _1; …; room for _0; …; the token; what the list owns; what the two plain parameters own]
-      assigns ! (bin ! (load ! (from ! (stop !)) (look ! 6 refl)) (lit ! tt) (record { fits = bytes-fit })) (from ! (stop !)) (init ! 2 refl (tt, record { fits = bytes-fit })) $
-      assigns ! (bin ! (load ! (from ! (fld ! refl (stop !))) (look-in ! 8 (sub ! 0 refl (whole !)))) (load ! (from ! (stop !)) (look ! 2 refl)) tt) (from ! (stop !)) (init ! 0 refl (tt, tt)) $
-      rewrite ! 0 (λ (p : ℕ). ‵ (fat fullShare tyPtr (l 5) 0 (vptr b p))) (sym (place-is 32 o i)) refl $
+      -- [room for _0; …; _1; …; _2; …; _3; …; _4; …; _5; …; the token; what the list owns; what the two plain parameters own]
+      assigns ! (bin ! (load ! (from ! (stop !)) (look ! 4 refl)) (lit ! tt) (record { fits = bytes-fit })) (from ! (stop !)) (init ! 8 refl (tt, record { fits = bytes-fit })) $
+      assigns ! (bin ! (load ! (from ! (fld ! refl (stop !))) (look-in ! 2 (sub ! 0 refl (whole !)))) (load ! (from ! (stop !)) (look ! 8 refl)) tt) (from ! (stop !)) (init ! 10 refl (tt, tt)) $
+      rewrite ! 10 (λ (p : ℕ). ‵ (fat fullShare tyPtr (l 5) 0 (vptr b p))) (sym (place-is 32 o i)) refl $
       move ! (13 ∷ []) $ fsplit ! $ move ! (1 ∷ []) $ fsplit ! $ move ! (0 ∷ 1 ∷ 15 ∷ []) $
       opens-slice ! tt T.the-row ys b o $ elem-out ! T.the-row (Is T.the-row) (shows 𝓤 H A T.the-row) (LL.vals T.the-type T′.the-laws) (LL.tells T.the-type T′.the-laws) fullShare ys i none b o within
       (λ _.
-      -- [reports[at]; what it owns; the others; the open borrow; obs; auth; the slice's fact; _5; …; _4; …; _3; …; _2; …; _1; …; room for _0; …; what at and r own]
-      assigns ! (of-opd ! (load ! (from ! (stop !)) (look ! 11 refl))) (from ! (hop ! (look ! 7 refl) (stop !))) (store-raw ! 0 refl (LL.lawful T.the-type T′.the-laws 𝓤 H A W .typed v _ is .0)) $
+      -- [reports[at]; what it owns; the others; the open borrow; obs; auth; the slice's fact; room for _0; …; _1; …; _2; …; _3; …; _4; …; _5; …; what at and r own]
+      assigns ! (of-opd ! (load ! (from ! (stop !)) (look ! 13 refl))) (from ! (hop ! (look ! 17 refl) (stop !))) (store-raw ! 0 refl (LL.lawful T.the-type T′.the-laws 𝓤 H A W .typed v _ is .0)) $
       move ! (1 ∷ []) $ drop ! $ owned ! T.the-row (Is T.the-row) (LL.makes T.the-type T′.the-plain 𝓤 H A) v _ is $ move ! (1 ∷ 0 ∷ []) $ elem-put ! T.the-row fullShare ys i v (mach v ∷ []) b o within $
       closes-slice ! tt T.the-row ys zs long b o $
-      assigns ! (of-opd ! (unit-lit !)) (from ! (stop !)) (init ! 14 refl (tt, tt)) $
-      returns ! (look ! 14 refl) $ forget ! 4 refl $ forget ! 6 refl $
-      move ! (span 4 12) $ frees-all W (code.function .locals) l (has vunit ∷ has (sliceVal (b, o) (length ys)) ∷ has (vint w64 i) ∷ has (mach v) ∷ []) $
+      assigns ! (of-opd ! (unit-lit !)) (from ! (stop !)) (init ! 4 refl (tt, tt)) $
+      returns ! (look ! 4 refl) $ forget ! 12 refl $ forget ! 14 refl $
+      move ! (span 4 12) $ frees-all W (code.function .locals) l (has vunit ∷ has (sliceVal (b, o) (length ys)) ∷ has (vint w64 i) ∷ has (mach v) ∷ []) ! $
       -- [obs; the borrow; the token; the slice's fact; what at and r own]
       fjoin ! $ pureI ! (at-slice T.the-row (record { ptr = (b, o); name = a .0 .name; now = zs }) (sliceVal (b, o) (length ys) ∷ [])) (tt, (tt, tt))
       (ap (λ (m : ℕ). sliceVal (b, o) m ∷ []) (sym long), subst (Room T.the-row) (sym long) (are .0 .0 .1)) $ fjoin ! $
       feqI ! (List Val) (vunit ∷ []) (vunit ∷ []) refl $ move ! (0 ∷ 2 ∷ 1 ∷ 4 ∷ 5 ∷ []) $
-      ends W _ f.ended (stays params) (f.clauses 𝓤 H A mem run) ((κs, qs, bounds, a, (sliceVal (b, o) (length ys) ∷ [], (vint w64 i ∷ [], (mach v ∷ [], tt)))), g) vunit tt (zs, (tt, (tt, tt))) (long, (tt, (tt, tt)))
-      (here _ ∷ here _ ∷ here _ ∷ []) refl (factI 𝓤 _ (emp 𝓤) refl)))
+      ends W f.ended (f.clauses 𝓤 H A mem run) ((κs, qs, bounds, a, (sliceVal (b, o) (length ys) ∷ [], (vint w64 i ∷ [], (mach v ∷ [], tt)))), g) _ (stays params) vunit tt (zs, (tt, (tt, tt))) (long, (tt, (tt, tt)))
+      (here _ ∷ here _ ∷ here _ ∷ []) refl (factI 𝓤 _ (emp 𝓤) refl) !))
 
 pub store-report-spec : {M : Type 1} → stated.statement M
 unfolding code.routine tablesOf

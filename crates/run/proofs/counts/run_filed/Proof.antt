@@ -62,9 +62,8 @@ use base.Logic.{emp}
 use contract.Monad.{factI}
 use Rattle.lending.proofs.Locals.{has, span, frees-all}
 use Rattle.lending.proofs.Calling.{Way, here, made, number, calls, ends}
-use Rattle.lending.proofs.Lent.{twice}
+use Rattle.lending.proofs.Lent.{twice, held, reslices}
 use Rattle.lending.proofs.Part.{lends-first, takes-first-back}
-use Rattle.lending.proofs.Steps.{held, reslices}
 use Rattle.lending.proofs.Params.{Param, list-read, list-passed-on, number-of, data-of, stays, goes-all, spells, tells-all, lawfuls, proves}
 
 module _ {M : Type 1} (𝓤 : URA M) (H : Heap 𝓤) (A : Atoms 𝓤) (W : Given 𝓤 H A) (mem : Memory → SProp 𝓤) (run : Routine → Fun 𝓤) (𝓣 : Tables 𝓤 H)
@@ -108,55 +107,55 @@ module _ {M : Type 1} (𝓤 : URA M) (H : Heap 𝓤) (A : Atoms 𝓤) (W : Given
       let n-fits : n < 2 ^ 64 = are .1 .1 .1 .1 .1 .1 .1 .0 .1 in
       let sj : List Val = LL.vals J.the-type J′.the-laws job in
       let the-job : Way 𝓤 H A = made (J.the-row .own job sj) (LL.makes J.the-type J′.the-plain 𝓤 H A job sj (are .0)) in
-      let the-start : Way 𝓤 H A = number 𝓤 H A W start (are .1 .1 .0 .1) in
-      let the-trials : Way 𝓤 H A = number 𝓤 H A W trials (are .1 .1 .1 .0 .1) in
-      let the-n : Way 𝓤 H A = number 𝓤 H A W n n-fits in
+      let the-start : Way 𝓤 H A = number W start (are .1 .1 .0 .1) in
+      let the-trials : Way 𝓤 H A = number W trials (are .1 .1 .1 .0 .1) in
+      let the-n : Way 𝓤 H A = number W n n-fits in
       let room : Room T.the-row n = let bytes : n * 32 ≤ 32032 = omega (arith, lent .few) in (n-fits, lt-of-le-of-lt bytes (lit< tt)) in
-      -- [the four tokens; the floor; the table; the path; the counts; _17; …; _16; … and so to _1; …; room for _0; …; what the plain parameters own]
+      -- [the four tokens; the floor; the table; the path; the counts; room for _0; …; _1; … and so to _17; …; what the plain parameters own]
       move ! (36 ∷ 37 ∷ 38 ∷ 39 ∷ 41 ∷ 44 ∷ 45 ∷ 46 ∷ []) $
       -- `reports_of`
       move ! (7 ∷ []) $ twice W (named 3) κ₃ u64 cs $ move ! (5 ∷ []) $
-      calls W _ fm reports-of.ended (reports-of.clauses 𝓤 H A mem run) known-of (((κ₃, tt), (qs .1 .1 .1 .0, tt), tt, (cs, (n, tt)), (sv cs, (num n, tt))), tt)
-      (here _ ∷ the-n ∷ []) refl (factI 𝓤 _ (emp 𝓤) lent) (λ xs ws. take n xs ≡ records (cs .now) n) (λ xs ws. id⊢ 𝓤 _) ! (and-then ! (held ! 29 refl) (and-then ! (held ! 27 refl) (no-more !))) (λ w₁ xs _ is₁ given.
-      land ! (from ! (stop !)) (init ! 21 refl (array-typed xs w₁ is₁)) $ assigns ! (of-opd ! (held ! 21 refl)) (from ! (stop !)) (init ! 25 refl (array-typed xs w₁ is₁)) $
+      calls W reports-of.ended (reports-of.clauses 𝓤 H A mem run) (((κ₃, tt), (qs .1 .1 .1 .0, tt), tt, (cs, (n, tt)), (sv cs, (num n, tt))), tt) _ fm known-of
+      (here _ ∷ the-n ∷ []) refl (factI 𝓤 _ (emp 𝓤) lent) (λ xs ws. take n xs ≡ records (cs .now) n) (λ xs ws. id⊢ 𝓤 _) ! (and-then ! (held ! 22 refl) (and-then ! (held ! 24 refl) (no-more !))) (λ w₁ xs _ is₁ given.
+      land ! (from ! (stop !)) (init ! 31 refl (array-typed xs w₁ is₁)) $ assigns ! (of-opd ! (held ! 31 refl)) (from ! (stop !)) (init ! 27 refl (array-typed xs w₁ is₁)) $
       -- the three slices
-      reslices ! 33 19 17 refl (sub ! 0 refl (whole !)) refl (tt, tt) refl refl (sub ! 1 refl (whole !)) refl (tt, (tt, (record { fits = are .1 .1 .1 .1 .0 .0 .1 .0 }, tt))) $
-      reslices ! 31 15 13 refl (sub ! 0 refl (whole !)) refl (tt, tt) refl refl (sub ! 1 refl (whole !)) refl (tt, (tt, (record { fits = are .1 .1 .1 .1 .1 .0 .0 .1 .0 }, tt))) $
-      assigns ! (addr ! (from ! (stop !))) (from ! (stop !)) (init ! 11 refl (tt, tt)) $
-      assigns ! (agg ! (and-then ! (held ! 11 refl) (and-then ! (held ! 27 refl) (no-more !)))) (from ! (stop !)) (init ! 9 refl (tt, (tt, (record { fits = n-fits }, tt)))) $
+      reslices ! 19 33 35 refl (sub ! 0 refl (whole !)) refl (tt, tt) refl refl (sub ! 1 refl (whole !)) refl (tt, (tt, (record { fits = are .1 .1 .1 .1 .0 .0 .1 .0 }, tt))) $
+      reslices ! 21 37 39 refl (sub ! 0 refl (whole !)) refl (tt, tt) refl refl (sub ! 1 refl (whole !)) refl (tt, (tt, (record { fits = are .1 .1 .1 .1 .1 .0 .0 .1 .0 }, tt))) $
+      assigns ! (addr ! (from ! (stop !))) (from ! (stop !)) (init ! 41 refl (tt, tt)) $
+      assigns ! (agg ! (and-then ! (held ! 41 refl) (and-then ! (held ! 25 refl) (no-more !)))) (from ! (stop !)) (init ! 43 refl (tt, (tt, (record { fits = n-fits }, tt)))) $
       -- the first n of the array are lent, for a lifetime ν of the call
-      move ! (25 ∷ 0 ∷ []) $ lends-first T.the-row (l 9) W (named 3) tt 1001 n xs (is₁ .1 .0 .1) (lent .few) ! tt w₁ room (λ ν δ.
+      move ! (27 ∷ 0 ∷ []) $ lends-first T.the-row (l 9) W (named 3) tt 1001 n xs (is₁ .1 .0 .1) (lent .few) ! tt w₁ room (λ ν δ.
       -- `run`
       move ! (8 ∷ []) $ twice W (named 0) κ₀ u8 fl $ move ! (7 ∷ 8 ∷ 9 ∷ 2 ∷ 0 ∷ 10 ∷ 11 ∷ 3 ∷ []) $
-      calls W _ fm run′.ended (run′.clauses 𝓤 H A mem run) known-run
+      calls W run′.ended (run′.clauses 𝓤 H A mem run)
       (((κ₀, (κs .1 .0, (κs .1 .1 .0, (ν ∷ [], tt)))), (qs .0, (qs .1 .0, (qs .1 .1 .0, (fullShare, tt)))), tt, (job, (fl, (start, (trials, (tb, (pa, (part-at T.the-row (l 9) δ (take n xs), tt))))))),
-      (sj, (sv fl, (num start, (num trials, (sv tb, (sv pa, (sliceVal (l 9, 0) n ∷ [], tt)))))))), tt)
+      (sj, (sv fl, (num start, (num trials, (sv tb, (sv pa, (sliceVal (l 9, 0) n ∷ [], tt)))))))), tt) _ fm known-run
       (the-job ∷ here _ ∷ the-start ∷ the-trials ∷ here _ ∷ here _ ∷ here _ ∷ []) refl (id⊢ 𝓤 _)
       (λ t zs. IsRun (model.run job (fl .now) start trials (tb .now) (pa .now) (take n xs)) t (zs .1 .1 .1 .1 .0) (zs .1 .1 .1 .1 .1 .0) (zs .1 .1 .1 .1 .1 .1 .0)) (λ t zs. id⊢ 𝓤 _) !
-      (and-then ! (held ! 43 refl) (and-then ! (held ! 41 refl) (and-then ! (held ! 39 refl) (and-then ! (held ! 37 refl)
-      (and-then ! (held ! 20 refl) (and-then ! (held ! 16 refl) (and-then ! (held ! 12 refl) (no-more !)))))))) (λ w₂ t last is₂ said.
+      (and-then ! (held ! 7 refl) (and-then ! (held ! 9 refl) (and-then ! (held ! 11 refl) (and-then ! (held ! 13 refl)
+      (and-then ! (held ! 30 refl) (and-then ! (held ! 34 refl) (and-then ! (held ! 38 refl) (no-more !)))))))) (λ w₂ t last is₂ said.
       let ts : List ℕ = last .1 .1 .1 .1 .0 in
       let ps : List ℕ = last .1 .1 .1 .1 .1 .0 in
       let zs : List Report = last .1 .1 .1 .1 .1 .1 .0 in
-      land ! (from ! (stop !)) (init ! 26 refl (EL.lawful R.the-type R′.the-laws 𝓤 H A W tt .typed t _ is₂ .0)) $
+      land ! (from ! (stop !)) (init ! 31 refl (EL.lawful R.the-type R′.the-laws 𝓤 H A W tt .typed t _ is₂ .0)) $
       -- the lifetime is ended, and the array is whole again
       move ! (4 ∷ 9 ∷ 7 ∷ []) $ takes-first-back T.the-row (l 9) W (named 3) tt 1001 n xs (is₁ .1 .0 .1) (lent .few) ! tt (LL.vals T.the-type T′.the-laws) (LL.tells T.the-type T′.the-laws) zs (λ same-r w₃.
       move ! (1 ∷ []) $ peeks ! Reports (Is Reports) (shows 𝓤 H A Reports) (zs ++ past n xs) (w₃ ∷ []) (λ is₃.
-      assigns ! (of-opd ! (held ! 1 refl)) (from ! (stop !)) (store ! 23 refl (array-typed (zs ++ past n xs) w₃ is₃)) $
+      assigns ! (of-opd ! (held ! 1 refl)) (from ! (stop !)) (store ! 32 refl (array-typed (zs ++ past n xs) w₃ is₃)) $
       -- `file`
       move ! (2 ∷ 0 ∷ []) $
-      calls W _ fm file′.ended (file′.clauses 𝓤 H A mem run) known-file ((tt, tt, tt, (t, (zs ++ past n xs, tt)), (w₂ ∷ [], (w₃ ∷ [], tt))), tt) (here _ ∷ here _ ∷ []) refl (id⊢ 𝓤 _)
-      (λ r ws. (r .answer ≡ t) × (r .reports ≡ zs ++ past n xs)) (λ r ws. id⊢ 𝓤 _) ! (and-then ! (held ! 25 refl) (and-then ! (held ! 23 refl) (no-more !))) (λ w₄ r _ is₄ filing.
-      land ! (from ! (stop !)) (init ! 43 refl (LL.lawful K.the-type K′.the-laws 𝓤 H A W .typed r _ is₄ .0)) $ returns ! (look ! 43 refl) $
-      move ! (span 10 16 ++ 1 ∷ span 26 19) $
-      frees-all W (code.function .locals) l (has _ ∷ has _ ∷ has _ ∷ has _ ∷ has _ ∷ has _ ∷ has _ ∷ has _ ∷ has _ ∷ has _ ∷ has _ ∷ has _ ∷ has _ ∷ has _ ∷ has _ ∷ has _ ∷ has _ ∷ has _ ∷ []) $
+      calls W file′.ended (file′.clauses 𝓤 H A mem run) ((tt, tt, tt, (t, (zs ++ past n xs, tt)), (w₂ ∷ [], (w₃ ∷ [], tt))), tt) _ fm known-file (here _ ∷ here _ ∷ []) refl (id⊢ 𝓤 _)
+      (λ r ws. (r .answer ≡ t) × (r .reports ≡ zs ++ past n xs)) (λ r ws. id⊢ 𝓤 _) ! (and-then ! (held ! 29 refl) (and-then ! (held ! 31 refl) (no-more !))) (λ w₄ r _ is₄ filing.
+      land ! (from ! (stop !)) (init ! 10 refl (LL.lawful K.the-type K′.the-laws 𝓤 H A W .typed r _ is₄ .0)) $ returns ! (look ! 10 refl) $
+      move ! (span 10 18 ++ 1 ∷ span 28 17) $
+      frees-all W (code.function .locals) l (has _ ∷ has _ ∷ has _ ∷ has _ ∷ has _ ∷ has _ ∷ has _ ∷ has _ ∷ has _ ∷ has _ ∷ has _ ∷ has _ ∷ has _ ∷ has _ ∷ has _ ∷ has _ ∷ has _ ∷ has _ ∷ []) ! $
       -- [the result; three tokens; what is said of the table and of the path; the floor; the fourth token; the counts]
       move ! (4 ∷ []) $ fsplit ! $ move ! (1 ∷ []) $ feqL ! (λ same-t. move ! (5 ∷ []) $ fsplit ! $ move ! (1 ∷ []) $ feqL ! (λ same-p. move ! (2 ∷ 3 ∷ 4 ∷ 5 ∷ 7 ∷ 6 ∷ 1 ∷ 0 ∷ 8 ∷ []) $
-      ends W _ f.ended (stays params) (f.clauses 𝓤 H A mem run) ((κs, qs, bounds, a, (sj, (sv fl, (num start, (num trials, (sv tb, (sv pa, (sv cs, (num n, tt))))))))), g) w₄ r
+      ends W f.ended (f.clauses 𝓤 H A mem run) ((κs, qs, bounds, a, (sj, (sv fl, (num start, (num trials, (sv tb, (sv pa, (sv cs, (num n, tt))))))))), g) _ (stays params) w₄ r
       (tt, (tt, (tt, (tt, (ts, (ps, (tt, (tt, tt)))))))) (tt, (tt, (tt, (tt, (same-t, (same-p, (tt, (tt, tt))))))))
       (the-job ∷ here _ ∷ the-start ∷ the-trials ∷ here _ ∷ here _ ∷ here _ ∷ the-n ∷ []) refl
       (factI 𝓤 _ (emp 𝓤) (filed job (fl .now) start trials (tb .now) (pa .now) (cs .now) n xs zs (r .reports) t (r .answer) ts ps said given
-      (same-r ∙ length-take-le n xs (let e : length xs ≡ 1001 = is₁ .1 .0 .1 in omega (arith, e, lent .few))) (filing .0) (filing .1))))))))))))
+      (same-r ∙ length-take-le n xs (let e : length xs ≡ 1001 = is₁ .1 .0 .1 in omega (arith, e, lent .few))) (filing .0) (filing .1))) !)))))))))
 
 pub run-filed-spec : {M : Type 1} → stated.statement M
 unfolding code.routine tablesOf
