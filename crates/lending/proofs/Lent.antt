@@ -14,7 +14,7 @@ use base.Fml.{Lft, GName, Share, Fml, fsep, feq, fat, froom, flft}
 use prog.Memory.{fieldOf}
 use prog.Wp.{Heap, Env, Calls, Loops, spotOf}
 use ghost.Atoms.{Atoms}
-use types.Kit.{Given, Item, ‵, _⊛_, some, later, Goal, Soaks, Post, runs, nth, put, cut, Seq, Step, step, _$_, move, use1, use2, use3, split, pick, fsplit, feqL, await}
+use types.Kit.{Given, Item, ‵, _⊛_, some, later, Goal, Soaks, Post, runs, nth, put, cut, Seq, Step, step, _$_, move, use2, use3, split, pick, fsplit, feqL, await}
 use types.Part.{Part, agg, look-in}
 use types.Run.{Opd, look, init, stop, hop, fld, from, load, addr, and-then, no-more, assigns}
 use types.Tokens.{lft-new, lft-end}

@@ -81,11 +81,11 @@ module _ {M : Type 1} {𝓤 : URA M} {H : Heap 𝓤} {A : Atoms 𝓤} {W : Given
   kepts [] = tt
   kepts (p ∷ ps) = (yes, kepts ps)
 
-  abbrev pub stays : (ps : List (Param W n)) → Stays (slots ps) (kepts ps)
-  stays [] = tt
-  stays (p ∷ ps) = (p .stay, stays ps)
+  abbrev pub stays-all : (ps : List (Param W n)) → Stays (slots ps) (kepts ps)
+  stays-all [] = tt
+  stays-all (p ∷ ps) = (p .stay, stays-all ps)
 
-  abbrev pub goes-all : (ps : List (Param W n)) → AllGo 𝓤 H A W n (slots ps) (kepts ps) (stays ps)
+  abbrev pub goes-all : (ps : List (Param W n)) → AllGo 𝓤 H A W n (slots ps) (kepts ps) (stays-all ps)
   goes-all [] = tt
   goes-all (p ∷ ps) = (p .goes, goes-all ps)
 
