@@ -132,8 +132,8 @@ module _ {M : Type 1} {𝓤 : URA M} {H : Heap 𝓤} {A : Atoms 𝓤} (W : Given
   Says r ws = c κs a .ensures (x .1) r (atExit T κs a ws)
 
   -- a call: the context begins with the tokens and with what is here of the parameters. Where it has returned, the context begins with what the result owns, the tokens, and what is said of each list
-  pub calls : {K : Type 0} {E : Env 𝓤 H} {C : Calls 𝓤 H} {Λ : Loops 𝓤 H} {q : Post 𝓤 H} {f : Name} {xs : List Operand} {d : Place} {rest : Body} (Γ : List (Item 𝓤)) → FmC 𝓤 H (W .laws) C → Triple 𝓤 (C f) Contract-of
-      → (ways : List (Way 𝓤 H A)) → all-of 𝓤 H A ways ≡ owns (typesAt (S .params) κs) a (x .0 .4) → ent 𝓤 (emp 𝓤) (c κs a .requires (x .1))
+  pub calls : {K : Type 0} {E : Env 𝓤 H} {C : Calls 𝓤 H} {Λ : Loops 𝓤 H} {q : Post 𝓤 H} {f : Name} {xs : List Operand} {d : Place} {rest : Body} (Γ : List (Item 𝓤))
+      → FmC 𝓤 H (W .laws) C → Triple 𝓤 (C f) Contract-of → (ways : List (Way 𝓤 H A)) → all-of 𝓤 H A ways ≡ owns (typesAt (S .params) κs) a (x .0 .4) → ent 𝓤 (emp 𝓤) (c κs a .requires (x .1))
       → (φ : Res S κs → Lasts T κs a → Type 0) → ((r : Res S κs) (ws : Lasts T κs a) → ent 𝓤 (Says r ws) (fact 𝓤 (φ r ws)))
       → K → Opds K W (raw (Contract-of .pre x) ∷ Γ) E xs (Contract-of .args x)
       → ((w : Val) (r : Res S κs) (ws : Lasts T κs a) → Is Result r (w ∷ []) → φ r ws → Seq K W (‵ (Result .own r (w ∷ [])) ∷ ((alive ++ at-exit ws) ++ Γ)) (lands C Λ E d w rest q))
@@ -148,7 +148,8 @@ module _ {M : Type 1} {𝓤 : URA M} {H : Heap 𝓤} {A : Atoms 𝓤} (W : Given
       use1 W (some (λ (ws : Lasts T κs a). ‵ (lasts T κs a ws) ⊛ raw (Says r ws))) (id⊢ 𝓤 _) $ pick t (λ ws. split t $ move t (1 ∷ []) $
       use1 W (raw (fact 𝓤 (φ r ws))) (sure r ws) $ heard t (φ r ws) (λ said. move t (1 ∷ []) $ split t $ move t (1 ∷ []) $ peeks t Result (Is Result) (shows 𝓤 H A Result) r (w ∷ []) (λ is.
       cut (‵ (Result .own r (w ∷ [])) ∷ raw toks-of ∷ ‵ (lasts T κs a ws) ∷ []) (‵ (Result .own r (w ∷ [])) ∷ (alive ++ at-exit ws)) Γ
-      (via 𝓤 _ (monoR 𝓤 (sem 𝓤 H A (Result .own r (w ∷ []))) (via 𝓤 _ (mono∗ 𝓤 (tokens-in 𝓤 H A (S .lifetimes) κs (x .0 .1)) (said-in 𝓤 H A κs (S .params) (T .kept) a ws)) (++⊢ 𝓤 H A alive (at-exit ws))))
+      (via 𝓤 _ (monoR 𝓤 (sem 𝓤 H A (Result .own r (w ∷ []))) (via 𝓤 _ (mono∗ 𝓤 (tokens-in 𝓤 H A (S .lifetimes) κs (x .0 .1)) (said-in 𝓤 H A κs (S .params) (T .kept) a ws))
+      (++⊢ 𝓤 H A alive (at-exit ws))))
       (push 𝓤 H A (‵ (Result .own r (w ∷ []))) (alive ++ at-exit ws))) $ k w r ws is said)))))
 
   -- a function's exit, where all has been freed: the context begins with what the result owns, the tokens, and what is here of the parameters

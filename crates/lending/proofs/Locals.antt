@@ -77,7 +77,8 @@ module _ {M : Type 1} {𝓤 : URA M} {H : Heap 𝓤} {A : Atoms 𝓤} {K : Type 
   allocated t (local τ h ∷ ls) Γ to k = alloc1 t (λ b. allocated t ls (‵ (froom τ b 0) ∷ ‵ (fdies τ b) ∷ Γ) (λ E. to ((τ, b) ∷ E)) (λ l.
       turned (locals ls l []) (‵ (froom τ b 0) ∷ ‵ (fdies τ b) ∷ []) Γ $ k (first-then b l)))
 
-  passed : K → (ls : List Local) (l : ℕ → ℕ) (vs : List Val) (Γ : List (Item 𝓤)) (g : Goal 𝓤 H) → Fits ls vs → Seq K W (locals ls l (map has vs) ++ Γ) g → Seq K W (locals ls l [] ++ Γ) (passes (env ls l) vs g)
+  passed : K → (ls : List Local) (l : ℕ → ℕ) (vs : List Val) (Γ : List (Item 𝓤)) (g : Goal 𝓤 H) → Fits ls vs
+      → Seq K W (locals ls l (map has vs) ++ Γ) g → Seq K W (locals ls l [] ++ Γ) (passes (env ls l) vs g)
   passed t ls l [] Γ g fit s = pass0 t $ s
   passed t [] l (v ∷ vs) Γ g fit s = absurd fit
   passed t (local τ h ∷ ls) l (v ∷ vs) Γ g fit s =

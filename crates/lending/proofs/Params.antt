@@ -42,7 +42,12 @@ module _ {M : Type 1} {𝓤 : URA M} {H : Heap 𝓤} {A : Atoms 𝓤} (W : Given
     -- plain data of a type, of whose value at exit nothing is said; a machine number
     abbrev pub data-of : (R : RattleType) (spell : R .Denot → List Val) → Tells R (Is R) spell → Lawful 𝓤 H A R → ((x : R .Denot) (w : Last (R .exit yes) x) → left (R .exit yes) x w ≡ ftrue) → Param n
     data-of R spell tells lawful silent = record {
-      slot = plain (λ _. R); stay = stay-none (λ _. R) yes; goes = goes-none 𝓤 H A W n (λ _. R) yes (λ κs. silent); spell = λ κs. spell; tells = λ κs. tells; lawful = λ κs. lawful;
+      slot = plain (λ _. R);
+      stay = stay-none (λ _. R) yes;
+      goes = goes-none 𝓤 H A W n (λ _. R) yes (λ κs. silent);
+      spell = λ κs. spell;
+      tells = λ κs. tells;
+      lawful = λ κs. lawful;
     }
 
     abbrev pub number-of : Param n
@@ -55,14 +60,22 @@ module _ {M : Type 1} {𝓤 : URA M} {H : Heap 𝓤} {A : Atoms 𝓤} (W : Given
 
       abbrev pub list-read : Param n
       list-read = record {
-        slot = shrSliceOf (j ∷ []) ok elements; stay = stay-none-slice (j ∷ []) ok elements yes; goes = goes-none-slice 𝓤 H A W n (j ∷ []) ok elements yes; spell = λ κs. slice-vals;
-        tells = λ κs. shr-slice-tells (nameOf (j ∷ [])) (meetAt n (j ∷ []) ok κs) R; lawful = λ κs. shr-slice-lawful 𝓤 H A W (nameOf (j ∷ [])) (meetAt n (j ∷ []) ok κs) R;
+        slot = shrSliceOf (j ∷ []) ok elements;
+        stay = stay-none-slice (j ∷ []) ok elements yes;
+        goes = goes-none-slice 𝓤 H A W n (j ∷ []) ok elements yes;
+        spell = λ κs. slice-vals;
+        tells = λ κs. shr-slice-tells (nameOf (j ∷ [])) (meetAt n (j ∷ []) ok κs) R;
+        lawful = λ κs. shr-slice-lawful 𝓤 H A W (nameOf (j ∷ [])) (meetAt n (j ∷ []) ok κs) R;
       }
 
       abbrev by-mut : (stay : Stay (mutSliceOf (j ∷ []) ok elements) yes) → Goes 𝓤 H A W n (mutSliceOf (j ∷ []) ok elements) yes stay → Param n
       by-mut stay goes = record {
-        slot = mutSliceOf (j ∷ []) ok elements; stay = stay; goes = goes; spell = λ κs. slice-vals;
-        tells = λ κs. mut-slice-tells (nameOf (j ∷ [])) (meetAt n (j ∷ []) ok κs) R; lawful = λ κs. mut-slice-lawful 𝓤 H A W (nameOf (j ∷ [])) (meetAt n (j ∷ []) ok κs) R;
+        slot = mutSliceOf (j ∷ []) ok elements;
+        stay = stay;
+        goes = goes;
+        spell = λ κs. slice-vals;
+        tells = λ κs. mut-slice-tells (nameOf (j ∷ [])) (meetAt n (j ∷ []) ok κs) R;
+        lawful = λ κs. mut-slice-lawful 𝓤 H A W (nameOf (j ∷ [])) (meetAt n (j ∷ []) ok κs) R;
       }
 
       abbrev pub list-kept : Param n
@@ -115,7 +128,8 @@ module _ {M : Type 1} {𝓤 : URA M} {H : Heap 𝓤} {A : Atoms 𝓤} (W : Given
       (runs (𝓣 .C) (𝓣 .Λ) (env (f .locals) l) (f .body) (atRet (env (f .locals) l) (walkOf 𝓤 H A T hs c .post y)))
 
   -- the contract, from such walks; ψ is what the `requires` says
-  module _ (gs : AllGo 𝓤 H A W n (T .signature .params) (T .kept) hs) (sp : (κs : Lfts n) → Spells (rows κs)) (tl : (κs : Lfts n) → Tellss (rows κs) (Ises (rows κs)) (sp κs)) (ls : (κs : Lfts n) → Lawfuls 𝓤 H A (rows κs)) where
+  module _ (gs : AllGo 𝓤 H A W n (T .signature .params) (T .kept) hs) (sp : (κs : Lfts n) → Spells (rows κs)) (tl : (κs : Lfts n) → Tellss (rows κs) (Ises (rows κs)) (sp κs))
+      (ls : (κs : Lfts n) → Lawfuls 𝓤 H A (rows κs)) where
     abbrev spelled : (κs : Lfts n) → Args (T .signature) κs → Valss (rows κs)
     spelled κs a = valss (rows κs) (sp κs) a
 

@@ -1,5 +1,5 @@
 -- `run::run` meets its contract: a walk of its MIR, by hand, with a loop. The table and the path are lent on to `judge` and at each turn to `ride`, the
--- reports to `store_report`, each for a lifetime of the call, and come back (`Whole` of lending).
+-- reports to `store_report`, each for a lifetime of the call, and come back (`Lent` of lending).
 -- The invariant and all that it gives are laws of `Course.antt`; all that the walk knows of the callees is that each meets its contract. Assumes nothing.
 use Rattle.learning.proofs.Words.{_≡_, refl, sym, _∙_, ap, subst, ℕ, _+_, _≤_, _<_, lt-of-le-of-lt, arith, Bool, true, false, List, [], _∷_, length, set, ltb, lit<}
 use Rattle.lending.proofs.Walking.{_^_, WellFounded, InvImage·wf, Nat·lt-wfRel, T as Holds, ltb-true, ltb-false, URA, fullShare, named, w64, tyInt, tyBool, Val, WT, hasTy, vbool, vint, SProp, emp}
@@ -182,7 +182,8 @@ module _ {M : Type 1} (𝓤 : URA M) (H : Heap 𝓤) (A : Atoms 𝓤) (W : Given
     abbrev En : Env 𝓤 H
     En = env (code.function .locals) l
 
-    -- the context of a run whose lists stand so: the parameters and `room` are in their locals, then come `opened`, `limit` and `made` as they are given, and the others are room
+    -- the context of a run whose lists stand so: the parameters and `room` are in their locals, then come `opened`, `limit` and `made` as they are given, and the others are room.
+    -- So local k is entry 8 + 2 k
     abbrev Has : List ℕ → List ℕ → List Report → List Held → List (Item 𝓤)
     Has t p rs hs =
         ‵ (Owns table t) ∷ ‵ (flft (κs .1 .0) (qs .1 .0)) ∷ ‵ (Owns path p) ∷ ‵ (flft (κs .1 .1 .0) (qs .1 .1 .0)) ∷ ‵ (Owns reports rs) ∷ ‵ (flft (κs .1 .1 .1 .0) (qs .1 .1 .1 .0))
@@ -226,25 +227,38 @@ module _ {M : Type 1} (𝓤 : URA M) (H : Heap 𝓤) (A : Atoms 𝓤) (W : Given
           assigns ! (bin ! (held ! 30 refl) (held ! 28 refl) tt) (from ! (stop !)) (init ! 42 refl (tt, tt)) $ rewrite ! 42 (λ (t : Bool). ‵ (fat fullShare tyBool (l 17) 0 (vbool t))) test refl $
           stays ! (held ! 42 refl) $
           -- `ride`, with the table and the path lent on
-          reslices ! 18 44 46 refl (sub ! 0 refl (whole !)) refl (tt, tt) refl refl (sub ! 1 refl (whole !)) refl (tt, (tt, (record { fits = room-t .0 }, tt))) $
-          reslices ! 20 48 50 refl (sub ! 0 refl (whole !)) refl (tt, tt) refl refl (sub ! 1 refl (whole !)) refl (tt, (tt, (record { fits = room-p .0 }, tt))) $
+          reslices ! refl (look-in ! 18 (sub ! 0 refl (whole !))) (init ! 44 refl (tt, tt)) (held ! 44 refl) refl (look-in ! 18 (sub ! 1 refl (whole !)))
+          (init ! 46 refl (tt, (tt, (record { fits = room-t .0 }, tt)))) $
+          reslices ! refl (look-in ! 20 (sub ! 0 refl (whole !))) (init ! 48 refl (tt, tt)) (held ! 48 refl) refl (look-in ! 20 (sub ! 1 refl (whole !)))
+          (init ! 50 refl (tt, (tt, (record { fits = room-p .0 }, tt)))) $
           lends table W (named 1) (i .table) (i .table-long) ! tt (λ ν₁ δ₁. move ! (3 ∷ 4 ∷ []) $ lends path W (named 2) (i .path) (i .path-long) ! tt (λ ν₂ δ₂.
           move ! (8 ∷ []) $ twice W (named 0) (κs .0) u8 fl $ move ! (10 ∷ 5 ∷ 2 ∷ 0 ∷ 6 ∷ 3 ∷ []) $
-          calls W ride′.ended (ride′.clauses 𝓤 H A mem run) (((κs .0, (ν₁ ∷ [], (ν₂ ∷ [], tt))), (qs .0, (fullShare, (fullShare, tt))), tt,
-          (job, (fl, (start, (at table δ₁ (i .table), (at path δ₂ (i .path), tt))))), (sj, (floor-val ∷ [], (num start, (mach table ∷ [], (mach path ∷ [], tt)))))), tt) _ fm known-ride
+          calls W ride′.ended (ride′.clauses 𝓤 H A mem run) (
+            (
+              (κs .0, (ν₁ ∷ [], (ν₂ ∷ [], tt))),
+              (qs .0, (fullShare, (fullShare, tt))),
+              tt,
+              (job, (fl, (start, (at table δ₁ (i .table), (at path δ₂ (i .path), tt))))),
+              (sj, (floor-val ∷ [], (num start, (mach table ∷ [], (mach path ∷ [], tt))))),
+            ),
+            tt,
+          ) _ fm known-ride
           (the-job ∷ here _ ∷ the-start ∷ here _ ∷ here _ ∷ []) refl (factI 𝓤 _ (emp 𝓤) (C′.may-ride job (fl .now) start (i .running) less))
           (λ r zs. Rode job (fl .now) (ride job (fl .now) start (i .table) (i .path)) r (zs .1 .1 .1 .0) (zs .1 .1 .1 .1 .0)) (λ r zs. id⊢ 𝓤 _) !
           (and-then ! (held ! 8 refl) (and-then ! (held ! 10 refl) (and-then ! (held ! 12 refl) (and-then ! (held ! 44 refl) (and-then ! (held ! 48 refl) (no-more !)))))) (λ w r zs is-r rode.
+          -- [the result; the floor's token, ν₁'s and ν₂'s; what is said of the table and of the path; the floor; the path waits; the table waits; the reports; their token; the locals]
           land ! (from ! (stop !)) (init ! 35 refl (LL.lawful T.the-type T′.the-laws 𝓤 H A W .typed r _ is-r .0)) $
           move ! (3 ∷ 7 ∷ 5 ∷ []) $ takes-back path W (named 2) (i .path) (i .path-long) ! tt (zs .1 .1 .1 .1 .0) room-p (λ same-p.
           move ! (4 ∷ 7 ∷ 5 ∷ []) $ takes-back table W (named 1) (i .table) (i .table-long) ! tt (zs .1 .1 .1 .0) room-t (λ same-t.
           -- `store_report`, with the reports lent on
-          reslices ! 23 55 57 refl (sub ! 0 refl (whole !)) refl (tt, tt) refl refl (sub ! 1 refl (whole !)) refl (tt, (tt, (record { fits = room .0 }, tt))) $
+          reslices ! refl (look-in ! 23 (sub ! 0 refl (whole !))) (init ! 55 refl (tt, tt)) (held ! 55 refl) refl (look-in ! 23 (sub ! 1 refl (whole !)))
+          (init ! 57 refl (tt, (tt, (record { fits = room .0 }, tt)))) $
           move ! (7 ∷ 8 ∷ []) $ lends reports W (named 0) (i .reports) (i .reports-long) ! tt (λ ν₃ δ₃.
           calls W store-report.ended (store-report.clauses 𝓤 H A mem run)
           (((ν₃ ∷ [], tt), (fullShare, tt), tt, (at reports δ₃ (i .reports), (i .made, (r, tt))), (mach reports ∷ [], (num (i .made), (w ∷ [], tt)))), tt) _ fm known-store
           (here _ ∷ number W (i .made) (made-fits i) ∷ the-report r w is-r ∷ []) refl (factI 𝓤 _ (emp 𝓤) (C′.has-room job (fl .now) start (i .running) less))
           (λ _ ys. ys .0 ≡ set (i .reports) (i .made) r) (λ _ ys. id⊢ 𝓤 _) ! (and-then ! (held ! 57 refl) (and-then ! (held ! 31 refl) (and-then ! (held ! 33 refl) (no-more !)))) (λ u t ys is-u put.
+          -- [the result; ν₃'s token; what is said of the reports; they wait; the table; its token; the path; its token; the report; the floor's token; the floor; the locals]
           land ! (from ! (stop !)) (init ! 55 refl (nothing-lawful 𝓤 H A W .typed t _ is-u .0)) $
           move ! (1 ∷ 3 ∷ 2 ∷ []) $ takes-back reports W (named 0) (i .reports) (i .reports-long) ! tt (ys .0) room (λ _. rewrite ! 0 (λ (rs : List Report). ‵ (Owns reports rs)) put refl $
           -- `limit_after`, and one more is made
@@ -276,7 +290,8 @@ module _ {M : Type 1} (𝓤 : URA M) (H : Heap 𝓤) (A : Atoms 𝓤) (W : Given
       goes-on : v ≡ verdict → Sq W (Has (tb .now) (pa .now) (re .now) (has wv ∷ [])) (runs C Λ En mir′.t-7 (atRet En Post))
       goes-on opened =
           calls W allowed.ended (allowed.clauses 𝓤 H A mem run) ((tt, tt, tt, (v, (trials, tt)), (wv ∷ [], (num trials, tt))), tt) _ fm known-allowed
-          (the-verdict v wv is-v ∷ the-trials ∷ []) refl (id⊢ 𝓤 _) (λ n _. n ≡ allowedBy v trials) (λ n _. id⊢ 𝓤 _) ! (and-then ! (held ! 27 refl) (and-then ! (held ! 17 refl) (no-more !))) (λ u n _ is-n told.
+          (the-verdict v wv is-v ∷ the-trials ∷ []) refl (id⊢ 𝓤 _) (λ n _. n ≡ allowedBy v trials) (λ n _. id⊢ 𝓤 _) !
+          (and-then ! (held ! 27 refl) (and-then ! (held ! 17 refl) (no-more !))) (λ u n _ is-n told.
           land ! (from ! (stop !)) (init ! 29 refl (word-typed n u is-n)) $ drop ! $
           rewrite ! 28 (λ (y : Val). ‵ (fat fullShare (tyInt w64) (l 10) 0 y)) (word-is n u is-n ∙ ap (λ (k : ℕ). vint w64 k) told) refl $
           assigns ! (of-opd ! (lit ! tt)) (from ! (stop !)) (init ! 30 refl (tt, record { fits = lit< tt })) $
@@ -285,20 +300,31 @@ module _ {M : Type 1} (𝓤 : URA M) (H : Heap 𝓤) (A : Atoms 𝓤) (W : Given
     -- the MIR up to there
     opens : Walk W 𝓣 code.function f.ended (f.clauses 𝓤 H A mem run) (stays-all params) ((κs, qs, tt, a, valss (rows κs) (spells params κs) a), tt) l
     opens =
+        -- what the job and the numbers own is left behind: it is made anew where it is passed
         move ! (58 ∷ 51 ∷ 59 ∷ 52 ∷ 60 ∷ 53 ∷ 55 ∷ 50 ∷ []) $
         assigns ! (of-opd ! (load ! (from ! (fld ! refl (stop !))) (look-in ! 22 (sub ! 1 refl (whole !))))) (from ! (stop !)) (init ! 24 refl (tt, record { fits = room .0 })) $
-        reslices ! 18 34 36 refl (sub ! 0 refl (whole !)) refl (tt, tt) refl refl (sub ! 1 refl (whole !)) refl (tt, (tt, (record { fits = room-t .0 }, tt))) $
-        reslices ! 20 38 40 refl (sub ! 0 refl (whole !)) refl (tt, tt) refl refl (sub ! 1 refl (whole !)) refl (tt, (tt, (record { fits = room-p .0 }, tt))) $
+        reslices ! refl (look-in ! 18 (sub ! 0 refl (whole !))) (init ! 34 refl (tt, tt)) (held ! 34 refl) refl (look-in ! 18 (sub ! 1 refl (whole !)))
+        (init ! 36 refl (tt, (tt, (record { fits = room-t .0 }, tt)))) $
+        reslices ! refl (look-in ! 20 (sub ! 0 refl (whole !))) (init ! 38 refl (tt, tt)) (held ! 38 refl) refl (look-in ! 20 (sub ! 1 refl (whole !)))
+        (init ! 40 refl (tt, (tt, (record { fits = room-p .0 }, tt)))) $
         -- `judge`, with the table and the path lent on for lifetimes ν₁ and ν₂ of the call
         lends table W (named 1) (tb .now) refl ! tt (λ ν₁ δ₁. move ! (3 ∷ 4 ∷ []) $ lends path W (named 2) (pa .now) refl ! tt (λ ν₂ δ₂.
         move ! (8 ∷ []) $ twice W (named 0) (κs .0) u8 fl $ move ! (10 ∷ 5 ∷ 2 ∷ 0 ∷ 6 ∷ 3 ∷ []) $
-        calls W judge.ended (judge.clauses 𝓤 H A mem run) (((κs .0, (ν₁ ∷ [], (ν₂ ∷ [], tt))), (qs .0, (fullShare, (fullShare, tt))), tt,
-        (job, (fl, (start, (trials, (at table δ₁ (tb .now), (at path δ₂ (pa .now), (length (re .now), tt))))))),
-        (sj, (floor-val ∷ [], (num start, (num trials, (mach table ∷ [], (mach path ∷ [], (num (length (re .now)), tt)))))))), tt) _ fm known-judge
+        calls W judge.ended (judge.clauses 𝓤 H A mem run) (
+          (
+            (κs .0, (ν₁ ∷ [], (ν₂ ∷ [], tt))),
+            (qs .0, (fullShare, (fullShare, tt))),
+            tt,
+            (job, (fl, (start, (trials, (at table δ₁ (tb .now), (at path δ₂ (pa .now), (length (re .now), tt))))))),
+            (sj, (floor-val ∷ [], (num start, (num trials, (mach table ∷ [], (mach path ∷ [], (num (length (re .now)), tt))))))),
+          ),
+          tt,
+        ) _ fm known-judge
         (the-job ∷ here _ ∷ the-start ∷ the-trials ∷ here _ ∷ here _ ∷ number W (length (re .now)) (room .0) ∷ []) refl (id⊢ 𝓤 _)
         (λ v zs. (v ≡ verdict) × (zs .1 .1 .1 .1 .0 ≡ tb .now) × (zs .1 .1 .1 .1 .1 .0 ≡ pa .now)) (λ v zs. id⊢ 𝓤 _) !
         (and-then ! (held ! 8 refl) (and-then ! (held ! 10 refl) (and-then ! (held ! 12 refl) (and-then ! (held ! 14 refl)
         (and-then ! (held ! 34 refl) (and-then ! (held ! 38 refl) (and-then ! (held ! 22 refl) (no-more !)))))))) (λ w v zs is-v said.
+        -- [the result; the floor's token, ν₁'s and ν₂'s; what is said of the table and of the path; the floor; the path waits; the table waits; the reports; their token; the locals]
         land ! (from ! (stop !)) (init ! 29 refl (EL.lawful O.the-type O′.the-laws 𝓤 H A W tt .typed v _ is-v .0)) $
         move ! (3 ∷ 7 ∷ 5 ∷ []) $ takes-back path W (named 2) (pa .now) refl ! tt (zs .1 .1 .1 .1 .1 .0) room-p (λ _. rewrite ! 0 (λ (p : List ℕ). ‵ (Owns path p)) (said .2) refl $
         move ! (4 ∷ 7 ∷ 5 ∷ []) $ takes-back table W (named 1) (tb .now) refl ! tt (zs .1 .1 .1 .1 .0) room-t (λ _. rewrite ! 0 (λ (t : List ℕ). ‵ (Owns table t)) (said .1) refl $

@@ -15,7 +15,6 @@ use Rattle.run.proofs.store_report as f
 use Rattle.run.proofs.store_report.Statement as stated
 use Rattle.run.proofs.store_report.Code as code
 
-
 -- a record for what lies past the end, which nothing reads
 abbrev none : Report
 none = record { decisions = 0; learned = 0; kept = 0; travel = 0 }
@@ -52,7 +51,8 @@ module _ {M : Type 1} (𝓤 : URA M) (H : Heap 𝓤) (A : Atoms 𝓤) (W : Given
       (λ _.
       -- [reports[at]; what it owns; the others; the open borrow; obs; auth; the slice's fact; room for _0; …; _1; …; _2; …; _3; …; _4; …; _5; …; what at and r own]
       assigns ! (of-opd ! (load ! (from ! (stop !)) (look ! 13 refl))) (from ! (hop ! (look ! 17 refl) (stop !))) (store-raw ! 0 refl (LL.lawful T.the-type T′.the-laws 𝓤 H A W .typed v _ is .0)) $
-      move ! (1 ∷ []) $ drop ! $ owned ! T.the-row (Is T.the-row) (LL.makes T.the-type T′.the-plain 𝓤 H A) v _ is $ move ! (1 ∷ 0 ∷ []) $ elem-put ! T.the-row fullShare ys i v (mach v ∷ []) b o within $
+      move ! (1 ∷ []) $ drop ! $ owned ! T.the-row (Is T.the-row) (LL.makes T.the-type T′.the-plain 𝓤 H A) v _ is $ move ! (1 ∷ 0 ∷ []) $
+      elem-put ! T.the-row fullShare ys i v (mach v ∷ []) b o within $
       closes-slice ! tt T.the-row ys zs long b o $
       assigns ! (of-opd ! (unit-lit !)) (from ! (stop !)) (init ! 4 refl (tt, tt)) $
       returns ! (look ! 4 refl) $ forget ! 12 refl $ forget ! 14 refl $
@@ -61,7 +61,8 @@ module _ {M : Type 1} (𝓤 : URA M) (H : Heap 𝓤) (A : Atoms 𝓤) (W : Given
       fjoin ! $ pureI ! (at-slice T.the-row (record { ptr = (b, o); name = a .0 .name; now = zs }) (sliceVal (b, o) (length ys) ∷ [])) (tt, (tt, tt))
       (ap (λ (m : ℕ). sliceVal (b, o) m ∷ []) (sym long), subst (Room T.the-row) (sym long) (are .0 .0 .1)) $ fjoin ! $
       feqI ! (List Val) (vunit ∷ []) (vunit ∷ []) refl $ move ! (0 ∷ 2 ∷ 1 ∷ 4 ∷ 5 ∷ []) $
-      ends W f.ended (f.clauses 𝓤 H A mem run) ((κs, qs, bounds, a, (sliceVal (b, o) (length ys) ∷ [], (vint w64 i ∷ [], (mach v ∷ [], tt)))), g) _ (stays-all params) vunit tt (zs, (tt, (tt, tt))) (long, (tt, (tt, tt)))
+      ends W f.ended (f.clauses 𝓤 H A mem run) ((κs, qs, bounds, a, (sliceVal (b, o) (length ys) ∷ [], (vint w64 i ∷ [], (mach v ∷ [], tt)))), g) _ (stays-all params)
+      vunit tt (zs, (tt, (tt, tt))) (long, (tt, (tt, tt)))
       (here _ ∷ here _ ∷ here _ ∷ []) refl (factI 𝓤 _ (emp 𝓤) refl) !))
 
 pub store-report-spec : {M : Type 1} → stated.statement M

@@ -5,8 +5,8 @@ use Rattle.learning.proofs.Words.{_≡_, refl, _∙_, ℕ, _*_, _≤_, _<_, lt-
 use Rattle.lending.proofs.Walking.{_^_, T as Holds, URA, fullShare, named, w64, tyArray, Val, WT, hasTy, vint, SProp, id⊢, Lft, Memory, Routine, Heap, WpFn, Tables, Atoms, Fun, givenOf, tables}
 use Rattle.lending.proofs.Walking.{tablesOf, Given, _$_, !, move, fsplit, feqL, agg, whole, sub, look, store, init, stop, from, addr, of-opd, and-then, no-more, assigns, land, returns, FmC, fmOf}
 use Rattle.lending.proofs.Walking.{RattleType, Is, shows, Array, array-lawful, u8, u16, u32, u64, RefT, sliceVal, Room, peeks, Meets, tripleOf, entered, cited, part-at, emp, factI, has, span}
-use Rattle.lending.proofs.Walking.{frees-all, Way, here, made, number, calls, ends, twice, held, reslices, lends-first, takes-first-back, Param, list-read, list-passed-on, number-of, data-of, stays-all}
-use Rattle.lending.proofs.Walking.{goes-all, spells, tells-all, lawfuls, proves}
+use Rattle.lending.proofs.Walking.{frees-all, Way, here, made, number, calls, ends, twice, held, reslices, lends-first, takes-first-back, Param, list-read, list-passed-on, number-of, data-of}
+use Rattle.lending.proofs.Walking.{look-in, stays-all, goes-all, spells, tells-all, lawfuls, proves}
 use denote.Struct.Laws as LL
 use denote.Enum.Laws as EL
 use Rattle.answers.specs.declared.Job.{Job}
@@ -77,34 +77,47 @@ module _ {M : Type 1} (𝓤 : URA M) (H : Heap 𝓤) (A : Atoms 𝓤) (W : Given
       let the-n : Way 𝓤 H A = number W n n-fits in
       let room : Room T.the-row n = let bytes : n * 32 ≤ 32032 = omega (arith, lent .few) in (n-fits, lt-of-le-of-lt bytes (lit< tt)) in
       -- [the four tokens; the floor; the table; the path; the counts; room for _0; …; _1; … and so to _17; …; what the plain parameters own]
+      -- so local k is entry 8 + 2 k, and one more with the counts had twice
       move ! (36 ∷ 37 ∷ 38 ∷ 39 ∷ 41 ∷ 44 ∷ 45 ∷ 46 ∷ []) $
       -- `reports_of`
       move ! (7 ∷ []) $ twice W (named 3) κ₃ u64 cs $ move ! (5 ∷ []) $
       calls W reports-of.ended (reports-of.clauses 𝓤 H A mem run) (((κ₃, tt), (qs .1 .1 .1 .0, tt), tt, (cs, (n, tt)), (sv cs, (num n, tt))), tt) _ fm known-of
-      (here _ ∷ the-n ∷ []) refl (factI 𝓤 _ (emp 𝓤) lent) (λ xs ws. take n xs ≡ records (cs .now) n) (λ xs ws. id⊢ 𝓤 _) ! (and-then ! (held ! 22 refl) (and-then ! (held ! 24 refl) (no-more !))) (λ w₁ xs _ is₁ given.
+      (here _ ∷ the-n ∷ []) refl (factI 𝓤 _ (emp 𝓤) lent) (λ xs ws. take n xs ≡ records (cs .now) n) (λ xs ws. id⊢ 𝓤 _) !
+      (and-then ! (held ! 22 refl) (and-then ! (held ! 24 refl) (no-more !))) (λ w₁ xs _ is₁ given.
       land ! (from ! (stop !)) (init ! 31 refl (array-typed xs w₁ is₁)) $ assigns ! (of-opd ! (held ! 31 refl)) (from ! (stop !)) (init ! 27 refl (array-typed xs w₁ is₁)) $
       -- the three slices
-      reslices ! 19 33 35 refl (sub ! 0 refl (whole !)) refl (tt, tt) refl refl (sub ! 1 refl (whole !)) refl (tt, (tt, (record { fits = are .1 .1 .1 .1 .0 .0 .1 .0 }, tt))) $
-      reslices ! 21 37 39 refl (sub ! 0 refl (whole !)) refl (tt, tt) refl refl (sub ! 1 refl (whole !)) refl (tt, (tt, (record { fits = are .1 .1 .1 .1 .1 .0 .0 .1 .0 }, tt))) $
+      reslices ! refl (look-in ! 19 (sub ! 0 refl (whole !))) (init ! 33 refl (tt, tt)) (held ! 33 refl) refl (look-in ! 19 (sub ! 1 refl (whole !)))
+      (init ! 35 refl (tt, (tt, (record { fits = are .1 .1 .1 .1 .0 .0 .1 .0 }, tt)))) $
+      reslices ! refl (look-in ! 21 (sub ! 0 refl (whole !))) (init ! 37 refl (tt, tt)) (held ! 37 refl) refl (look-in ! 21 (sub ! 1 refl (whole !)))
+      (init ! 39 refl (tt, (tt, (record { fits = are .1 .1 .1 .1 .1 .0 .0 .1 .0 }, tt)))) $
       assigns ! (addr ! (from ! (stop !))) (from ! (stop !)) (init ! 41 refl (tt, tt)) $
       assigns ! (agg ! (and-then ! (held ! 41 refl) (and-then ! (held ! 25 refl) (no-more !)))) (from ! (stop !)) (init ! 43 refl (tt, (tt, (record { fits = n-fits }, tt)))) $
       -- the first n of the array are lent, for a lifetime ν of the call
       move ! (27 ∷ 0 ∷ []) $ lends-first T.the-row (l 9) W (named 3) tt 1001 n xs (is₁ .1 .0 .1) (lent .few) ! tt w₁ room (λ ν δ.
       -- `run`
       move ! (8 ∷ []) $ twice W (named 0) κ₀ u8 fl $ move ! (7 ∷ 8 ∷ 9 ∷ 2 ∷ 0 ∷ 10 ∷ 11 ∷ 3 ∷ []) $
-      calls W run′.ended (run′.clauses 𝓤 H A mem run)
-      (((κ₀, (κs .1 .0, (κs .1 .1 .0, (ν ∷ [], tt)))), (qs .0, (qs .1 .0, (qs .1 .1 .0, (fullShare, tt)))), tt, (job, (fl, (start, (trials, (tb, (pa, (part-at T.the-row (l 9) δ (take n xs), tt))))))),
-      (sj, (sv fl, (num start, (num trials, (sv tb, (sv pa, (sliceVal (l 9, 0) n ∷ [], tt)))))))), tt) _ fm known-run
+      calls W run′.ended (run′.clauses 𝓤 H A mem run) (
+        (
+          (κ₀, (κs .1 .0, (κs .1 .1 .0, (ν ∷ [], tt)))),
+          (qs .0, (qs .1 .0, (qs .1 .1 .0, (fullShare, tt)))),
+          tt,
+          (job, (fl, (start, (trials, (tb, (pa, (part-at T.the-row (l 9) δ (take n xs), tt))))))),
+          (sj, (sv fl, (num start, (num trials, (sv tb, (sv pa, (sliceVal (l 9, 0) n ∷ [], tt))))))),
+        ),
+        tt,
+      ) _ fm known-run
       (the-job ∷ here _ ∷ the-start ∷ the-trials ∷ here _ ∷ here _ ∷ here _ ∷ []) refl (id⊢ 𝓤 _)
       (λ t zs. IsRun (model.run job (fl .now) start trials (tb .now) (pa .now) (take n xs)) t (zs .1 .1 .1 .1 .0) (zs .1 .1 .1 .1 .1 .0) (zs .1 .1 .1 .1 .1 .1 .0)) (λ t zs. id⊢ 𝓤 _) !
       (and-then ! (held ! 7 refl) (and-then ! (held ! 9 refl) (and-then ! (held ! 11 refl) (and-then ! (held ! 13 refl)
       (and-then ! (held ! 30 refl) (and-then ! (held ! 34 refl) (and-then ! (held ! 38 refl) (no-more !)))))))) (λ w₂ t last is₂ said.
+      -- [the result; the four tokens; what is said of the table, of the path and of the reports; the floor; the rest of the array; the counts' token; the counts; the locals]
       let ts : List ℕ = last .1 .1 .1 .1 .0 in
       let ps : List ℕ = last .1 .1 .1 .1 .1 .0 in
       let zs : List Report = last .1 .1 .1 .1 .1 .1 .0 in
       land ! (from ! (stop !)) (init ! 31 refl (EL.lawful R.the-type R′.the-laws 𝓤 H A W tt .typed t _ is₂ .0)) $
       -- the lifetime is ended, and the array is whole again
-      move ! (4 ∷ 9 ∷ 7 ∷ []) $ takes-first-back T.the-row (l 9) W (named 3) tt 1001 n xs (is₁ .1 .0 .1) (lent .few) ! tt (LL.vals T.the-type T′.the-laws) (LL.tells T.the-type T′.the-laws) zs (λ same-r w₃.
+      move ! (4 ∷ 9 ∷ 7 ∷ []) $ takes-first-back T.the-row (l 9) W (named 3) tt 1001 n xs (is₁ .1 .0 .1) (lent .few) ! tt (LL.vals T.the-type T′.the-laws) (LL.tells T.the-type T′.the-laws) zs
+      (λ same-r w₃.
       move ! (1 ∷ []) $ peeks ! Reports (Is Reports) (shows 𝓤 H A Reports) (zs ++ past n xs) (w₃ ∷ []) (λ is₃.
       assigns ! (of-opd ! (held ! 1 refl)) (from ! (stop !)) (store ! 32 refl (array-typed (zs ++ past n xs) w₃ is₃)) $
       -- `file`
