@@ -15,11 +15,10 @@ use Rattle.answers.specs.declared.Verdict.the-variants as Vd
 use Rattle.model.specs.Basics.{then, refuseAt}
 use Rattle.model.specs.Floor.{Sized, size}
 use Rattle.model.specs.Checks.{ceiling, floorOf, goals, sizes, pathRoom, settings, places, goalsHold, figures}
-use Rattle.model.specs.Decision.{movesRoom, stateHolds, judge}
+use Rattle.model.specs.Decision.{movesRoom, stateHolds, judge, leastRoom}
 use Rattle.model.proofs.Accepted.{not-refused, then-done, sizes-judges, path-judges, settings-judges, figures-accepted}
 use Rattle.model.proofs.Benches.{places-judges, goals-judges, benched}
 use Rattle.model.proofs.Held.{Held, held-judges, moves-judges, sound-room}
-use Rattle.decision.specs.Laying.{leastRoom}
 use Rattle.decision.specs.Ready.{Places, Ready, Judged}
 use Rattle.decision.specs.Inner.{listsFit, Checked}
 

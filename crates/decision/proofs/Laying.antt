@@ -13,9 +13,9 @@ use Rattle.answers.specs.declared.Job.{Job}
 use Rattle.answers.specs.declared.Answer.{Answer}
 use Rattle.model.specs.Basics.{choose}
 use Rattle.model.specs.Floor.{opposite}
-use Rattle.model.specs.Decision.{stored, laid}
+use Rattle.model.specs.Decision.{stored, laid, leastRoom}
 use Rattle.lookahead.specs.Contract.{movesTo, Traced}
-use Rattle.decision.specs.Laying.{leastRoom, wayBack, wayOf, Lays}
+use Rattle.decision.specs.Laying.{wayBack, wayOf, Lays}
 
 -- ---- the figure
 

@@ -10,10 +10,6 @@ use Rattle.model.specs.Floor.{opposite}
 use Rattle.model.specs.Decision.{laid}
 use Rattle.lookahead.specs.Contract.{Asked, Near, Seen, movesTo}
 
--- how many places a decision needs for its moves
-abbrev pub leastRoom : ℕ
-leastRoom = 288
-
 -- the way back from x by l's own route
 abbrev pub wayBack : Job → List ℕ → (l x : ℕ) → List ℕ
 wayBack j bytes l x = map opposite (reverse (movesTo j bytes l x))

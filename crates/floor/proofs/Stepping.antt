@@ -13,7 +13,8 @@ use Rattle.model.specs.Basics.{choose}
 use Rattle.model.specs.Floor.{Floor, Sized, size, column, row, blockedByte, slowByte, freeByte, free, slow, straight, diagonal, doubled, slowly, corner, clear, price, ahead, allowed, east, south}
 use Rattle.model.specs.Grounds.{clear-true}
 use Rattle.model.proofs.Cells.{cell-lt, row-lt, cell-at}
-use Rattle.model.proofs.Moves.{all8, toll, east-le, south-le, Inside, free-below, sized-cells, ahead-lt, corner-beside, corner-across, allowed-inside, allowed-free, allowed-corners, allowed-true, price-ahead}
+use Rattle.model.proofs.Moves.{all8, toll, east-le, south-le, Inside, free-below, sized-cells, ahead-lt, corner-beside, corner-across}
+use Rattle.model.proofs.Moves.{allowed-inside, allowed-free, allowed-corners, allowed-true, price-ahead}
 use Rattle.floor.specs.declared.Spot.{Spot}
 use Rattle.floor.specs.declared.Step.the-variants.{To, Wall}
 use Rattle.floor.specs.Moves.{stepOf, northByte, westByte, eastByte, southByte, Placed, Clear, RowClear, ColumnClear, Unless, aheadByte}

@@ -18,7 +18,7 @@ use Rattle.model.specs.Opening.{openTrial}
 use Rattle.model.specs.Basics.{member}
 use Rattle.model.specs.Checks.{goals}
 use Rattle.model.specs.Lookahead.{mostMoves}
-use Rattle.model.specs.Decision.{Deed, act}
+use Rattle.model.specs.Decision.{Deed, act, leastRoom}
 use Rattle.model.specs.Ride.{Ride, next, nextBy, report}
 use Rattle.model.specs.Line.{field, movesField, trialLine}
 use Rattle.model.proofs.Openings as openings
@@ -26,7 +26,7 @@ use Rattle.model.proofs.Steps.{Does}
 use Rattle.model.proofs.Rides.{does}
 use Rattle.line.specs.Printing.{Printed, moveDigits, countFields}
 use Rattle.line.proofs.Decimals.{field-few}
-use Rattle.decision.specs.Laying.{leastRoom, wayOf, Lays}
+use Rattle.decision.specs.Laying.{wayOf, Lays}
 use Rattle.run.specs.declared.Stand.{Stand}
 use Rattle.run.specs.Stands.{setOut, Went, Left}
 use Rattle.run.specs.Trials.{Scratch}

@@ -159,7 +159,8 @@ module _ {bytes : List ℕ} {first : ℕ} {out₀ : List ℕ} {c : Reach} {out :
   }
 
   -- no line from here on, or a malformed one
-  pub going-none : {f : First} {r : Bool} → FirstLine bytes (c .done) f → f .given ≡ 0 → HasEnd bytes (c .done) r → Copies bytes first (record { done = c .done; wrote = c .wrote; line = c .line; stops = r }) out
+  pub going-none : {f : First} {r : Bool} → FirstLine bytes (c .done) f → f .given ≡ 0 → HasEnd bytes (c .done) r
+      → Copies bytes first (record { done = c .done; wrote = c .wrote; line = c .line; stops = r }) out
   going-none L z H = record {
     within = g .within;
     room = omega (arith, g .few, g .within, g .same, F .room);

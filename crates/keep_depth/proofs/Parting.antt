@@ -111,8 +111,12 @@ module _ {kept : List ℕ} {held line turns : ℕ} (D : Reading kept held line t
   pub all-copied : held ≡ 0 → Told Vd.Done
   all-copied z =
       let (all, written, t) = D .taken in
-      let e : take held kept ++ [] ≡ [] = ap (λ (k : ℕ). take k kept ++ []) z in
-      (all, written, ap keepDepth (sym (append-nil all)) ∙ t [] ∙ ap (λ (l : List ℕ). ahead written (copyLines line (linesOf l))) e ∙ ap (ahead written) (none-left line) ∙ ap (λ (w : List ℕ). record { written = w; verdict = Vd.Done }) (append-nil written))
+      let e : take held kept ++ [] ≡ [] = ap (λ (k : ℕ). take k kept ++ []) z in (
+        all,
+        written,
+        ap keepDepth (sym (append-nil all)) ∙ t [] ∙ ap (λ (l : List ℕ). ahead written (copyLines line (linesOf l))) e
+            ∙ ap (ahead written) (none-left line) ∙ ap (λ (w : List ℕ). record { written = w; verdict = Vd.Done }) (append-nil written),
+      )
 
   pub line-left : 1 ≤ held → held ≤ length kept → Told (refuseAt 3 (P.Line line))
   line-left h w =
@@ -147,7 +151,8 @@ module _ {kept : List ℕ} {held line turns : ℕ} (D : Reading kept held line t
             all ++ part,
             written ++ take (s .wrote) out′,
             λ rest.
-                ap keepDepth (more all rest) ∙ t (part ++ rest) ∙ ap (ahead written) (g .1 rest) ∙ ahead-ahead written (take (s .wrote) out′) (copyLines (s .line) (linesOf (take (s .held) kept′ ++ rest))),
+                ap keepDepth (more all rest) ∙ t (part ++ rest) ∙ ap (ahead written) (g .1 rest)
+                ∙ ahead-ahead written (take (s .wrote) out′) (copyLines (s .line) (linesOf (take (s .held) kept′ ++ rest))),
           );
         }
 
@@ -164,5 +169,6 @@ module _ {kept : List ℕ} {held line turns : ℕ} (D : Reading kept held line t
       by (yes h) = refused-told (some h) (line-left D h w)
       by (no h) = let z : held ≡ 0 = omega arith in subst Ended (sym (none z)) (all-copied D z)
 
-  pub stopped-told : {part : List ℕ} {s : Step} {kept′ out′ : List ℕ} → Stepped kept held part line s kept′ out′ → s .stops ≡ true → r ≡ E.Refused (record { number = 3; place = P.Line (s .line) }) → Ended r
+  pub stopped-told : {part : List ℕ} {s : Step} {kept′ out′ : List ℕ} → Stepped kept held part line s kept′ out′ → s .stops ≡ true
+      → r ≡ E.Refused (record { number = 3; place = P.Line (s .line) }) → Ended r
   stopped-told S e f = refused-told f (part-stops D S e)

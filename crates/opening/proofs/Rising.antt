@@ -140,7 +140,15 @@ module _ {f : Floor} (z : Sized f) where
     -- at it: so is every other
     ended : n ≤ p r → (k : ℕ) → k < kinds (f .bytes) → Dec (n ≤ p k) → n ≤ p k
     ended h k l (yes g) = g
-    ended h k l (no g) = absurd (omega (arith, low k l, outer h, inner k (omega arith), S .queue .near (p k) (omega arith), cost-high k (kind-fits (f .bytes) k l), none-large z n (queue-few z (S .queue))))
+    ended h k l (no g) = absurd (omega (
+      arith,
+      low k l,
+      outer h,
+      inner k (omega arith),
+      S .queue .near (p k) (omega arith),
+      cost-high k (kind-fits (f .bytes) k l),
+      none-large z n (queue-few z (S .queue)),
+    ))
 
     pub none-left : n ≤ p r → Certified (groundOf f goals) none d
     none-left h = all-followed S (λ k l. ended h k l (decLe n (p k)))

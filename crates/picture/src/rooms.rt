@@ -3,7 +3,7 @@ ghost use mathlib.Core.Path.{_≡_};
 ghost use Prim.Native.Nat.{suc, _*_};
 ghost use lib.ListN.{length};
 ghost use Rattle.model.specs.Lookahead.{mostMoves};
-ghost use Rattle.decision.specs.Laying.{leastRoom};
+ghost use Rattle.model.specs.Decision.{leastRoom};
 use decision::LEAST_ROOM;
 use lookahead::MOST_MOVES;
 

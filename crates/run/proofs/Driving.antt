@@ -2,7 +2,7 @@
 -- The ride keeps its moves, which the code does not. Each decision lowers the ride's potential, so the loop ends; and the counts fit in 64 bits.
 use Prim.Native.Nat.{ℕ, _+_, _≤_, _<_, _*_}
 use mathlib.Core.Path.{_≡_, refl, sym, ap, subst, _∙_}
-use mathlib.Core.Bool.{Bool, true, false, not}
+use mathlib.Core.Bool.{true, false}
 use mathlib.Core.List.{List, [], _∷_, _++_}
 use native.Mathlib.Omega.{arith}
 use lib.Dec.{T}
@@ -23,7 +23,7 @@ use Rattle.answers.specs.Says.{saysTried}
 use Rattle.model.specs.Basics.{member}
 use Rattle.model.specs.Checks.{floorOf, goals}
 use Rattle.model.specs.Opening.{openTrial}
-use Rattle.model.specs.Decision.{Deed, atGoal, onPath, judge, act}
+use Rattle.model.specs.Decision.{Deed, atGoal, onPath, judge, act, leastRoom}
 use Rattle.model.specs.Ride as model
 use Rattle.model.specs.Ride.{Ride, begun, next, nextBy, learningJob, ride, trialOf, trial, trialBy}
 use Rattle.model.proofs.Accepted.{never, fails}
@@ -33,7 +33,6 @@ use Rattle.model.proofs.Benches.{goal-means, goal-free, at-goal}
 use Rattle.model.proofs.Steps.{asState, short, size-high}
 use Rattle.model.proofs.Rides.{Riding, yet, rest, riding-begun, riding-next, does, falls, keeps, judges, room, rest-begun, rest-next, ride-there}
 use Rattle.model.proofs.Rides.{kept-low, counts-fit, mostLearned, mostDecisions, dearestKept}
-use Rattle.decision.specs.Laying.{leastRoom}
 use Rattle.decision.specs.Ready.{Ready, Places}
 use Rattle.decision.proofs.Judging.{ready}
 use Rattle.lookahead.specs.Contract.{Used}
@@ -181,7 +180,8 @@ module _ (j : Job) (bytes : List ℕ) (start : ℕ) (table₀ path₀ : List ℕ
           subst (λ x. potential (learningJob j bytes) x < yetTo j bytes s table path) after
           (subst (λ x. yet j bytes (next j bytes (g .at)) < potential (learningJob j bytes) x) here (falls j bytes start table₀ path₀ R (g .riding) off))
 
-  module _ {w : Stand} {table path along : List ℕ} (g : Driving j bytes start table₀ path₀ w table path) (aside : member (w .state .current) (goals j) ≡ false) (S : Along j bytes (w .state) path along) where
+  module _ {w : Stand} {table path along : List ℕ} (g : Driving j bytes start table₀ path₀ w table path) (aside : member (w .state .current) (goals j) ≡ false)
+      (S : Along j bytes (w .state) path along) where
     abbrev J : learning.Job
     J = learningJob j bytes
 
@@ -252,15 +252,6 @@ pub record Underway (j : Job) (bytes : List ℕ) (start : ℕ) (table₀ path₀
   pub places : Places place path (w .state .length)
   -- the sums of the legs
   pub legs-so : Along j bytes (w .state) path along
-
--- what a test of `!b` says of b
-pub not-so : {b m : Bool} → b ≡ m → not b ≡ true → m ≡ false
-not-so {b = true} e h = sym e ∙ sym h
-not-so {b = false} e h = sym e
-
-pub so : {b m : Bool} → b ≡ m → not b ≡ false → m ≡ true
-so {b = true} e h = sym e
-so {b = false} e h = sym e ∙ sym h
 
 module _ {j : Job} {bytes : List ℕ} {start : ℕ} {table₀ path₀ : List ℕ} (opened : openTrial j bytes start table₀ path₀ ≡ Vd.Done) where
   pub sets-out : {mark cost list place along : List ℕ} → Scratch mark cost list place along

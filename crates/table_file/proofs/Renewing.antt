@@ -41,7 +41,8 @@ module _ (file : List ℕ) (held : trailerHolds file ≡ true) where
       sym (trailer-second file s)
 
   -- the whole
-  pub renewed-put : {part mid after : List ℕ} (buffer : List ℕ) {at : ℕ} → part ≡ findRecords file → 0 + length part ≤ length buffer → Printed buffer 0 part mid at → after ≡ put at (renewedTrailer file) mid
+  pub renewed-put : {part mid after : List ℕ} (buffer : List ℕ) {at : ℕ} → part ≡ findRecords file → 0 + length part ≤ length buffer → Printed buffer 0 part mid at
+      → after ≡ put at (renewedTrailer file) mid
       → (at + secondLong ≡ length (renewed file)) × (after ≡ renewed file ++ drop (length (renewed file)) buffer)
   unfolding renewed
   renewed-put {part} {mid} {after} buffer {at} e room P h =

@@ -20,5 +20,5 @@ returns-2 c =
 
 pub decide-spec : {M : Type 1} → f.Statement.statement M
 decide-spec =
-    tie.close (tie.spec (λ c. search needs) (λ c κs. search needs) (λ c. search needs) (λ c. search needs) (λ c. search needs) decide-past-requires (λ c. search needs) (λ c. search needs)
-    (λ c. search decides-refused) (λ c. search needs) (λ c. search needs) (λ c. search needs) returns-2)
+    tie.close (tie.spec (search needs) (search needs) (search needs) (search needs) (search needs) decide-past-requires (search needs) (search needs)
+    (λ c. search decides-refused) (search needs) (search needs) (search needs) returns-2)

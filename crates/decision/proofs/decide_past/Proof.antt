@@ -20,5 +20,5 @@ returns c =
 
 pub decide-past-spec : {M : Type 1} → f.Statement.statement M
 decide-past-spec =
-    tie.close (tie.spec (λ c. search needs) (λ c. search needs) (λ c. search needs) (λ c κs. (search, (used-zeros, search))) (λ c. search needs) (λ c. search needs) lay-requires
-    (λ c κs. search needs) (λ c. search needs) (λ c. search needs) (λ c. search needs) (λ c. search needs) returns)
+    tie.close (tie.spec (search needs) (search needs) (search needs) (λ c κs. (search, (used-zeros, search))) (search needs) (search needs) lay-requires
+    (search needs) (search needs) (search needs) (search needs) (search needs) returns)

@@ -48,7 +48,7 @@ returns-6 c =
 
 pub judge-spec : {M : Type 1} → f.Statement.statement M
 judge-spec =
-    tie.close (tie.spec (λ c κs. search needs) (λ c. search needs) (λ c. search needs) (λ c. search (judged-refused, then-stops)) (λ c κs. search needs) (λ c. search needs)
-    (λ c. search needs) (λ c. search (judged-refused, then-goes, then-stops)) (λ c κs. fitting (c .before .before) .sized) (λ c. search needs) (λ c. search needs)
-    (λ c. search (judged-refused, then-goes, then-stops)) (λ c κs. search needs) (λ c. search needs) (λ c. search needs) (λ c. search (judged-refused, then-goes, then-stops))
-    (λ c κs. search needs) (λ c. search needs) (λ c. search needs) returns-5 state-holds-requires (λ c. search needs) returns-6)
+    tie.close (tie.spec (search needs) (search needs) (search needs) (λ c. search (judged-refused, then-stops)) (search needs) (search needs)
+    (search needs) (λ c. search (judged-refused, then-goes, then-stops)) (λ c κs. fitting (c .before .before) .sized) (search needs) (search needs)
+    (λ c. search (judged-refused, then-goes, then-stops)) (search needs) (search needs) (search needs) (λ c. search (judged-refused, then-goes, then-stops))
+    (search needs) (search needs) (search needs) returns-5 state-holds-requires (search needs) returns-6)

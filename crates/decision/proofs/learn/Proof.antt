@@ -66,7 +66,7 @@ returns-3 c =
 
 pub learn-spec : {M : Type 1} → f.Statement.statement M
 learn-spec =
-    tie.close (tie.spec (λ c κs. (search, (search, search weighed))) mul-wide32 (λ c. search current-in) (λ c κs. search needs) (λ c κs. search needs) (λ c κs. search needs)
-    (λ c. search needs) (λ c. search needs) (λ c. search needs) (λ c. search needs) returns (λ c κs. search needs) add-if2 mul-if2 forward-requires (λ c. search needs) (λ c. search needs)
-    (λ c. search needs) (λ c. search needs) (λ c. search needs) (λ c. search needs) returns-2 go-back-requires (λ c. search needs) (λ c. search needs) (λ c. search needs) (λ c. search needs)
-    (λ c. search needs) returns-3)
+    tie.close (tie.spec (λ c κs. (search, (search, search weighed))) mul-wide32 (λ c. search current-in) (search needs) (search needs) (search needs)
+    (search needs) (search needs) (search needs) (search needs) returns (search needs) add-if2 mul-if2 forward-requires (search needs) (search needs)
+    (search needs) (search needs) (search needs) (search needs) returns-2 go-back-requires (search needs) (search needs) (search needs) (search needs)
+    (search needs) returns-3)

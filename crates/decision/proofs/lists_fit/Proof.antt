@@ -27,5 +27,5 @@ returns-3 c = search (then-goes, path-judged)
 
 pub lists-fit-spec : {M : Type 1} → f.Statement.statement M
 lists-fit-spec =
-    tie.close (tie.spec (λ c κs. search needs) (λ c. search needs) (λ c. search needs) returns (λ c κs. search needs) (λ c. search needs) (λ c. search needs) returns-2 (λ c κs. search needs)
+    tie.close (tie.spec (search needs) (search needs) (search needs) returns (search needs) (search needs) (search needs) returns-2 (search needs)
     returns-3)

@@ -6,5 +6,5 @@ use f.Tie as tie
 
 pub moves-room-spec : {M : Type 1} → f.Statement.statement M
 moves-room-spec =
-    tie.close (tie.spec (λ c κs. search needs) (λ c. c .refuse .ensures ∙ sym (moves-judges _ _ .refused (λ h. omega arith))) (λ c κs. search needs)
+    tie.close (tie.spec (search needs) (λ c. c .refuse .ensures ∙ sym (moves-judges _ _ .refused (λ h. omega arith))) (search needs)
     (λ c. c .refuse2 .ensures ∙ sym (moves-judges _ _ .refused (λ h. omega arith))) (λ c. sym (moves-judges _ _ .done (omega arith))))

@@ -12,4 +12,4 @@ returns c =
     told-one (printed-then _ _ (counts .before .before .before .before .say-none .ensures .0) p) (search) (omega (arith, counts-room _ p)) (c .spill .ensures)
 
 pub say-counts-spec : {M : Type 1} → f.Statement.statement M
-say-counts-spec = tie.close (tie.spec (λ c κs. search needs) (λ c κs. search needs) (λ c κs. omega (arith, counts-room _ (c .before .before .before .counts .ensures))) (λ c. search needs) returns)
+say-counts-spec = tie.close (tie.spec (search needs) (search needs) (λ c κs. omega (arith, counts-room _ (c .before .before .before .counts .ensures))) (search needs) returns)

@@ -8,4 +8,4 @@ returns-2 : tie.Need-returns-2
 returns-2 c = (rw (c .before .before .before .before .if1 .left) (c .before .before .byte .ensures), omega arith)
 
 pub say-none-spec : {M : Type 1} → f.Statement.statement M
-say-none-spec = tie.close (tie.spec (λ c. (rw (c .if1 .taken) (printed-none _ _), omega arith)) (λ c κs. search needs) (λ c. search needs) returns-2)
+say-none-spec = tie.close (tie.spec (λ c. (rw (c .if1 .taken) (printed-none _ _), omega arith)) (search needs) (search needs) returns-2)

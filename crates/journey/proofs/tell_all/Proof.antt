@@ -33,6 +33,6 @@ loop-again c =
 pub tell-all-spec : {M : Type 1} → f.Statement.statement M
 tell-all-spec =
     tie.close (tie.spec Inv-loop μ-loop (λ c. let a = c .before .before .before .before .pre in (none-yet (a .0) (a .1 .0) (a .1 .1) (a .1 .2), refl, refl, refl))
-    (λ c κs. may-tell (c .before .before .before .before .loop .inv .0) (c .before .before .before .loop-test .taken)) (λ c κs. search needs) (λ c. search needs) loop-less loop-again
-    (λ c κs. search needs) (λ c. search needs) (λ c. search needs) (λ c. search needs)
+    (λ c κs. may-tell (c .before .before .before .before .loop .inv .0) (c .before .before .before .loop-test .taken)) (search needs) (search needs) loop-less loop-again
+    (search needs) (search needs) (search needs) (search needs)
     (λ c. all-told (c .before .before .before .before .before .loop .inv .0) (omega arith) (search)))

@@ -1,7 +1,8 @@
 -- `journey::tell_moves` meets its contract: the loop is that of a trial, whose laws are `run`'s, and the moves told are those of the ride so far.
 -- The measure is the ride's potential.
 use Rattle.learning.proofs.Words.{ap, _∙_, arith, needs}
-use Rattle.run.proofs.Driving.{yetTo, long, sized, may-tally, done, rode-so, may-go-on, nearer, not-so, so}
+use Rattle.run.proofs.Driving.{yetTo, long, sized, may-tally, done, rode-so, may-go-on, nearer}
+use Rattle.floor.proofs.Steps.{not-so, is-so}
 use Rattle.journey.specs.Telling.{some}
 use Rattle.journey.proofs.Telling.{Telling, tells-none, may-say, tells, told-ride}
 use Rattle.journey.proofs.tell_moves as f
@@ -75,14 +76,14 @@ returns : tie.Need-returns Inv-loop μ-loop
 returns c =
     let ride = opened (over c) .pre .0 in
     let t = over c .loop .inv in
-    let there = so (c .before .before .before .arrived .ensures) (c .before .before .if1 .left) in
+    let there = is-so (c .before .before .before .arrived .ensures) (c .before .before .if1 .left) in
     let whole = done ride (t .under) there in
     record { rode = rw (c .tally .ensures) (rode-so ride (t .under) there); moved = t .moved-is ∙ ap (λ o. some (o .moves)) whole; told = told-ride whole (t .told) }
 
 pub tell-moves-spec : {M : Type 1} → f.Statement.statement M
 tell-moves-spec =
-    tie.close (tie.spec Inv-loop μ-loop (λ c κs. search needs) (λ c. rw (c .set-out .ensures) (search tells-none)) (λ c κs. search needs) onward-requires lay-requires say-moves-requires
-    (λ c κs. search needs) loop-less loop-again (λ c κs. let l = c .before .before .before in may-tally (opened l .pre .0) (l .loop .inv .under))
+    tie.close (tie.spec Inv-loop μ-loop (search needs) (λ c. rw (c .set-out .ensures) (search tells-none)) (search needs) onward-requires lay-requires say-moves-requires
+    (search needs) loop-less loop-again (λ c κs. let l = c .before .before .before in may-tally (opened l .pre .0) (l .loop .inv .under))
     (λ c. search (sized, opened (over c) .pre .0)) (λ c. search (long, opened (over c) .pre .0)) (λ c. search (needs, opened (over c) .pre)) (λ c. search (needs, opened (over c) .pre))
     (λ c. search (needs, opened (over c) .pre)) (λ c. search (needs, opened (over c) .pre)) (λ c. search (needs, opened (over c) .pre)) (λ c. search (needs, opened (over c) .pre))
     (λ c. search (needs, opened (over c) .pre)) returns)

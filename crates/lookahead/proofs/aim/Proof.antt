@@ -6,5 +6,5 @@ use f.Tie as tie
 
 pub aim-spec : {M : Type 1} → f.Statement.statement M
 aim-spec =
-    tie.close (tie.spec (λ c. search needs) (λ c κs. search (needs, scores, listing, bests-none)) (λ c. search needs) (λ c κs. search needs) (λ c. search needs) (λ c. search needs)
-    (λ c. search needs) (λ c. search needs) (λ c κs. search needs) (λ c. search (needs, aimed)))
+    tie.close (tie.spec (search needs) (λ c κs. search (needs, scores, listing, bests-none)) (search needs) (search needs) (search needs) (search needs)
+    (search needs) (search needs) (search needs) (λ c. search (needs, aimed)))

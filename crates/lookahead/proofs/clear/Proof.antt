@@ -31,5 +31,5 @@ returns c =
 
 pub clear-spec : {M : Type 1} → f.Statement.statement M
 clear-spec =
-    tie.close (tie.spec Inv-loop μ-loop (λ c. (omega arith, refl, λ x l. absurd (omega arith))) (λ c. search needs) (λ c. omega arith) (λ c. omega arith) (λ c. simp length-set (omega arith))
+    tie.close (tie.spec Inv-loop μ-loop (λ c. (omega arith, refl, λ x l. absurd (omega arith))) (search needs) (λ c. omega arith) (λ c. omega arith) (λ c. simp length-set (omega arith))
     loop-again (λ c. c .before .loop .inv .1) returns)

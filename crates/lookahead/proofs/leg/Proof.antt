@@ -15,4 +15,4 @@ returns c =
     (e ∙ near-coarse (p .0) _ (p .1 .1), omega (arith, e, near-cost (p .0) _ (p .1 .1)))
 
 pub leg-spec : {M : Type 1} → f.Statement.statement M
-leg-spec = tie.close (tie.spec (λ c. omega (arith, few (c .before .before .before))) (λ c. omega (arith, few (c .before .before .before .before))) (λ c κs. search needs) returns)
+leg-spec = tie.close (tie.spec (λ c. omega (arith, few (c .before .before .before))) (λ c. omega (arith, few (c .before .before .before .before))) (search needs) returns)

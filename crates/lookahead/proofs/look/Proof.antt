@@ -46,5 +46,5 @@ returns-2 c =
 
 pub look-spec : {M : Type 1} → f.Statement.statement M
 look-spec =
-    tie.close (tie.spec rings-requires (λ c. search needs) relax-requires (λ c. search needs) (λ c. search needs) (λ c. search needs) (λ c. search needs) returns (λ c. search needs)
-    (λ c. search needs) (λ c. search needs) returns-2)
+    tie.close (tie.spec rings-requires (search needs) relax-requires (search needs) (search needs) (search needs) (search needs) returns (search needs)
+    (search needs) (search needs) returns-2)

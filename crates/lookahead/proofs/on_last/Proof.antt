@@ -29,4 +29,4 @@ returns c =
     rw (c .before .wide32 .ensures .0, c .wide322 .ensures .0) (same-test _ _ _ _ (to-ring (p .0) (p .1 .0) _ (decLe _ _)) (to-mark (p .0) (p .1 .0) _))
 
 pub on-last-spec : {M : Type 1} → f.Statement.statement M
-on-last-spec = tie.close (tie.spec (λ c. search needs) (λ c. search needs) (λ c κs. search needs) (λ c κs. search needs) (λ c. search needs) returns)
+on-last-spec = tie.close (tie.spec (search needs) (search needs) (search needs) (search needs) (search needs) returns)

@@ -1,7 +1,8 @@
 -- `run::drive` meets its contract: the loop's laws are `Driving.antt`'s, of the model's own ride.
 -- The measure is the ride's potential.
 use Rattle.learning.proofs.Words.{needs}
-use Rattle.run.proofs.Driving.{Underway, yetTo, long, sized, sets-out, may-tally, rode-so, may-go-on, goes-on, nearer, not-so, so}
+use Rattle.run.proofs.Driving.{Underway, yetTo, long, sized, sets-out, may-tally, rode-so, may-go-on, goes-on, nearer}
+use Rattle.floor.proofs.Steps.{not-so, is-so}
 use Rattle.run.proofs.drive as f
 use f.Tie as tie
 
@@ -47,7 +48,7 @@ loop-again c =
 
 pub drive-spec : {M : Type 1} → f.Statement.statement M
 drive-spec =
-    tie.close (tie.spec Inv-loop μ-loop (λ c κs. search needs) (λ c. let s = start c in rw (c .set-out .ensures) (sets-out (s .pre .0) (s .pre .1))) (λ c κs. search needs) onward-requires
+    tie.close (tie.spec Inv-loop μ-loop (search needs) (λ c. let s = start c in rw (c .set-out .ensures) (sets-out (s .pre .0) (s .pre .1))) (search needs) onward-requires
     loop-less loop-again (λ c κs. let l = c .before .before .before in may-tally (opened l .pre .0) (l .loop .inv)) (λ c. search (sized, opened (over c) .pre .0))
     (λ c. search (long, opened (over c) .pre .0)) (λ c. search (needs, opened (over c) .pre)) (λ c. search (needs, opened (over c) .pre)) (λ c. search (needs, opened (over c) .pre))
-    (λ c. search (needs, opened (over c) .pre)) (λ c. search (needs, opened (over c) .pre)) (λ c. rw (c .tally .ensures) (rode-so (opened (over c) .pre .0) (over c .loop .inv) (search so))))
+    (λ c. search (needs, opened (over c) .pre)) (λ c. search (needs, opened (over c) .pre)) (λ c. rw (c .tally .ensures) (rode-so (opened (over c) .pre .0) (over c .loop .inv) (search is-so))))

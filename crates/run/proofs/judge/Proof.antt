@@ -4,4 +4,4 @@ use Rattle.run.proofs.judge as f
 use f.Tie as tie
 
 pub judge-spec : {M : Type 1} → f.Statement.statement M
-judge-spec = tie.close (tie.spec (λ c κs. search needs) (λ c. search needs) (λ c. (c .open-run .ensures _ refl, refl, refl)))
+judge-spec = tie.close (tie.spec (search needs) (search needs) (λ c. (c .open-run .ensures _ refl, refl, refl)))

@@ -13,5 +13,5 @@ pub note-leg-spec : {M : Type 1} → f.Statement.statement M
 note-leg-spec =
     tie.close (tie.spec (λ c. omega (arith, c .before .pre .place (omega arith))) (λ c. omega (arith, c .before .before .pre .place (omega arith)))
     (λ c. omega (arith, c .before .before .pre .sum (omega arith))) (λ c. omega (arith, c .before .before .pre .sum (omega arith)))
-    (λ c. omega (arith, c .before .before .pre .place (omega arith))) (λ c. omega (arith, c .before .before .pre .place (omega arith))) (λ c. search needs) returns
+    (λ c. omega (arith, c .before .before .pre .place (omega arith))) (λ c. omega (arith, c .before .before .pre .place (omega arith))) (search needs) returns
     (λ c. sym (note-none _ _ _ _ (c .if1 .left))))

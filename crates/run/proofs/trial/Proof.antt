@@ -11,6 +11,6 @@ returns-2 c =
 
 pub trial-spec : {M : Type 1} → f.Statement.statement M
 trial-spec =
-    tie.close (tie.spec (λ c κs. search needs) (λ c. search needs) (λ c. search needs)
-    (λ c κs. sym (c .before .before .before .before .open-trial .ensures _ refl) ∙ c .before .before .enum-told .given .1) (λ c. search needs)
-    (λ c. trial-refused _ _ _ _ _ (c .before .before .before .open-trial .ensures _ refl) (c .before .f .given .1)) (λ c. search needs) (λ c. search needs) returns-2)
+    tie.close (tie.spec (search needs) (search needs) (search needs)
+    (λ c κs. sym (c .before .before .before .before .open-trial .ensures _ refl) ∙ c .before .before .enum-told .given .1) (search needs)
+    (λ c. trial-refused _ _ _ _ _ (c .before .before .before .open-trial .ensures _ refl) (c .before .f .given .1)) (search needs) (search needs) returns-2)

@@ -6,5 +6,5 @@ use f.Tie as tie
 
 pub noted-spec : {M : Type 1} → f.Statement.statement M
 noted-spec =
-    tie.close (tie.spec (λ c. search needs) (λ c. search needs) (λ c κs. search needs) (λ c. search needs) (λ c. search needs) (λ c κs. search needs) (λ c. search noted-is)
+    tie.close (tie.spec (search needs) (search needs) (search needs) (search needs) (search needs) (search needs) (λ c. search noted-is)
     (λ c. search noted-past))

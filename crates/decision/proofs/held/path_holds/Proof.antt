@@ -22,6 +22,6 @@ loop-again c =
 pub path-holds-spec : {M : Type 1} → f.Statement.statement M
 path-holds-spec =
     tie.close (tie.spec Inv-loop μ-loop (λ c. (omega arith, λ k h. absurd (omega arith), places-none _ _ (c .before .before .before .pre .1 .1)))
-    (λ c κs. (c .before .before .before .before .before .before .pre .0, ((omega arith, omega arith), c .before .before .loop .inv .2))) (λ c. search needs)
-    (λ c. search (walked-fault, not-true)) (λ c. search needs) (λ c. omega arith) loop-again (λ c. search needs)
+    (λ c κs. (c .before .before .before .before .before .before .pre .0, ((omega arith, omega arith), c .before .before .loop .inv .2))) (search needs)
+    (λ c. search (walked-fault, not-true)) (search needs) (λ c. omega arith) loop-again (search needs)
     (λ c. walked-all (λ k h. c .before .loop .inv .1 k (omega arith)) (places-down _ (omega arith) (c .before .loop .inv .2))))

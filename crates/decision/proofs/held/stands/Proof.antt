@@ -40,6 +40,6 @@ returns-5 c =
 
 pub stands-spec : {M : Type 1} → f.Statement.statement M
 stands-spec =
-    tie.close (tie.spec (λ c. search needs) (λ c. search needs) (λ c κs. search needs) (λ c κs. search needs) returns (λ c κs. search needs) returns-2
-    (λ c. stands-unfair (search) (λ f. f .other (c .if3 .taken))) noted-requires (λ c. search needs) (λ c. stands-again (search) (sym (c .before .noted .ensures) ∙ c .if4 .taken))
-    (λ c. search needs) (λ c. search needs) slice-write-place (λ c. search needs) returns-5)
+    tie.close (tie.spec (search needs) (search needs) (search needs) (search needs) returns (search needs) returns-2
+    (λ c. stands-unfair (search) (λ f. f .other (c .if3 .taken))) noted-requires (search needs) (λ c. stands-again (search) (sym (c .before .noted .ensures) ∙ c .if4 .taken))
+    (search needs) (search needs) slice-write-place (search needs) returns-5)

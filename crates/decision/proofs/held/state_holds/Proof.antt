@@ -24,6 +24,6 @@ returns-4 c =
 
 pub state-holds-spec : {M : Type 1} → f.Statement.statement M
 state-holds-spec =
-    tie.close (tie.spec (λ c. record { fits = omega (arith, quota-low (c .before .before .before .before .pre .1 .0)) }) (λ c κs. search needs)
-    (λ c. checked-refused (search) (c .refuse .ensures) (λ h. omega arith)) (λ c κs. search needs) (λ c. checked-refused (search) (c .refuse2 .ensures) (λ h. omega arith))
-    path-holds-requires (λ c κs. search needs) (λ c. search needs) returns-3 (λ c. search needs) returns-4)
+    tie.close (tie.spec (λ c. record { fits = omega (arith, quota-low (c .before .before .before .before .pre .1 .0)) }) (search needs)
+    (λ c. checked-refused (search) (c .refuse .ensures) (λ h. omega arith)) (search needs) (λ c. checked-refused (search) (c .refuse2 .ensures) (λ h. omega arith))
+    path-holds-requires (search needs) (search needs) returns-3 (search needs) returns-4)

@@ -18,5 +18,5 @@ lay-back-requires c κs =
 
 pub lay-spec : {M : Type 1} → f.Statement.statement M
 lay-spec =
-    tie.close (tie.spec (λ c. search needs) lay-there-requires (λ c. search needs) lay-back-requires (λ c. search needs) (λ c. search needs) (λ c. search needs) (λ c. search needs)
-    (λ c. search lays-as) (λ c. search needs) (λ c. search lays-as) (λ c. search (lays-as, lays-none)) (λ c. search (lays-as, lays-none)) (λ c. search (lays-as, lays-none)))
+    tie.close (tie.spec (search needs) lay-there-requires (search needs) lay-back-requires (search needs) (search needs) (search needs) (search needs)
+    (λ c. search lays-as) (search needs) (λ c. search lays-as) (λ c. search (lays-as, lays-none)) (λ c. search (lays-as, lays-none)) (λ c. search (lays-as, lays-none)))

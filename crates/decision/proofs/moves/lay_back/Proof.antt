@@ -12,5 +12,5 @@ turn-requires c κs =
 
 pub lay-back-spec : {M : Type 1} → f.Statement.statement M
 lay-back-spec =
-    tie.close (tie.spec (λ c. search needs) (λ c κs. (search, (search, (search, omega arith)))) (λ c. search needs) (λ c. search needs) (λ c. search needs) (λ c. search needs)
-    (λ c. search needs) turn-requires (λ c. search needs) (λ c. search lays-back))
+    tie.close (tie.spec (search needs) (λ c κs. (search, (search, (search, omega arith)))) (search needs) (search needs) (search needs) (search needs)
+    (search needs) turn-requires (search needs) (λ c. search lays-back))

@@ -10,4 +10,4 @@ trace-requires c κs =
     (start .pre .0, (start .pre .1 .0, (start .pre .1 .1 .0, omega (arith, part-long (start .args .moves .now) (start .args .from) (start .pre .1 .1 .1)))))
 
 pub lay-there-spec : {M : Type 1} → f.Statement.statement M
-lay-there-spec = tie.close (tie.spec (λ c. search needs) (λ c. search needs) (λ c. search needs) (λ c. search needs) trace-requires (λ c. search needs) (λ c. search lays))
+lay-there-spec = tie.close (tie.spec (search needs) (search needs) (search needs) (search needs) trace-requires (search needs) (λ c. search lays))

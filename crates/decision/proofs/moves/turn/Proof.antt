@@ -21,5 +21,5 @@ slice-write-part c = omega (arith, turn-length (c .before .before .before .loop 
 
 pub turn-spec : {M : Type 1} → f.Statement.statement M
 turn-spec =
-    tie.close (tie.spec Inv-loop μ-loop (λ c. turn-none (omega arith)) (λ c. search needs) (λ c. search needs) (λ c. search needs) opposed-requires slice-write-part (λ c. search needs)
+    tie.close (tie.spec Inv-loop μ-loop (λ c. turn-none (omega arith)) (search needs) (search needs) (search needs) opposed-requires slice-write-part (search needs)
     (λ c. omega arith) (λ c. search turn-more) (λ c. search turn-length) (λ c. search turn-all))

@@ -14,5 +14,5 @@ returns c = (search acts-forward, (refl, refl, search))
 
 pub forward-spec : {M : Type 1} → f.Statement.statement M
 forward-spec =
-    tie.close (tie.spec (λ c κs. (search opened, search (near-place, aimed-near))) (λ c κs. (search current-in, search needs)) add-t22 (λ c. search needs) (λ c. search needs)
-    (λ c. search needs) returns)
+    tie.close (tie.spec (λ c κs. (search opened, search (near-place, aimed-near))) (λ c κs. (search current-in, search needs)) add-t22 (search needs) (search needs)
+    (search needs) returns)

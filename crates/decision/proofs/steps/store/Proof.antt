@@ -6,5 +6,5 @@ use f.Tie as tie
 
 pub store-spec : {M : Type 1} → f.Statement.statement M
 store-spec =
-    tie.close (tie.spec (λ c. search needs) (λ c. search needs) (λ c κs. search needs) (λ c. search store-none) (λ c. search needs) (λ c. search needs) (λ c. search needs)
-    (λ c. search needs) (λ c. search store-new))
+    tie.close (tie.spec (search needs) (search needs) (search needs) (λ c. search store-none) (search needs) (search needs) (search needs)
+    (search needs) (λ c. search store-new))

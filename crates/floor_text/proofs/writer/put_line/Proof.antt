@@ -15,4 +15,6 @@ abbrev worded : tie.After-decimal → tie.After-bytes
 worded e = e .before .before .before .before
 
 pub put-line-spec : {M : Type 1} → f.Statement.statement M
-put-line-spec = tie.close (tie.spec (search needs) (λ c κs. omega (arith, room (c .before .before .before))) (λ c κs. omega (arith, room (worded (c .before .before .before)))) (search needs) (λ c. search printed-then))
+put-line-spec =
+    tie.close (tie.spec (search needs) (λ c κs. omega (arith, room (c .before .before .before)))
+    (λ c κs. omega (arith, room (worded (c .before .before .before)))) (search needs) (λ c. search printed-then))

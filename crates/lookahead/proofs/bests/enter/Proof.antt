@@ -5,6 +5,6 @@ use f.Tie as tie
 
 pub enter-spec : {M : Type 1} → f.Statement.statement M
 enter-spec =
-    tie.close (tie.spec (λ c. search needs) (λ c. search needs) (λ c. search needs) (λ c. search needs) (λ c. search needs)
+    tie.close (tie.spec (search needs) (search needs) (search needs) (search needs) (search needs)
     (λ c. let a = c .before .before .args in ap (set (a .best .now) (a .k)) (omega arith))
     (λ c. let a = c .before .before .args in sym (set-getD (a .best .now) (a .k) 0) ∙ ap (set (a .best .now) (a .k)) (omega arith)))

@@ -18,5 +18,5 @@ loop-again c =
 
 pub greatest-spec : {M : Type 1} → f.Statement.statement M
 greatest-spec =
-    tie.close (tie.spec Inv-loop μ-loop (λ c. (omega arith, omega arith, topped-none)) (λ c. search needs) (λ c. omega arith) (λ c κs. tt) (λ c. omega arith) (λ c. omega arith) loop-again
+    tie.close (tie.spec Inv-loop μ-loop (λ c. (omega arith, omega arith, topped-none)) (search needs) (λ c. omega arith) (λ c κs. tt) (λ c. omega arith) (λ c. omega arith) loop-again
     (λ c. let e : c .before .loop .k ≡ c .before .before .before .args .last + 1 = omega arith in rw e at (c .before .loop .inv .2)))

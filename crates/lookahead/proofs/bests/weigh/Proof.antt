@@ -32,9 +32,9 @@ returns c =
 
 pub weigh-spec : {M : Type 1} → f.Statement.statement M
 weigh-spec =
-    tie.close (tie.spec (λ c. omega (arith, places (c .before .before .before .before) .0)) (λ c. omega (arith, places (c .before .before .before .before .before) .0)) (λ c. search needs)
-    (λ c κs. search needs) (λ c. omega (arith, places (start c) .0)) (λ c. omega (arith, places (start (c .before)) .0)) (λ c κs. search needs)
+    tie.close (tie.spec (λ c. omega (arith, places (c .before .before .before .before) .0)) (λ c. omega (arith, places (c .before .before .before .before .before) .0)) (search needs)
+    (search needs) (λ c. omega (arith, places (start c) .0)) (λ c. omega (arith, places (start (c .before)) .0)) (search needs)
     (λ c. let p = start (c .before .before) .pre in rw (c .coarse .ensures) (omega (arith, value-lt (p .0) _ (p .1 .0)))) (λ c. omega (arith, places (start (c .before .before)) .0))
-    (λ c. places (start (c .before .before .before)) .1) (λ c κs. search needs) (λ c. omega (arith, small c)) (λ c. omega (arith, small (c .before)))
+    (λ c. places (start (c .before .before .before)) .1) (search needs) (λ c. omega (arith, small c)) (λ c. omega (arith, small (c .before)))
     (λ c. omega (arith, small (c .before), places (start (c .before .before .before .before .before)) .0))
-    (λ c κs. let a = start (c .before .before .before .before .before) in omega (arith, a .pre .0 .top (a .args .c))) (λ c. search needs) returns)
+    (λ c κs. let a = start (c .before .before .before .before .before) in omega (arith, a .pre .0 .top (a .args .c))) (search needs) returns)

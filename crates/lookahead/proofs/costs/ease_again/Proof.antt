@@ -19,7 +19,7 @@ slice-read-w c = let a = start (c .before) in omega (arith, free-few _ _ (a .pre
 
 pub ease-again-spec : {M : Type 1} → f.Statement.statement M
 ease-again-spec =
-    tie.close (tie.spec (λ c. search needs) (λ c. search needs) (λ c κs. search needs) (λ c. search needs) slice-read-w (λ c. search needs) (λ c. search needs) (λ c. search needs)
-    (λ c. search (needs, again-not)) (λ c. search needs) (λ c. search needs) (λ c. search needs) (λ c κs. search needs) (λ c. omega arith) (λ c. search needs)
+    tie.close (tie.spec (search needs) (search needs) (search needs) (search needs) slice-read-w (search needs) (search needs) (search needs)
+    (λ c. search (needs, again-not)) (search needs) (search needs) (search needs) (search needs) (λ c. omega arith) (search needs)
     (λ c. search (needs, again-topped, start (c .before .before .before .before .before) .pre .1 .1 .1 .0))
-    (λ c κs. (search needs, (search needs, (marked (c .before .before .before .before .before .before), refl)))) (λ c. search needs) (λ c. search needs) (λ c. search (needs, again-eased)))
+    (λ c κs. (search needs, (search needs, (marked (c .before .before .before .before .before .before), refl)))) (search needs) (search needs) (λ c. search (needs, again-eased)))

@@ -5,5 +5,5 @@ use f.Tie as tie
 
 pub lower-spec : {M : Type 1} → f.Statement.statement M
 lower-spec =
-    tie.close (tie.spec (λ c. search needs) (λ c. search needs) (λ c. search needs) (λ c. search needs) (λ c. search needs) (λ c. record { new = λ l. (refl, refl); old = λ l. absurd (omega arith) })
+    tie.close (tie.spec (search needs) (search needs) (search needs) (search needs) (search needs) (λ c. record { new = λ l. (refl, refl); old = λ l. absurd (omega arith) })
     (λ c. record { new = λ l. absurd (omega arith); old = λ l. (refl, refl) }))

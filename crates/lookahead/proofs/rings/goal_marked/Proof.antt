@@ -27,5 +27,5 @@ loop-again c =
 
 pub goal-marked-spec : {M : Type 1} → f.Statement.statement M
 goal-marked-spec =
-    tie.close (tie.spec Inv-loop μ-loop (λ c κs. search needs) (λ c k h. absurd (omega arith)) (λ c κs. omega arith) (λ c. record { fits = omega (arith, has-mark c) })
+    tie.close (tie.spec Inv-loop μ-loop (search needs) (λ c k h. absurd (omega arith)) (λ c κs. omega arith) (λ c. record { fits = omega (arith, has-mark c) })
     (λ c. omega (arith, has-mark (c .before))) returns (λ c. omega arith) (λ c. omega arith) loop-again (λ c. sym (any-none _ _ (λ k h. c .before .loop .inv k (omega arith)))))

@@ -12,8 +12,8 @@ slice-write-list-2 c =
 
 pub reach-spec : {M : Type 1} → f.Statement.statement M
 reach-spec =
-    tie.close (tie.spec (λ c. search needs) (λ c. search needs) (λ c. search needs) (λ c. search needs) (λ c. search needs) (λ c. search needs) (λ c. search needs)
+    tie.close (tie.spec (search needs) (search needs) (search needs) (search needs) (search needs) (search needs) (search needs)
     (λ c. record { new = λ e. absurd (omega arith); low = λ p l. refl; old = λ p l. absurd (omega arith) })
-    (λ c. record { new = λ e. absurd (omega arith); low = λ p l. absurd (omega arith); old = λ p l. refl }) (λ c. search needs) (λ c. search needs) (λ c. search needs) (λ c. search needs)
-    (λ c. search needs) (λ c. search needs) (λ c. search needs) (λ c. search needs) (λ c. search needs) slice-write-list-2 (λ c. search needs) (λ c. search needs) (λ c. search needs)
-    (λ c. search needs) (λ c. record { new = λ e. refl; low = λ p l. absurd (omega arith); old = λ p l. absurd (omega arith) }))
+    (λ c. record { new = λ e. absurd (omega arith); low = λ p l. absurd (omega arith); old = λ p l. refl }) (search needs) (search needs) (search needs) (search needs)
+    (search needs) (search needs) (search needs) (search needs) (search needs) slice-write-list-2 (search needs) (search needs) (search needs)
+    (search needs) (λ c. record { new = λ e. refl; low = λ p l. absurd (omega arith); old = λ p l. absurd (omega arith) }))

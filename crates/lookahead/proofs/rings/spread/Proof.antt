@@ -42,6 +42,6 @@ loop-again c =
 
 pub spread-spec : {M : Type 1} → f.Statement.statement M
 spread-spec =
-    tie.close (tie.spec Inv-loop μ-loop (λ c. search (needs, swept-none)) (λ c. search needs) (λ c. omega arith) (λ c κs. tt) (λ c. search needs) slice-read-w visit-requires (λ c. omega arith)
-    (λ c. omega arith) (λ c. omega arith) (λ c. omega arith) (λ c. omega arith) loop-again (λ c. search needs) (λ c. search needs) (λ c. search needs)
+    tie.close (tie.spec Inv-loop μ-loop (λ c. search (needs, swept-none)) (search needs) (λ c. omega arith) (λ c κs. tt) (search needs) slice-read-w visit-requires (λ c. omega arith)
+    (λ c. omega arith) (λ c. omega arith) (λ c. omega arith) (λ c. omega arith) loop-again (search needs) (search needs) (search needs)
     (λ c. let e : c .before .loop .i ≡ to-start (c .before) .args .to = omega arith in rw e at (c .before .loop .inv .2)))

@@ -5,5 +5,5 @@ use f.Tie as tie
 
 pub put-counts-spec : {M : Type 1} → f.Statement.statement M
 put-counts-spec =
-    tie.close (tie.spec (λ c. search needs) (λ c. search needs) (λ c. search needs) (λ c. search needs) (λ c. search needs) (λ c. simp length-set (omega arith)) (λ c. search needs)
-    (λ c. search needs) (λ c. simp length-set (omega arith)) (λ c. search needs) (λ c. search needs) (λ c. simp length-set (omega arith)) (λ c. search needs) (λ c. search needs))
+    tie.close (tie.spec (search needs) (search needs) (search needs) (search needs) (search needs) (λ c. simp length-set (omega arith)) (search needs)
+    (search needs) (λ c. simp length-set (omega arith)) (search needs) (search needs) (λ c. simp length-set (omega arith)) (search needs) (search needs))

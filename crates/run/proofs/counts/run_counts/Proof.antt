@@ -11,4 +11,4 @@ returns c =
     counted _ _ _ _ _ _ _ _ _ (filed .before .run-filed .ensures) refl (put .put-all .ensures)
 
 pub run-counts-spec : {M : Type 1} → f.Statement.statement M
-run-counts-spec = tie.close (tie.spec (λ c κs. search needs) (λ c κs. search needs) (λ c. search needs) (λ c. search needs) (λ c. search needs) returns)
+run-counts-spec = tie.close (tie.spec (search needs) (search needs) (search needs) (search needs) (search needs) returns)
