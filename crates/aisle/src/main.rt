@@ -1,4 +1,7 @@
 // Reads a line and a floor text from standard input, and prints the trials of the job that they ask for.
+
+#![tactic(auto)]
+
 ghost use Rattle.std.specs.Prelude.{◌≡◌, ◌*◌, length, replicate};
 ghost use Rattle.model.specs.Line.{job_in, judge_aisle, printed};
 ghost use Rattle.opening.specs.Promise.{line_holds};

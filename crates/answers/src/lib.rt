@@ -1,5 +1,7 @@
 // The types that calls take and give: a job and a state, and for each kind of call an answer by its cases.
 
+#![tactic(auto)]
+
 // The goals of a job, where a trip may end: how many are named, and the first four of them. A place past the count is not looked at.
 #[derive(Drop)]
 pub struct Goals {

@@ -1,4 +1,7 @@
 // One public call, as told on standard input: the program reads its numbers, makes the call, and prints what it answered and left behind.
+
+#![tactic(auto)]
+
 mod decisions;
 mod files;
 mod jobs;

@@ -1,4 +1,7 @@
 // The checks that several calls make, each equal to its definition in the model.
+
+#![tactic(auto)]
+
 ghost use Rattle.std.specs.Prelude.{◌≡◌, true, length};
 ghost use Rattle.model.specs.Basics.{refuse_at};
 ghost use Rattle.model.specs.Floor.{Floor, size, Sized, goals_of};

@@ -1,4 +1,7 @@
 // One decision: `judge` makes the checks ahead of the lookahead, `act` is the decision past them, `lay` lays its moves, and `decide` is the public call of all three.
+
+#![tactic(auto)]
+
 mod back;
 mod held;
 mod moves;

@@ -2,6 +2,9 @@
 //
 // Each part is handed the place on the page where it begins and hands back the next one. A page that is nearly full is written to standard
 // output and filled from its front again, so nothing grows with a drawing.
+
+#![tactic(auto)]
+
 ghost use Rattle.std.specs.Prelude.{◌≤◌, length};
 
 use libc::STDOUT_FILENO;

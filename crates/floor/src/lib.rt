@@ -1,4 +1,7 @@
 // The floor: one move with its cost, and whether a cell is free; in `goals`, which cells are goals and the opening figure of a cell.
+
+#![tactic(auto)]
+
 mod goals;
 
 ghost use Rattle.std.specs.Prelude.{◌≡◌, true, ◌||◌, ◌<◌, ◌≤◌, ◌*◌, eqb, length, get_or};

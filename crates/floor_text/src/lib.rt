@@ -1,4 +1,7 @@
 // Reads and writes floor text by the octile grid benchmark format. Everything is judged before the first byte is stored.
+
+#![tactic(auto)]
+
 mod writer;
 
 ghost use Rattle.std.specs.Prelude.{◌≡◌, ◌++◌, map, ◌+◌, ◌*◌, ◌≤◌, length, drop, get_or};

@@ -2,6 +2,9 @@
 //
 // What is told goes into a lent list from a place on, and the next place is handed back. Where few places are left, all that stands there is
 // written to standard output and the list is filled from its front again, so nothing grows with a trial.
+
+#![tactic(auto)]
+
 ghost use Rattle.std.specs.Prelude.{◌≡◌, ◌||◌, ◌++◌, ℕ, ◌+◌, ◌≤◌, ◌<◌, ltb, length, take, get_or};
 ghost use Rattle.model.specs.Opening.{open_trial};
 ghost use Rattle.model.specs.Ride.{ride, course_from};

@@ -1,6 +1,9 @@
 // Copies the lines of standard input to standard output, and writes the old depth into those that leave it out.
 //
 // The input may be of any length: only a part of it is kept. The first malformed line is told by one line on standard error, and nothing is written from it on.
+
+#![tactic(auto)]
+
 mod lines;
 mod rooms;
 

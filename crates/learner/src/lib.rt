@@ -1,4 +1,7 @@
 // The library's public calls and the types that they take and give, all in one place; nothing else is public.
+
+#![tactic(auto)]
+
 pub use answers::{
     Answer, Decided, FloorRead, Goals, Job, Place, Ran, Refusal, Report, State, Tried, Verdict,
     Written,

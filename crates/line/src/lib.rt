@@ -1,5 +1,8 @@
 // The line that the program `aisle` reads: its numbers, and the settings that they ask for. `depth` writes the old depth into a stored line, `print` has the
 // lines that programs print.
+
+#![tactic(auto)]
+
 pub mod depth;
 pub mod print;
 

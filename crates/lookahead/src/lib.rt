@@ -1,5 +1,8 @@
 // The lookahead: the window around a cell, the new figure and the target, and the route to a cell of the window.
 // Scratch is lent and never cleared: a cell's mark is the base and its ring, and a cell is unmarked while its mark is below the base.
+
+#![tactic(auto)]
+
 mod bests;
 mod costs;
 mod rings;

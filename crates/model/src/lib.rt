@@ -1,1 +1,3 @@
 // Document 01 as definitions: no code.
+
+#![tactic(auto)]

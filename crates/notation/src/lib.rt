@@ -1,5 +1,8 @@
 // How numbers are held and written, whatever they count: the same number in more bits; `digits` reads them and `print` writes them in decimal, `bytes` does
 // both big-endian.
+
+#![tactic(auto)]
+
 pub mod bytes;
 pub mod digits;
 pub mod print;

@@ -1,4 +1,7 @@
 // Decimal numbers between blanks, read from an input one after another, alone or into a list; and printed, one space before each.
+
+#![tactic(auto)]
+
 pub mod print;
 
 ghost use Rattle.std.specs.Prelude.{◌≡◌, true, false, ◌≤◌, length, take, drop};

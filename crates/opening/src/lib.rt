@@ -1,4 +1,7 @@
 // Opening a job: the checks 1 to 7 and 27, of which 6 and 7 are judged by the true distances, and the table of opening figures.
+
+#![tactic(auto)]
+
 mod search;
 
 ghost use Rattle.std.specs.Prelude.{◌≡◌, List, ℕ, ◌*◌, ◌≤◌, ◌<◌, length, get_or};

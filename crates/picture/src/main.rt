@@ -2,6 +2,9 @@
 //
 // Where `aisle` refuses, `picture` writes the same line, `refused`, the number and any place, and nothing else: that is no SVG, so a script
 // can tell.
+
+#![tactic(auto)]
+
 mod figures;
 mod ground;
 mod legend;

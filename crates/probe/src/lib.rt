@@ -1,4 +1,7 @@
 // Each public call for a caller in another language, on plain numbers and lists: what the benches measure.
+
+#![tactic(auto)]
+
 ghost use Rattle.run.specs.Numbers.{Counted};
 
 use answers::{FloorRead, Goals, Job, Ran, State, Tried, Verdict, Written};

@@ -1,4 +1,7 @@
 // A lookahead exported for its bench, on plain numbers and lists. It stands alone, so that what is measured is compiled as a lookahead and nothing else.
+
+#![tactic(auto)]
+
 ghost use Rattle.std.specs.Prelude.{◌≤◌, length};
 ghost use Rattle.model.specs.Lookahead.{most_moves};
 ghost use Rattle.lookahead.specs.Contract.{Asked, Fresh, Figures};

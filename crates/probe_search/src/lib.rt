@@ -1,4 +1,7 @@
 // The search for true distances exported for the benches, on plain numbers and lists. It stands alone, so that the calls of `probe` are compiled as they are elsewhere.
+
+#![tactic(auto)]
+
 ghost use Rattle.std.specs.Prelude.{◌≡◌, ◌*◌, length};
 ghost use Rattle.model.specs.Checks.{Benched};
 ghost use Rattle.model.specs.Floor.{Sized, goals_of};

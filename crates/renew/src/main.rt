@@ -1,6 +1,9 @@
 // Reads a table file of either edition from standard input, with whatever stands ahead of its last table, and writes that table alone, in edition 2, to standard output.
 //
 // The input may be of any length: only its last part is kept. A file that is no table is refused by one line on standard error, and nothing is written.
+
+#![tactic(auto)]
+
 mod last;
 mod rooms;
 

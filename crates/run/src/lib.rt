@@ -1,4 +1,7 @@
 // Trial and run: decisions until a goal is reached, and trials until one learns nothing.
+
+#![tactic(auto)]
+
 mod counts;
 
 ghost use Rattle.std.specs.Prelude.{◌≡◌, ◌<◌, length, set};

@@ -1,4 +1,7 @@
 // What programs share that stand between standard input and standard output: bytes moved to the front of the list that holds them, and what is said on either output.
+
+#![tactic(auto)]
+
 ghost use Rattle.std.specs.Prelude.{◌≡◌, ◌++◌, ◌+◌, ◌≤◌, length, take, drop};
 
 use answers::Refusal;

@@ -1,4 +1,7 @@
 // The table file: records of the figures that differ from the opening figure, and a trailer that points back to them.
+
+#![tactic(auto)]
+
 mod reader;
 mod renewal;
 mod trailer;

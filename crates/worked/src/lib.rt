@@ -1,1 +1,3 @@
 // The worked cases of document 01 as one proved list, and pins: no code.
+
+#![tactic(auto)]
