@@ -3,7 +3,7 @@
 #![tactic(auto)]
 
 // The goals of a job, where a trip may end: how many are named, and the first four of them. A place past the count is not looked at.
-#[derive(Drop)]
+#[derive(Clone, Copy)]
 pub struct Goals {
     pub count: usize,
     pub first: usize,
@@ -13,7 +13,7 @@ pub struct Goals {
 }
 
 // What stays the same through a run: the floor's sizes, the goals and the settings. The floor's bytes are lent beside it.
-#[derive(Drop)]
+#[derive(Clone, Copy)]
 pub struct Job {
     pub width: usize,
     pub height: usize,
@@ -25,7 +25,7 @@ pub struct Job {
 }
 
 // What goes from one decision to the next: the current cell, the learned amount u of this trial, and the path's length.
-#[derive(Drop)]
+#[derive(Clone, Copy)]
 pub struct State {
     pub current: usize,
     pub learned: usize,
@@ -33,7 +33,7 @@ pub struct State {
 }
 
 // Where the fault of a refusal lies.
-#[derive(Drop)]
+#[derive(Clone, Copy)]
 pub enum Place {
     Nowhere,
     Cell(usize),
@@ -42,21 +42,21 @@ pub enum Place {
 }
 
 // A refusal's number in document 01's table, and its place.
-#[derive(Drop)]
+#[derive(Clone, Copy)]
 pub struct Refusal {
     pub number: usize,
     pub place: Place,
 }
 
 // What a call answers that gives back nothing but its number.
-#[derive(Drop)]
+#[derive(Clone, Copy)]
 pub enum Verdict {
     Done,
     Refused(Refusal),
 }
 
 // What a decision answers.
-#[derive(Drop)]
+#[derive(Clone, Copy)]
 pub enum Answer {
     Arrived,
     Forward {
@@ -76,14 +76,14 @@ pub enum Answer {
 }
 
 // A decision's answer and the state after it.
-#[derive(Drop)]
+#[derive(Clone, Copy)]
 pub struct Decided {
     pub answer: Answer,
     pub state: State,
 }
 
 // The record of a trial: its decisions, the learned amount, the kept cost and the travel.
-#[derive(Drop)]
+#[derive(Clone, Copy)]
 pub struct Report {
     pub decisions: u64,
     pub learned: u64,
@@ -92,35 +92,35 @@ pub struct Report {
 }
 
 // What a trial answers.
-#[derive(Drop)]
+#[derive(Clone, Copy)]
 pub enum Tried {
     Made(Report),
     Refused(Refusal),
 }
 
 // What a run answers: how many trials it made, and whether the last of them learned nothing.
-#[derive(Drop)]
+#[derive(Clone, Copy)]
 pub enum Ran {
     Made { trials: usize, settled: bool },
     Refused(Refusal),
 }
 
 // What reading a floor text answers: the floor's sizes.
-#[derive(Drop)]
+#[derive(Clone, Copy)]
 pub enum FloorRead {
     Sizes { width: usize, height: usize },
     Refused(Refusal),
 }
 
 // What writing a table file or a floor text answers: how many bytes it has.
-#[derive(Drop)]
+#[derive(Clone, Copy)]
 pub enum Written {
     Length(usize),
     Refused(Refusal),
 }
 
 // What a line of the program `aisle` asks for.
-#[derive(Drop)]
+#[derive(Clone, Copy)]
 pub struct Settings {
     pub start: usize,
     pub goal: usize,

@@ -19,7 +19,7 @@ fn goals_of(count: usize, g: &[u32; 8]) -> Goals {
 }
 
 // What a call tells of its job: the job, where it stands (of a decision also u and the path's length), the number after the quota, and how far the input is read.
-#[derive(Drop)]
+#[derive(Clone, Copy)]
 pub struct Told {
     pub job: Job,
     pub start: usize,
@@ -80,7 +80,7 @@ pub fn open(input: &[u8], c: Cursor, out: &mut Line) -> usize
 }
 
 // What a call on a table alone tells: the floor's sizes, the goals, q, and how far the input is read.
-#[derive(Drop)]
+#[derive(Clone, Copy)]
 pub struct Site {
     pub width: usize,
     pub height: usize,

@@ -25,7 +25,7 @@ pub const LEAST_ROOM: usize = 288;
 
 // What a decision past the checks comes to: its answer, in which no move is counted yet, the state after it, its rise, what its moves cost, and the base of
 // the marks that it leaves.
-#[derive(Drop)]
+#[derive(Clone, Copy)]
 pub struct Acted {
     pub answer: Answer,
     pub state: State,

@@ -14,7 +14,7 @@ ghost use Rattle.floor.specs.Moves.{flat, all_kinds, kinds, cost, can_cost, nort
 pub use goals::{MOST_GOALS, goal_at, goals_in, is_goal, one_goal, opening};
 
 // What a move leads to: the cell moved into and what the move costs, or nothing that may be moved into.
-#[derive(Drop)]
+#[derive(Clone, Copy)]
 pub enum Step {
     To { cell: usize, cost: u16 },
     Wall,
@@ -22,7 +22,7 @@ pub enum Step {
 
 // A free cell's byte and those of the straight cells on its sides, blocked past the floor's edge: each is a way out of it where it is free. A diagonal
 // move needs two of them free, those beside it.
-#[derive(Drop)]
+#[derive(Clone, Copy)]
 pub struct Spot {
     pub here: u8,
     pub north: u8,

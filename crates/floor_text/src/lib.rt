@@ -13,7 +13,7 @@ use notation::digits;
 pub use writer::write_floor;
 
 // What a header says.
-#[derive(Drop)]
+#[derive(Clone, Copy)]
 enum Header {
     Sizes { width: usize, height: usize },
     Faulty,

@@ -67,7 +67,7 @@ fn moves_yet(already: bool, n: usize) -> bool
 }
 
 // The decisions of a trial: its record, whether there was a move, and the next place.
-#[derive(Drop)]
+#[derive(Clone, Copy)]
 pub struct Way {
     pub report: Report,
     pub moved: bool,
@@ -148,7 +148,7 @@ fn say_counts(out: &mut [u8], at: usize, moved: bool, r: Report) -> usize
 }
 
 // A trial that is told: its record, and the next place.
-#[derive(Drop)]
+#[derive(Clone, Copy)]
 pub struct Trip {
     pub report: Report,
     pub at: usize,

@@ -5,7 +5,7 @@ ghost use Rattle.keep_depth.specs.Lines.{Fits, HasEnd, Copies};
 use line::depth;
 
 // How far a part is copied: how many of its bytes are done with, how many are written for them, the number of the next line, and whether that one is malformed.
-#[derive(Drop)]
+#[derive(Clone, Copy)]
 pub struct Reach {
     pub done: usize,
     pub wrote: usize,

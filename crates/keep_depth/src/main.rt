@@ -22,7 +22,7 @@ const LONGEST_LINE: usize = 56;
 const TURNS: u64 = 140737488355328;
 
 // What came of a part: how many bytes of an unfinished line are held, how many are to be written, the number of the next line, and whether that one is malformed.
-#[derive(Drop)]
+#[derive(Clone, Copy)]
 struct Step {
     held: usize,
     wrote: usize,
@@ -31,7 +31,7 @@ struct Step {
 }
 
 // What came of standard input.
-#[derive(Drop)]
+#[derive(Clone, Copy)]
 enum End {
     Copied,
     Refused(Refusal),

@@ -28,7 +28,7 @@ fn formed(count: usize) -> usize
 }
 
 // The line from a place on: how many numbers it has, and the place after its LF; no numbers where it is malformed.
-#[derive(Drop)]
+#[derive(Clone, Copy)]
 pub struct First {
     pub given: usize,
     pub end: usize,

@@ -14,14 +14,14 @@ pub use depth::with_depth;
 use notation::digits;
 
 // What the line says: its settings and where the text after it begins; or that it is malformed.
-#[derive(Drop)]
+#[derive(Clone, Copy)]
 pub enum Line {
     Asked { settings: Settings, text: usize },
     Malformed,
 }
 
 // A number of a line with the byte after it: whether both are of the form, whether that byte is the LF, and where the line goes on.
-#[derive(Drop)]
+#[derive(Clone, Copy)]
 struct Word {
     pub good: bool,
     pub last: bool,
@@ -76,7 +76,7 @@ fn word_at(input: &[u8], from: usize) -> Word
 }
 
 // A line being read: the numbers so far, and the place after the byte that ended the last. `ok` is false where it is malformed.
-#[derive(Drop)]
+#[derive(Clone, Copy)]
 struct Reading {
     pub ok: bool,
     pub numbers: [usize; 7],

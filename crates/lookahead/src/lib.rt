@@ -42,14 +42,14 @@ const STRIDE: u32 = 2 * DEEPEST as u32;
 const LAST_BASE: u32 = 4294967295 - STRIDE;
 
 // The window around a cell: its last ring and how many cells it has; or a ring up to the last is empty.
-#[derive(Drop)]
+#[derive(Clone, Copy)]
 pub enum Around {
     Window { last: usize, n: usize },
     Empty,
 }
 
 // The new figure, the target, and what the way to it costs.
-#[derive(Drop)]
+#[derive(Clone, Copy)]
 pub struct Ahead {
     pub figure: usize,
     pub target: usize,
@@ -57,7 +57,7 @@ pub struct Ahead {
 }
 
 // A cell, and the move from it.
-#[derive(Drop)]
+#[derive(Clone, Copy)]
 struct Link {
     cell: usize,
     m: usize,

@@ -4,7 +4,7 @@ ghost use Rattle.model.specs.FloorText.{is_digit};
 ghost use Rattle.notation.specs.Runs.{with_digit, run_at};
 
 // A run of digits: its value, and the place after it.
-#[derive(Drop)]
+#[derive(Clone, Copy)]
 pub struct Run {
     pub value: usize,
     pub after: usize,

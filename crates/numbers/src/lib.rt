@@ -8,7 +8,7 @@ ghost use Rattle.std.specs.Prelude.{◌≡◌, true, false, ◌≤◌, length, t
 ghost use Rattle.numbers.specs.Reading.{is_blank, greatest, digits_from, number_at, failed, number_in, ended_at, Read, read_list, list_at, several_at};
 
 // What stands at a place of the input: a number and the place after it, nothing but blanks, or what is no number.
-#[derive(Drop)]
+#[derive(Clone, Copy)]
 enum Item {
     Number { value: usize, after: usize },
     End,
@@ -16,7 +16,7 @@ enum Item {
 }
 
 // How far an input is read: the place of what comes next, whether all was well, and the number or the list's length read last.
-#[derive(Drop)]
+#[derive(Clone, Copy)]
 pub struct Cursor {
     pub ok: bool,
     pub at: usize,

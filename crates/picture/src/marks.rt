@@ -68,7 +68,7 @@ fn half_mark(cell: usize) -> usize
 }
 
 // Where a cell's mark stands, and half its side.
-#[derive(Drop)]
+#[derive(Clone, Copy)]
 pub struct Spot {
     pub x: usize,
     pub y: usize,

@@ -6,7 +6,7 @@ use crate::rooms::Counts;
 use learner::{Job, Ran, Report, Verdict};
 
 // What a run came to: its first and its last record, how many trials it made, and whether it settled.
-#[derive(Drop)]
+#[derive(Clone, Copy)]
 pub struct Outcome {
     pub first: Report,
     pub last: Report,

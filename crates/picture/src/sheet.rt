@@ -5,7 +5,7 @@ use drawing::Page;
 
 // The floor's sizes, the side of a cell, and whether some cell is slow, for which the legend has a row more. The floor stands 20 points from
 // the left and 50 from the top, the legend to its right.
-#[derive(Drop)]
+#[derive(Clone, Copy)]
 pub struct Sheet {
     pub columns: usize,
     pub rows: usize,

@@ -59,7 +59,7 @@ fn note_leg(legs: &mut Legs, before: usize, after: usize, moves: &Moves, n: usiz
 }
 
 // A trial under way: its state, and the next place on the page.
-#[derive(Drop)]
+#[derive(Clone, Copy)]
 pub struct Under {
     pub state: State,
     pub at: usize,

@@ -17,7 +17,7 @@ use learner::Written;
 use libc::STDIN_FILENO;
 
 // What came of standard input: how many of its last bytes are held, and whether it was read to its end.
-#[derive(Drop)]
+#[derive(Clone, Copy)]
 struct Input {
     held: usize,
     ended: bool,

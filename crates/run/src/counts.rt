@@ -67,7 +67,7 @@ fn put_all(counts: &mut [u64], n: usize, reports: [Report; 1001])
 }
 
 // A run's answer and its reports by value.
-#[derive(Drop)]
+#[derive(Clone, Copy)]
 pub struct Filed {
     pub answer: Ran,
     pub reports: [Report; 1001],

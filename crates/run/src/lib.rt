@@ -38,7 +38,7 @@ pub fn note_leg(along: &mut [u32], before: usize, after: usize, leg: usize)
 
 // What a trial carries from one decision to the next: its state and its counts, the marks' base, and what its last decision answered, in which no move is
 // counted.
-#[derive(Drop)]
+#[derive(Clone, Copy)]
 pub struct Stand {
     pub state: State,
     pub decisions: u64,

@@ -14,7 +14,7 @@ pub use trailer::{check_trailer, find_records};
 pub use writer::write_table;
 
 // What a table belongs to: the sizes of its floor, the benches, and the q of its figures.
-#[derive(Drop)]
+#[derive(Clone, Copy)]
 pub struct Site {
     pub width: usize,
     pub height: usize,
