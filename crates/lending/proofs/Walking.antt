@@ -11,7 +11,7 @@ pub use denote.Array.{Array, Array-Lawful}
 pub use denote.Builtin.{u8, u16, u32, usize, u64}
 pub use denote.Index.{place_is, elem_out, elem_put, opens_slice, closes_slice}
 pub use denote.Laws.{Is, Ises, Are, valss, shows}
-pub use denote.Plain.{Nothing-Lawful}
+pub use denote.Plain.{Nothing-Lawful, uint_row_laws}
 pub use denote.RattleType.{RattleType}
 pub use denote.Ref.{Bor, MutBor}
 pub use denote.Shadow.{pure_i}
@@ -29,7 +29,7 @@ pub use lib.Dec.{T}
 pub use lib.WfN.{lt-wf_rel as Nat·lt-wfRel}
 pub use mathlib.Core.WellFounded.InvImage.{wf as InvImage·wf}
 pub use mathlib.Core.WellFounded.{WellFounded}
-pub use mir.Syntax.{named, w64, ty_int, ty_bool, ty_array, ty_ptr}
+pub use mir.Syntax.{named, w8, w64, ty_int, ty_bool, ty_array, ty_ptr}
 pub use mir.Val.{Val, WT, has_ty, vbool, vint, vunit, vptr}
 pub use native.Mathlib.Nat.{lt_trans, mul-lt-mul_of_pos_right}
 pub use prog.Memory.{Memory}
