@@ -4,7 +4,7 @@ use mathlib.Core.Path.{◌≡◌, refl, subst}
 use Prim.Native.Nat.{ℕ, zero, suc, ◌<◌, ◌^◌}
 use mathlib.Core.List.{List, [], ◌∷◌, ◌++◌}
 use seplogic.Ra.Ura.{Ura}
-use mir.Syntax.{Name, Place, Opd as Operand, Body, seq, call, w64}
+use mir.Syntax.{Callee, Place, Opd as Operand, Body, seq, call, w64}
 use mir.Val.{Val, vint}
 use base.Logic.{SProp, ent, sep, emp, id⊢, via, mono∗, mono_l, mono_r, emp∗}
 use base.Fml.{Fml, ftrue, fsep, flft}
@@ -62,11 +62,11 @@ module _ {M : Type 1} {𝓤 : Ura M} (𝓛 : Logic 𝓤) where
   -- of each list that a callee had by `&mut`, what is said of it at exit
   abbrev said_of : {D : Type 0} (e : Exit D) (x : D) → Last e x → List (Item 𝓤)
   said_of unchanged x w = []
-  said_of (leaves L l S s) x w = ‵ (l x w) ∷ []
+  said_of (leaves L l S s r₀) x w = ‵ (l x w) ∷ []
 
   said_of_in : {D : Type 0} (e : Exit D) (x : D) (w : Last e x) → ent 𝓤 (sem 𝓛 (left e x w)) ⟦ said_of e x w ⟧
   said_of_in unchanged x w = id⊢ 𝓤 (emp 𝓤)
-  said_of_in (leaves L l S s) x w = id⊢ 𝓤 (sem 𝓛 (l x w))
+  said_of_in (leaves L l S s r₀) x w = id⊢ 𝓤 (sem 𝓛 (l x w))
 
   module _ {n : ℕ} (κs : Lfts n) where
     abbrev pub said_at_exit : (ss : List (Slot n)) (ks : Kepts ss) (a : Denots (types_at ss κs)) → Fins κs ss ks a → List (Item 𝓤)
@@ -136,7 +136,7 @@ module _ {M : Type 1} {𝓤 : Ura M} (𝓛 : Logic 𝓤) (T : Ended) (c : Clause
   Says r ws = (c κs a).ensures x.1 r (at_exit T κs a ws)
 
   -- a call: the context begins with the tokens and with what is here of the parameters. Where it has returned, the context begins with what the result owns, the tokens, and what is said of each list
-  pub calls : {K : Type 0} {E : Env 𝓤 H} {C : Calls 𝓤 H} {Λ : Loops 𝓤 H} {q : Post 𝓤 H} {f : Name} {xs : List Operand} {d : Place} {rest : Body} (Γ : List (Item 𝓤))
+  pub calls : {K : Type 0} {E : Env 𝓤 H} {C : Calls 𝓤 H} {Λ : Loops 𝓤 H} {q : Post 𝓤 H} {f : Callee} {xs : List Operand} {d : Place} {rest : Body} (Γ : List (Item 𝓤))
       → FmC 𝓤 H 𝓛.laws C → Triple 𝓤 (C f) Contract_of → (ways : List (Way 𝓛)) → all_of 𝓛 ways ≡ owns (types_at S.params κs) a x.0.4 → ent 𝓤 (emp 𝓤) ((c κs a).requires x.1)
       → (φ : Res S κs → Lasts T κs a → Type 0) → ((r : Res S κs) (ws : Lasts T κs a) → ent 𝓤 (Says r ws) (fact 𝓤 (φ r ws)))
       → K → Opds K 𝓛 (raw (Contract_of.pre x) ∷ Γ) E xs (Contract_of.args x)

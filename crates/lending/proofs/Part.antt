@@ -7,12 +7,12 @@ use native.Mathlib.Omega.{arith}
 use lib.ListN.{length, take, drop as past, take-append-drop, length-append, length-drop}
 use lib.Seq.{length-take-le}
 use seplogic.Ra.Ura.{Ura}
-use seplogic.Ra.TreeShare.{full_share}
+use base.Fraction.{full_share}
 use mir.Syntax.{Ty, Lifetime, ty_array}
 use mir.Raw.{raw as raw_ty}
 use mir.Val.{Val}
 use base.Logic.{ent, sep, ex}
-use base.Fml.{Lft, GName, Fml, fsep, feq, fat, flft, fdead, flent}
+use base.Fml.{Lft, GName, Fml, fsep, feq, fat, flft, fdead, flent, fbor}
 use types.Logic.{Logic, sem}
 use types.Kit.{‵, ◌⊛◌, some, later, ◌$◌, ◌∵◌, !, qed, by, drop, move, rewrite, use1, use2, use3, split, pick, fsplit, fjoin, fpick, fpack, feq_l, feq_i, await, updating, now as at_once}
 use types.Kit.{show, done, Item, Goal, Soaks, Seq}
@@ -104,6 +104,10 @@ module _ (R : RattleType) (l : ℕ) where
 abbrev pub PartOn : (R : RattleType) → ℕ → Lifetime → ℕ → List R.Denot → ℕ → GName → Fml
 PartOn R l ℓ k xs ν δ = (MutSlice ℓ (ν ∷ []) R).own_val (part_at_lem R l δ (take k xs)) (slice_val (l, 0) k ∷ [])
 
+-- what the call's contract says of it at exit: zs is its last, as long as it was, and its borrow is handed back, closed
+abbrev pub PartReturned : (R : RattleType) → ℕ → ℕ → List R.Denot → ℕ → GName → List R.Denot → Fml
+PartReturned R l k xs ν δ zs = fsep (fsep (finally R δ zs) (feq ℕ (length zs) (length (take k xs)))) (fbor (ν ∷ []) (Held R (length (take k xs)) l 0 δ))
+
 -- the two as steps: a lifetime is made and the first k are lent for it; and it is ended, and the array is whole again
 module _ (R : RattleType) (l : ℕ) {M : Type 1} {𝓤 : Ura M} {K : Type 0} (𝓛 : Logic 𝓤) {Γ : List (Item 𝓤)} {G : Goal 𝓤 𝓛.H} (ℓ : Lifetime) (one : Single R.mir) (n k : ℕ)
     (xs : List R.Denot) (long : length xs ≡ n) (few : k ≤ n) where
@@ -114,7 +118,7 @@ module _ (R : RattleType) (l : ℕ) {M : Type 1} {𝓤 : Ura M} {K : Type 0} (�
 
   pub takes_first_back : K → Soaks G → (vals : R.Denot → List Val) → Tells R (Is R) vals → {ν : ℕ} {δ : GName} (zs : List R.Denot)
       → (length zs ≡ length (take k xs) → (w : Val) → Seq K 𝓛 (‵ (fat full_share (ty_array (lone R.mir) n) l 0 w) ∷ ‵ ((Array R n).own_val (zs ++ past k xs) (w ∷ [])) ∷ Γ) G)
-      → Seq K 𝓛 (‵ (flft (ν ∷ []) full_share) ∷ ‵ (Rests R l (ν ∷ []) k k xs δ) ∷ ‵ (fsep (finally R δ zs) (feq ℕ (length zs) (length (take k xs)))) ∷ Γ) G
-  takes_first_back t z vals tells {ν} {δ} zs go = move t (2 ∷ []) $ fsplit t $ move t (1 ∷ []) $ feq_l t (λ same. move t (1 ∷ []) $ lft_end t z $ move t (0 ∷ 2 ∷ 1 ∷ []) $
+      → Seq K 𝓛 (‵ (flft (ν ∷ []) full_share) ∷ ‵ (Rests R l (ν ∷ []) k k xs δ) ∷ ‵ (PartReturned R l k xs ν δ zs) ∷ Γ) G
+  takes_first_back t z vals tells {ν} {δ} zs go = move t (2 ∷ []) $ fsplit t $ move t (1 ∷ []) $ drop t $ fsplit t $ move t (1 ∷ []) $ feq_l t (λ same. move t (1 ∷ []) $ lft_end t z $ move t (0 ∷ 2 ∷ 1 ∷ []) $
       use3 𝓛 (later (some (λ (w : Val). ‵ (fsep (fat full_share (ty_array (lone R.mir) n) l 0 w) ((Array R n).own_val (zs ++ past k xs) (w ∷ []))))))
       (part-back R l 𝓛 ℓ (ν ∷ []) one vals tells n k δ xs zs long few) $ await t z $ pick t (λ w. fsplit t $ go same w))

@@ -6,12 +6,12 @@ pub use borrow.Author.Tests.{ltb-true, ltb-false}
 pub use contract.Lifetimes.{Lfts, Shares}
 pub use contract.Monad.{Fun, fact_i}
 unfoldable pub use contract.Running.{tables_of}
-pub use contract.Running.{given_of, tables}
+pub use contract.Running.{tables}
 pub use denote.Array.{Array, Array-Lawful}
 pub use denote.Builtin.{u8, u16, u32, usize, u64}
 pub use denote.Index.{place_is, elem_out, elem_put, opens_slice, closes_slice}
 pub use denote.Laws.{Is, Ises, Are, valss, shows}
-pub use denote.Plain.{Nothing-Lawful}
+pub use denote.Plain.{Nothing-Lawful, uint_row_laws}
 pub use denote.RattleType.{RattleType}
 pub use denote.Ref.{Bor, MutBor}
 pub use denote.Shadow.{pure_i}
@@ -23,13 +23,13 @@ pub use denote.Triple.Spec.{Meets, triple_of}
 pub use denote.Triple.Table.{entered, cited}
 pub use denote.Triple.Walked.{walk_of}
 pub use ghost.Atoms.{Atoms}
-pub use seplogic.Ra.TreeShare.{full_share}
+pub use base.Fraction.{full_share}
 pub use seplogic.Ra.Ura.{Ura}
 pub use lib.Dec.{T}
 pub use lib.WfN.{lt-wf_rel as Nat·lt-wfRel}
 pub use mathlib.Core.WellFounded.InvImage.{wf as InvImage·wf}
 pub use mathlib.Core.WellFounded.{WellFounded}
-pub use mir.Syntax.{named, w64, ty_int, ty_bool, ty_array, ty_ptr}
+pub use mir.Syntax.{named, w8, w64, ty_int, ty_bool, ty_array, ty_ptr}
 pub use mir.Val.{Val, WT, has_ty, vbool, vint, vunit, vptr}
 pub use native.Mathlib.Nat.{lt_trans, mul-lt-mul_of_pos_right}
 pub use prog.Memory.{Memory}
@@ -37,7 +37,7 @@ pub use prog.Routine.{Routine}
 unfoldable pub use prog.Wp.{after_turn}
 pub use prog.Wp.{Heap, Out, Env, after_seq, after_block, Calls, Loops, Wp, at_return, WpFn, Tables}
 pub use sound.WpLaws.{FmC, fm_of}
-pub use types.Kit.{Given, Item, ‵, runs, any_q, at_ret, Sq, ◌$◌, !, move, keep, rewrite, drop, fsplit, feq_l, fjoin, feq_i}
+pub use types.Kit.{Item, ‵, runs, any_q, at_ret, Sq, ◌$◌, !, move, keep, rewrite, drop, fsplit, feq_l, fjoin, feq_i}
 pub use types.Part.{whole, sub, look_in, agg}
 pub use types.Run.{look, store, init, forget, stop, fld, from, load, lit, of_opd, bin, and_then, no_more, assigns, assigns_last, first, blocks, stays, leaves_loop, land, returns, exec, Below, again}
 pub use types.Run.{loops, addr, store_raw, hop, unit_lit}

@@ -2,13 +2,12 @@
 -- reports to `store_report`, each for a lifetime of the call, and come back (`Lent` of lending).
 -- The invariant and all that it gives are laws of `Course.antt`; all that the walk knows of the callees is that each meets its contract. Assumes nothing.
 use types.Logic.{Logic}
-use denote.Ref.{Bor}
 use Rattle.learning.proofs.Words.{◌≡◌, refl, sym, ◌∙◌, ap, subst, ℕ, ◌+◌, ◌≤◌, ◌<◌, lt_of_le_of_lt, arith, Bool, true, false, List, [], ◌∷◌, length, set, ltb, lit<}
 use Rattle.lending.proofs.Walking.{◌^◌, WellFounded, InvImage·wf, Nat·lt-wfRel, T as Holds, ltb-true, ltb-false, Ura, full_share, named, w64, ty_int, ty_bool, Val, WT, has_ty, vbool, vint, SProp, emp}
 use Rattle.lending.proofs.Walking.{id⊢, fat, flft, Memory, Routine, Out, Env, after_seq, after_block, after_turn, Calls, Loops, Wp, at_return, WpFn, Tables, Fun, tables, tables_of}
 use Rattle.lending.proofs.Walking.{Item, ‵, runs, any_q, at_ret, Sq, ◌$◌, !, move, keep, rewrite, drop, whole, sub, look_in, look, store, init, forget, stop, fld, from, load, lit, of_opd, bin}
 use Rattle.lending.proofs.Walking.{and_then, no_more, assigns, assigns_last, first, blocks, stays, leaves_loop, land, returns, exec, Below, again, loops, FmC, fm_of, RattleType, Is, Ises, Are, valss}
-use Rattle.lending.proofs.Walking.{Nothing-Lawful, u8, u16, u32, usize, RefT, slice_val, ShrSlice, Room, types_at, Meets, triple_of, entered, cited, walk_of, Lfts, Shares, fact_i, Args, Held, empty, has}
+use Rattle.lending.proofs.Walking.{Nothing-Lawful, uint_row_laws, w8, u8, u16, u32, usize, Bor, MutBor, slice_val, ShrSlice, Room, types_at, Meets, triple_of, entered, walk_of, Lfts, Shares, fact_i, Args, Held, empty, has}
 use Rattle.lending.proofs.Walking.{env, locals, span, frees_all, Way, here, made, number, calls, ends as exits-with, Lent, mach, at, Owns, lends, takes_back, twice, held, reslices, Param, list_read}
 use Rattle.lending.proofs.Walking.{list-kept, number_of, data_of, stays_all, goes_all, spells, tells_all, lawfuls, Walk, proves}
 use denote.Struct.Laws as LL
@@ -31,13 +30,18 @@ use Rattle.answers.specs.contracts.Verdict as O
 use Rattle.answers.proofs.Verdict.TheLaws as O'
 use Rattle.answers.specs.contracts.Ran as R
 use Rattle.answers.proofs.Ran.TheLaws as R'
-use Rattle.run.proofs.judge as judge
-use Rattle.run.proofs.allowed as allowed
-use Rattle.run.proofs.ride as ride'
-use Rattle.run.proofs.store_report as store-report
-use Rattle.run.proofs.limit_after as limit-after
-use Rattle.run.proofs.answer as answer
-use Rattle.run.specs.contracts.run.Key.{name as #run·run}
+use Rattle.run.specs.contracts.judge as judge
+use Rattle.run.proofs.judge.Met as judge-met
+use Rattle.run.specs.contracts.allowed as allowed
+use Rattle.run.proofs.allowed.Met as allowed-met
+use Rattle.run.specs.contracts.ride as ride'
+use Rattle.run.proofs.ride.Met as ride-met
+use Rattle.run.specs.contracts.store_report as store-report
+use Rattle.run.proofs.store_report.Met as store-report-met
+use Rattle.run.specs.contracts.limit_after as limit-after
+use Rattle.run.proofs.limit_after.Met as limit-after-met
+use Rattle.run.specs.contracts.answer as answer
+use Rattle.run.proofs.answer.Met as answer-met
 use Rattle.run.specs.contracts.run as f
 use Rattle.run.proofs.run.Statement as stated
 use Rattle.run.proofs.run.Code as code
@@ -54,12 +58,12 @@ abbrev num : ℕ → List Val
 num n = vint w64 n ∷ []
 
 module _ {M : Type 1} {𝓤 : Ura M} (𝓛 : Logic 𝓤) (mem : Memory → SProp 𝓤) (run : Routine → Fun 𝓤) (𝓣 : Tables 𝓤 𝓛.H)
-    (known-judge : Meets 𝓛 judge.signature (𝓣.C judge.Symbol.name) (judge.spec 𝓛 mem run))
-    (known-allowed : Meets 𝓛 allowed.signature (𝓣.C allowed.Symbol.name) (allowed.spec 𝓛 mem run))
-    (known-ride : Meets 𝓛 ride'.signature (𝓣.C ride'.Symbol.name) (ride'.spec 𝓛 mem run))
-    (known_store : Meets 𝓛 store-report.signature (𝓣.C store-report.Symbol.name) (store-report.spec 𝓛 mem run))
-    (known-limit : Meets 𝓛 limit-after.signature (𝓣.C limit-after.Symbol.name) (limit-after.spec 𝓛 mem run))
-    (known-answer : Meets 𝓛 answer.signature (𝓣.C answer.Symbol.name) (answer.spec 𝓛 mem run)) where
+    (known-judge : Meets 𝓛 judge.signature (𝓣.C judge.Key.name) (judge.spec 𝓛 mem run))
+    (known-allowed : Meets 𝓛 allowed.signature (𝓣.C allowed.Key.name) (allowed.spec 𝓛 mem run))
+    (known-ride : Meets 𝓛 ride'.signature (𝓣.C ride'.Key.name) (ride'.spec 𝓛 mem run))
+    (known_store : Meets 𝓛 store-report.signature (𝓣.C store-report.Key.name) (store-report.spec 𝓛 mem run))
+    (known-limit : Meets 𝓛 limit-after.signature (𝓣.C limit-after.Key.name) (limit-after.spec 𝓛 mem run))
+    (known-answer : Meets 𝓛 answer.signature (𝓣.C answer.Key.name) (answer.spec 𝓛 mem run)) where
   open 𝓛 use {H}
 
   abbrev C : Calls 𝓤 H
@@ -91,13 +95,13 @@ module _ {M : Type 1} {𝓤 : Ura M} (𝓛 : Logic 𝓤) (mem : Memory → SProp
     abbrev trials : ℕ
     trials = a.1.1.1.0
 
-    abbrev tb : Bor (List ℕ)
+    abbrev tb : MutBor (List ℕ)
     tb = a.1.1.1.1.0
 
-    abbrev pa : Bor (List ℕ)
+    abbrev pa : MutBor (List ℕ)
     pa = a.1.1.1.1.1.0
 
-    abbrev re : Bor (List Report)
+    abbrev re : MutBor (List Report)
     re = a.1.1.1.1.1.1.0
 
     abbrev room_t : Room u32 (length tb.now)
@@ -236,7 +240,7 @@ module _ {M : Type 1} {𝓤 : Ura M} (𝓛 : Logic 𝓤) (mem : Memory → SProp
           reslices ! refl (look_in ! 20 (sub ! 0 refl (whole !))) (init ! 48 refl (tt, tt)) (held ! 48 refl) refl (look_in ! 20 (sub ! 1 refl (whole !)))
           (init ! 50 refl (tt, (tt, (record { fits = room-p.0 }, tt)))) $
           lends table 𝓛 (named 1) i.table i.table-long ! tt (λ ν₁ δ₁. move ! (3 ∷ 4 ∷ []) $ lends path 𝓛 (named 2) i.path i.path-long ! tt (λ ν₂ δ₂.
-          move ! (8 ∷ []) $ twice 𝓛 (named 0) κs.0 u8 fl $ move ! (10 ∷ 5 ∷ 2 ∷ 0 ∷ 6 ∷ 3 ∷ []) $
+          move ! (8 ∷ []) $ twice 𝓛 (named 0) κs.0 u8 (uint_row_laws w8) fl $ move ! (10 ∷ 5 ∷ 2 ∷ 0 ∷ 6 ∷ 3 ∷ []) $
           calls 𝓛 ride'.ended (ride'.clauses 𝓛 mem run) (
             (
               (κs.0, (ν₁ ∷ [], (ν₂ ∷ [], tt))),
@@ -313,7 +317,7 @@ module _ {M : Type 1} {𝓤 : Ura M} (𝓛 : Logic 𝓤) (mem : Memory → SProp
         (init ! 40 refl (tt, (tt, (record { fits = room-p.0 }, tt)))) $
         -- `judge`, with the table and the path lent on for lifetimes ν₁ and ν₂ of the call
         lends table 𝓛 (named 1) tb.now refl ! tt (λ ν₁ δ₁. move ! (3 ∷ 4 ∷ []) $ lends path 𝓛 (named 2) pa.now refl ! tt (λ ν₂ δ₂.
-        move ! (8 ∷ []) $ twice 𝓛 (named 0) κs.0 u8 fl $ move ! (10 ∷ 5 ∷ 2 ∷ 0 ∷ 6 ∷ 3 ∷ []) $
+        move ! (8 ∷ []) $ twice 𝓛 (named 0) κs.0 u8 (uint_row_laws w8) fl $ move ! (10 ∷ 5 ∷ 2 ∷ 0 ∷ 6 ∷ 3 ∷ []) $
         calls 𝓛 judge.ended (judge.clauses 𝓛 mem run) (
           (
             (κs.0, (ν₁ ∷ [], (ν₂ ∷ [], tt))),
@@ -341,14 +345,14 @@ module _ {M : Type 1} {𝓤 : Ura M} (𝓛 : Logic 𝓤) (mem : Memory → SProp
       (λ κs a. Unit {0}) (λ κs a g. fact_i 𝓤 (Unit {0}) (emp 𝓤) tt) (λ κs qs bounds a g are _ l. opens κs qs a are l)
 
 pub run_spec : {M : Type 1} → stated.statement M
-unfolding code.routine tables_of
-run_spec 𝓤 𝓛 𝓜 𝓡 =
-    entered 𝓤 𝓛.H (triple_of 𝓛 f.signature (f.spec 𝓛 𝓜.mem 𝓡.run))
-    (tables 𝓤 𝓛.H 𝓜 𝓡 code.env).C (tables 𝓤 𝓛.H 𝓜 𝓡 code.env).Λ #run·run code.function (code.unfolded 𝓤 𝓛.H 𝓜 𝓡)
-    (run_meets 𝓛 𝓜.mem 𝓡.run (tables_of 𝓤 𝓛.H 𝓜 (tables 𝓤 𝓛.H 𝓜 𝓡 code.env))
-    (cited 𝓤 𝓛.H _ 𝓜 𝓡 code.env judge.Symbol.name judge.Symbol.routine code.calls-run::judge (judge.Met.met 𝓤 𝓛 𝓜 𝓡))
-    (cited 𝓤 𝓛.H _ 𝓜 𝓡 code.env allowed.Symbol.name allowed.Symbol.routine code.calls-run::allowed (allowed.Met.met 𝓤 𝓛 𝓜 𝓡))
-    (cited 𝓤 𝓛.H _ 𝓜 𝓡 code.env ride'.Symbol.name ride'.Symbol.routine code.calls-run::ride (ride'.Met.met 𝓤 𝓛 𝓜 𝓡))
-    (cited 𝓤 𝓛.H _ 𝓜 𝓡 code.env store-report.Symbol.name store-report.Symbol.routine code.calls-run::store-report (store-report.Met.met 𝓤 𝓛 𝓜 𝓡))
-    (cited 𝓤 𝓛.H _ 𝓜 𝓡 code.env limit-after.Symbol.name limit-after.Symbol.routine code.calls-run::limit-after (limit-after.Met.met 𝓤 𝓛 𝓜 𝓡))
-    (cited 𝓤 𝓛.H _ 𝓜 𝓡 code.env answer.Symbol.name answer.Symbol.routine code.calls-run::answer (answer.Met.met 𝓤 𝓛 𝓜 𝓡)))
+unfolding tables_of
+run_spec 𝓤 𝓛 𝓜 𝓡 wired =
+    entered 𝓤 𝓛.H (triple_of 𝓛 f.signature (f.spec 𝓛 𝓜.mem 𝓡.returns))
+    (tables 𝓤 𝓛.H 𝓜 𝓡 𝓡.env).C (tables 𝓤 𝓛.H 𝓜 𝓡 𝓡.env).Λ f.Key.name code.function (code.unfolded 𝓤 𝓛.H 𝓜 𝓡 wired)
+    (run_meets 𝓛 𝓜.mem 𝓡.returns (tables_of 𝓤 𝓛.H 𝓜 (tables 𝓤 𝓛.H 𝓜 𝓡 𝓡.env))
+    (judge-met.met 𝓤 𝓛 𝓜 𝓡 (code.calls-run::judge 𝓡.env wired))
+    (allowed-met.met 𝓤 𝓛 𝓜 𝓡 (code.calls-run::allowed 𝓡.env wired))
+    (ride-met.met 𝓤 𝓛 𝓜 𝓡 (code.calls-run::ride 𝓡.env wired))
+    (store-report-met.met 𝓤 𝓛 𝓜 𝓡 (code.calls-run::store_report 𝓡.env wired))
+    (limit-after-met.met 𝓤 𝓛 𝓜 𝓡 (code.calls-run::limit_after 𝓡.env wired))
+    (answer-met.met 𝓤 𝓛 𝓜 𝓡 (code.calls-run::answer 𝓡.env wired)))

@@ -2,17 +2,15 @@
 -- of the row and stored to, and the borrow is closed at the list with the record in it.
 -- Assumes nothing.
 use types.Logic.{Logic}
-use denote.Slice.{shr_slice_at}
 use Rattle.learning.proofs.Words.{◌≡◌, refl, sym, ap, subst, ℕ, ◌<◌, ◌*◌, List, [], ◌∷◌, length, set, length-set, lit<}
 use Rattle.lending.proofs.Walking.{◌^◌, lt_trans, mul-lt-mul_of_pos_right, Ura, full_share, w64, ty_ptr, Val, vunit, vint, vptr, SProp, fat, Memory, Routine, WpFn, Tables, Fun}
 use Rattle.lending.proofs.Walking.{tables, tables_of, ‵, ◌$◌, !, move, drop, rewrite, fsplit, fjoin, feq_i, whole, sub, look_in, look, store_raw, init, forget, stop, hop, fld, from, load, lit}
-use Rattle.lending.proofs.Walking.{unit_lit, of_opd, bin, assigns, returns, pure_i, Is, shows, slice_val, Room, at-slice, place_is, elem_out, elem_put, opens_slice, closes_slice, owned, Meets}
+use Rattle.lending.proofs.Walking.{unit_lit, of_opd, bin, assigns, returns, pure_i, Is, shows, slice_val, Room, mut_slice_at, place_is, elem_out, elem_put, opens_slice, closes_slice, owned, Meets}
 use Rattle.lending.proofs.Walking.{triple_of, entered, emp, id⊢, fact_i, has, span, frees_all, here, ends, Param, list-kept, number_of, data_of, stays_all, goes_all, spells, tells_all, lawfuls, proves}
 use denote.Struct.Laws as LL
 use Rattle.answers.specs.declared.Report.{Report}
 use Rattle.answers.specs.contracts.Report as T
 use Rattle.answers.proofs.Report.TheLaws as T'
-use Rattle.run.specs.contracts.store_report.Key.{name as #run·store-report}
 use Rattle.run.specs.contracts.store_report as f
 use Rattle.run.proofs.store_report.Statement as stated
 use Rattle.run.proofs.store_report.Code as code
@@ -37,8 +35,8 @@ module _ {M : Type 1} {𝓤 : Ura M} (𝓛 : Logic 𝓤) (mem : Memory → SProp
       proves 𝓛 𝓣 code.function f.ended (f.clauses 𝓛 mem run) (stays_all params) (goes_all params) (spells params) (tells_all params) (lawfuls params) (λ κs a typed. typed)
       (λ κs a. a.1.0 < length a.0.now) (λ κs a g. id⊢ 𝓤 _)
       (λ κs qs bounds a g are within l.
-      let b : ℕ = a.0.ptr.0 in
-      let o : ℕ = a.0.ptr.1 in
+      let b : ℕ = a.0.ref_ptr.0 in
+      let o : ℕ = a.0.ref_ptr.1 in
       let ys : List Report = a.0.now in
       let i : ℕ = a.1.0 in
       let v : Report = a.1.1.0 in
@@ -62,7 +60,7 @@ module _ {M : Type 1} {𝓤 : Ura M} (𝓛 : Logic 𝓤) (mem : Memory → SProp
       returns ! (look ! 4 refl) $ forget ! 12 refl $ forget ! 14 refl $
       move ! (span 4 12) $ frees_all 𝓛 (code.function).locals l (has vunit ∷ has (slice_val (b, o) (length ys)) ∷ has (vint w64 i) ∷ has (mach v) ∷ []) ! $
       -- [obs; the borrow; the token; the slice's fact; what at and r own]
-      fjoin ! $ pure_i ! (shr_slice_at T.the_row (record { ref_ptr = (b, o); ghost_name = a.0.name; now = zs }) (slice_val (b, o) (length ys) ∷ [])) (tt, (tt, tt))
+      fjoin ! $ pure_i ! (mut_slice_at T.the_row (record { ref_ptr = (b, o); ghost_name = a.0.ghost_name; now = zs }) (slice_val (b, o) (length ys) ∷ [])) (tt, (tt, tt))
       (ap (λ (m : ℕ). slice_val (b, o) m ∷ []) (sym long), subst (Room T.the_row) (sym long) are.0.0.1) $ fjoin ! $
       feq_i ! (List Val) (vunit ∷ []) (vunit ∷ []) refl $ move ! (0 ∷ 2 ∷ 1 ∷ 4 ∷ 5 ∷ []) $
       ends 𝓛 f.ended (f.clauses 𝓛 mem run) ((κs, qs, bounds, a, (slice_val (b, o) (length ys) ∷ [], (vint w64 i ∷ [], (mach v ∷ [], tt)))), g) _ (stays_all params)
@@ -70,8 +68,8 @@ module _ {M : Type 1} {𝓤 : Ura M} (𝓛 : Logic 𝓤) (mem : Memory → SProp
       (here _ ∷ here _ ∷ here _ ∷ []) refl (fact_i 𝓤 _ (emp 𝓤) refl) !))
 
 pub store_report_spec : {M : Type 1} → stated.statement M
-unfolding code.routine tables_of
-store_report_spec 𝓤 𝓛 𝓜 𝓡 =
-    entered 𝓤 𝓛.H (triple_of 𝓛 f.signature (f.spec 𝓛 𝓜.mem 𝓡.run))
-    (tables 𝓤 𝓛.H 𝓜 𝓡 code.env).C (tables 𝓤 𝓛.H 𝓜 𝓡 code.env).Λ #run·store-report code.function (code.unfolded 𝓤 𝓛.H 𝓜 𝓡)
-    (store_report_meets 𝓛 𝓜.mem 𝓡.run (tables_of 𝓤 𝓛.H 𝓜 (tables 𝓤 𝓛.H 𝓜 𝓡 code.env)))
+unfolding tables_of
+store_report_spec 𝓤 𝓛 𝓜 𝓡 wired =
+    entered 𝓤 𝓛.H (triple_of 𝓛 f.signature (f.spec 𝓛 𝓜.mem 𝓡.returns))
+    (tables 𝓤 𝓛.H 𝓜 𝓡 𝓡.env).C (tables 𝓤 𝓛.H 𝓜 𝓡 𝓡.env).Λ f.Key.name code.function (code.unfolded 𝓤 𝓛.H 𝓜 𝓡 wired)
+    (store_report_meets 𝓛 𝓜.mem 𝓡.returns (tables_of 𝓤 𝓛.H 𝓜 (tables 𝓤 𝓛.H 𝓜 𝓡 𝓡.env)))

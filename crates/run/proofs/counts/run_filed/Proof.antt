@@ -2,11 +2,10 @@
 -- the call of `run`, and which is whole again after it (`Part` of lending).
 -- The array comes from one covered function and goes to another, so no element is touched here. Assumes nothing.
 use types.Logic.{Logic}
-use denote.Ref.{Bor}
 use Rattle.learning.proofs.Words.{◌≡◌, refl, ◌∙◌, ℕ, ◌*◌, ◌≤◌, ◌<◌, lt_of_le_of_lt, arith, List, [], ◌∷◌, ◌++◌, length, take, drop as past, length-take-le, lit<}
 use Rattle.lending.proofs.Walking.{◌^◌, T as Holds, Ura, full_share, named, w64, ty_array, Val, WT, has_ty, vint, SProp, id⊢, Lft, Memory, Routine, WpFn, Tables, Fun, tables}
-use Rattle.lending.proofs.Walking.{tables_of, ◌$◌, !, move, fsplit, feq_l, agg, whole, sub, look, store, init, stop, from, addr, of_opd, and_then, no_more, assigns, land, returns, FmC, fm_of}
-use Rattle.lending.proofs.Walking.{RattleType, Is, shows, Array, Array-Lawful, u8, u16, u32, u64, RefT, slice_val, Room, peeks, Meets, triple_of, entered, cited, part_at_lem, emp, fact_i, has, span}
+use Rattle.lending.proofs.Walking.{tables_of, ◌$◌, !, move, fsplit, fjoin, feq_l, agg, whole, sub, look, store, init, stop, from, addr, of_opd, and_then, no_more, assigns, land, returns, FmC, fm_of}
+use Rattle.lending.proofs.Walking.{RattleType, Is, shows, Array, Array-Lawful, uint_row_laws, w8, u8, u16, u32, u64, Bor, MutBor, slice_val, Room, peeks, Meets, triple_of, entered, part_at_lem, emp, fact_i, has, span}
 use Rattle.lending.proofs.Walking.{frees_all, Way, here, made, number, calls, ends, twice, held, reslices, lends_first, takes_first_back, Param, list_read, list_passed_on, number_of, data_of}
 use Rattle.lending.proofs.Walking.{look_in, stays_all, goes_all, spells, tells_all, lawfuls, proves}
 use denote.Struct.Laws as LL
@@ -25,18 +24,20 @@ use Rattle.answers.specs.contracts.Report as T
 use Rattle.answers.proofs.Report.TheLaws as T'
 use Rattle.answers.specs.contracts.Ran as R
 use Rattle.answers.proofs.Ran.TheLaws as R'
-use Rattle.run.proofs.counts.reports_of as reports-of
-use Rattle.run.proofs.run as run'
-use Rattle.run.proofs.counts.file as file'
-use Rattle.run.specs.contracts.counts.run_filed.Key.{name as #run·run-filed}
+use Rattle.run.specs.contracts.counts.reports_of as reports-of
+use Rattle.run.proofs.counts.reports_of.Met as reports-of-met
+use Rattle.run.specs.contracts.run as run'
+use Rattle.run.proofs.run.Met as run-met
+use Rattle.run.specs.contracts.counts.file as file'
+use Rattle.run.proofs.counts.file.Met as file-met
 use Rattle.run.specs.contracts.counts.run_filed as f
 use Rattle.run.proofs.counts.run_filed.Statement as stated
 use Rattle.run.proofs.counts.run_filed.Code as code
 
 module _ {M : Type 1} {𝓤 : Ura M} (𝓛 : Logic 𝓤) (mem : Memory → SProp 𝓤) (run : Routine → Fun 𝓤) (𝓣 : Tables 𝓤 𝓛.H)
-    (Known-of : Meets 𝓛 reports-of.signature (𝓣.C reports-of.Symbol.name) (reports-of.spec 𝓛 mem run))
-    (known-run : Meets 𝓛 run'.signature (𝓣.C run'.Symbol.name) (run'.spec 𝓛 mem run))
-    (known-file : Meets 𝓛 file'.signature (𝓣.C file'.Symbol.name) (file'.spec 𝓛 mem run)) where
+    (Known-of : Meets 𝓛 reports-of.signature (𝓣.C reports-of.Key.name) (reports-of.spec 𝓛 mem run))
+    (known-run : Meets 𝓛 run'.signature (𝓣.C run'.Key.name) (run'.spec 𝓛 mem run))
+    (known-file : Meets 𝓛 file'.signature (𝓣.C file'.Key.name) (file'.spec 𝓛 mem run)) where
   open 𝓛 use {H}
 
   abbrev params : List (Param 𝓛 4)
@@ -57,6 +58,9 @@ module _ {M : Type 1} {𝓤 : Ura M} (𝓛 : Logic 𝓤) (mem : Memory → SProp
   abbrev sv : Bor (List ℕ) → List Val
   sv x = slice_val x.ref_ptr (length x.now) ∷ []
 
+  abbrev mv : MutBor (List ℕ) → List Val
+  mv x = slice_val x.ref_ptr (length x.now) ∷ []
+
   run_filed_meets : Meets 𝓛 f.signature (WpFn 𝓤 H 𝓣.C 𝓣.Λ code.function) (f.spec 𝓛 mem run)
   run_filed_meets =
       proves 𝓛 𝓣 code.function f.ended (f.clauses 𝓛 mem run) (stays_all params) (goes_all params) (spells params) (tells_all params) (lawfuls params) (λ κs a typed. typed)
@@ -69,8 +73,8 @@ module _ {M : Type 1} {𝓤 : Ura M} (𝓛 : Logic 𝓤) (mem : Memory → SProp
       let fl : Bor (List ℕ) = a.1.0 in
       let start : ℕ = a.1.1.0 in
       let trials : ℕ = a.1.1.1.0 in
-      let tb : Bor (List ℕ) = a.1.1.1.1.0 in
-      let pa : Bor (List ℕ) = a.1.1.1.1.1.0 in
+      let tb : MutBor (List ℕ) = a.1.1.1.1.0 in
+      let pa : MutBor (List ℕ) = a.1.1.1.1.1.0 in
       let cs : Bor (List ℕ) = a.1.1.1.1.1.1.0 in
       let n : ℕ = a.1.1.1.1.1.1.1.0 in
       let n-fits : n < 2 ^ 64 = are.1.1.1.1.1.1.1.0.1 in
@@ -84,7 +88,7 @@ module _ {M : Type 1} {𝓤 : Ura M} (𝓛 : Logic 𝓤) (mem : Memory → SProp
       -- so local k is entry 8 + 2 k, and one more with the counts had twice
       move ! (36 ∷ 37 ∷ 38 ∷ 39 ∷ 41 ∷ 44 ∷ 45 ∷ 46 ∷ []) $
       -- `reports_of`
-      move ! (7 ∷ []) $ twice 𝓛 (named 3) κ₃ u64 cs $ move ! (5 ∷ []) $
+      move ! (7 ∷ []) $ twice 𝓛 (named 3) κ₃ u64 (uint_row_laws w64) cs $ move ! (5 ∷ []) $
       calls 𝓛 reports-of.ended (reports-of.clauses 𝓛 mem run) (((κ₃, tt), (qs.1.1.1.0, tt), tt, (cs, (n, tt)), (sv cs, (num n, tt))), tt) _ fm Known-of
       (here _ ∷ the-n ∷ []) refl (fact_i 𝓤 _ (emp 𝓤) lent) (λ xs ws. take n xs ≡ records cs.now n) (λ xs ws. id⊢ 𝓤 _) !
       (and_then ! (held ! 22 refl) (and_then ! (held ! 24 refl) (no_more !))) (λ w₁ xs _ is₁ given.
@@ -99,14 +103,14 @@ module _ {M : Type 1} {𝓤 : Ura M} (𝓛 : Logic 𝓤) (mem : Memory → SProp
       -- the first n of the array are lent, for a lifetime ν of the call
       move ! (27 ∷ 0 ∷ []) $ lends_first T.the_row (l 9) 𝓛 (named 3) tt 1001 n xs is₁.1.0.1 lent.few ! tt w₁ room (λ ν δ.
       -- `run`
-      move ! (8 ∷ []) $ twice 𝓛 (named 0) κ₀ u8 fl $ move ! (7 ∷ 8 ∷ 9 ∷ 2 ∷ 0 ∷ 10 ∷ 11 ∷ 3 ∷ []) $
+      move ! (8 ∷ []) $ twice 𝓛 (named 0) κ₀ u8 (uint_row_laws w8) fl $ move ! (7 ∷ 8 ∷ 9 ∷ 2 ∷ 0 ∷ 10 ∷ 11 ∷ 3 ∷ []) $
       calls 𝓛 run'.ended (run'.clauses 𝓛 mem run) (
         (
           (κ₀, (κs.1.0, (κs.1.1.0, (ν ∷ [], tt)))),
           (qs.0, (qs.1.0, (qs.1.1.0, (full_share, tt)))),
           tt,
           (job, (fl, (start, (trials, (tb, (pa, (part_at_lem T.the_row (l 9) δ (take n xs), tt))))))),
-          (sj, (sv fl, (num start, (num trials, (sv tb, (sv pa, (slice_val (l 9, 0) n ∷ [], tt))))))),
+          (sj, (sv fl, (num start, (num trials, (mv tb, (mv pa, (slice_val (l 9, 0) n ∷ [], tt))))))),
         ),
         tt,
       ) _ fm known-run
@@ -132,19 +136,19 @@ module _ {M : Type 1} {𝓤 : Ura M} (𝓛 : Logic 𝓤) (mem : Memory → SProp
       move ! (span 10 18 ++ 1 ∷ span 28 17) $
       frees_all 𝓛 (code.function).locals l (has _ ∷ has _ ∷ has _ ∷ has _ ∷ has _ ∷ has _ ∷ has _ ∷ has _ ∷ has _ ∷ has _ ∷ has _ ∷ has _ ∷ has _ ∷ has _ ∷ has _ ∷ has _ ∷ has _ ∷ has _ ∷ []) ! $
       -- [the result; three tokens; what is said of the table and of the path; the floor; the fourth token; the counts]
-      move ! (4 ∷ []) $ fsplit ! $ move ! (1 ∷ []) $ feq_l ! (λ same-t. move ! (5 ∷ []) $ fsplit ! $ move ! (1 ∷ []) $ feq_l ! (λ same-p. move ! (2 ∷ 3 ∷ 4 ∷ 5 ∷ 7 ∷ 6 ∷ 1 ∷ 0 ∷ 8 ∷ []) $
-      ends 𝓛 f.ended (f.clauses 𝓛 mem run) ((κs, qs, bounds, a, (sj, (sv fl, (num start, (num trials, (sv tb, (sv pa, (sv cs, (num n, tt))))))))), g) _ (stays_all params) w₄ r
+      move ! (4 ∷ []) $ fsplit ! $ fsplit ! $ move ! (1 ∷ []) $ feq_l ! (λ same-t. fjoin ! $ move ! (5 ∷ []) $ fsplit ! $ fsplit ! $ move ! (1 ∷ []) $ feq_l ! (λ same-p. fjoin ! $ move ! (2 ∷ 3 ∷ 4 ∷ 5 ∷ 7 ∷ 6 ∷ 1 ∷ 0 ∷ 8 ∷ []) $
+      ends 𝓛 f.ended (f.clauses 𝓛 mem run) ((κs, qs, bounds, a, (sj, (sv fl, (num start, (num trials, (mv tb, (mv pa, (sv cs, (num n, tt))))))))), g) _ (stays_all params) w₄ r
       (tt, (tt, (tt, (tt, (ts, (ps, (tt, (tt, tt)))))))) (tt, (tt, (tt, (tt, (same-t, (same-p, (tt, (tt, tt))))))))
       (the_job ∷ here _ ∷ the_start ∷ the_trials ∷ here _ ∷ here _ ∷ here _ ∷ the-n ∷ []) refl
       (fact_i 𝓤 _ (emp 𝓤) (filed job fl.now start trials tb.now pa.now cs.now n xs zs r.reports t r.answer ts ps said given
       (same-r ∙ length-take-le n xs (let e : length xs ≡ 1001 = is₁.1.0.1 in omega (arith, e, lent.few))) filing.0 filing.1)) !)))))))))
 
 pub run_filed_spec : {M : Type 1} → stated.statement M
-unfolding code.routine tables_of
-run_filed_spec 𝓤 𝓛 𝓜 𝓡 =
-    entered 𝓤 𝓛.H (triple_of 𝓛 f.signature (f.spec 𝓛 𝓜.mem 𝓡.run))
-    (tables 𝓤 𝓛.H 𝓜 𝓡 code.env).C (tables 𝓤 𝓛.H 𝓜 𝓡 code.env).Λ #run·run-filed code.function (code.unfolded 𝓤 𝓛.H 𝓜 𝓡)
-    (run_filed_meets 𝓛 𝓜.mem 𝓡.run (tables_of 𝓤 𝓛.H 𝓜 (tables 𝓤 𝓛.H 𝓜 𝓡 code.env))
-    (cited 𝓤 𝓛.H _ 𝓜 𝓡 code.env reports-of.Symbol.name reports-of.Symbol.routine code.calls-run::counts::reports-of (reports-of.Met.met 𝓤 𝓛 𝓜 𝓡))
-    (cited 𝓤 𝓛.H _ 𝓜 𝓡 code.env run'.Symbol.name run'.Symbol.routine code.calls-run::run (run'.Met.met 𝓤 𝓛 𝓜 𝓡))
-    (cited 𝓤 𝓛.H _ 𝓜 𝓡 code.env file'.Symbol.name file'.Symbol.routine code.calls-run::counts::file (file'.Met.met 𝓤 𝓛 𝓜 𝓡)))
+unfolding tables_of
+run_filed_spec 𝓤 𝓛 𝓜 𝓡 wired =
+    entered 𝓤 𝓛.H (triple_of 𝓛 f.signature (f.spec 𝓛 𝓜.mem 𝓡.returns))
+    (tables 𝓤 𝓛.H 𝓜 𝓡 𝓡.env).C (tables 𝓤 𝓛.H 𝓜 𝓡 𝓡.env).Λ f.Key.name code.function (code.unfolded 𝓤 𝓛.H 𝓜 𝓡 wired)
+    (run_filed_meets 𝓛 𝓜.mem 𝓡.returns (tables_of 𝓤 𝓛.H 𝓜 (tables 𝓤 𝓛.H 𝓜 𝓡 𝓡.env))
+    (reports-of-met.met 𝓤 𝓛 𝓜 𝓡 (code.calls-run::counts::reports_of 𝓡.env wired))
+    (run-met.met 𝓤 𝓛 𝓜 𝓡 (code.calls-run::run 𝓡.env wired))
+    (file-met.met 𝓤 𝓛 𝓜 𝓡 (code.calls-run::counts::file 𝓡.env wired)))
