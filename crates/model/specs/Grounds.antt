@@ -2,6 +2,7 @@
 -- So rings, w, true distances, routes and trials are those that `learning` computes and proves, over `price`.
 use Rattle.std.specs.Prelude.{ℕ, zero, suc, ◌+◌, ◌-◌, ◌≤◌, ◌<◌, ◌≡◌, refl, Bool, true, false, ◌&&◌, ◌||◌, List, T, leb, ltb}
 use Rattle.std.proofs.Common.{ap₂, ◌∙◌, add_comm, arith, ltb→lt}
+use Rattle.std.proofs.Math.Nat.{min_comm}
 use Rattle.learning.specs.Ground.{Ground, pick}
 use Rattle.model.specs.Basics.{member}
 use Rattle.model.specs.Floor.{Floor, size, column, row, free, slow, apart, diagonal, doubled, slowly, least_price, dearest_price, tariff, fare, corner, clear, price}
@@ -83,7 +84,7 @@ fare_same f t t' s s' a b e i =
     ap₂ (λ t s. fare_between f t s a b) e i ∙ ap₂ (fare t' s') (apart_comm (column f a) (column f b)) (apart_comm (row f a) (row f b))
 
 pub slowly_same : (f : Floor) (a b : ℕ) → slowly f a b ≡ slowly f b a
-slowly_same f a b = either_comm (slow f a) (slow f b)
+slowly_same f a b = cc (either_comm (slow f a) (slow f b), min_comm a b)
   where
     either_comm : (a b : Bool) → (a || b) ≡ (b || a)
     either_comm true true = refl
@@ -105,11 +106,11 @@ clear-corner f a b h = both_first (free f (corner f a b)) (free f (corner f b a)
 
 pub clear_same : (f : Floor) (a b : ℕ) → clear f a b ≡ clear f b a
 unfolding clear
-clear_same f a b = ap₂ ◌&&◌ (both_comm (free f a) (free f b)) (both_comm (free f (corner f a b)) (free f (corner f b a)))
+clear_same f a b = cc (both_comm (free f a) (free f b), both_comm (free f (corner f a b)) (free f (corner f b a)))
 
 pub clear-ends : (f : Floor) (a b : ℕ) → T (clear f a b) → T (free f a && free f b)
 unfolding clear
-clear-ends f a b = both_first (free f a && free f b) (free f (corner f a b) && free f (corner f b a))
+clear-ends f a b = both_first _ _
 
 pub clear-free : (f : Floor) (a b : ℕ) → T (clear f a b) → T (free f a)
 clear-free f a b h = both_first (free f a) (free f b) (clear-ends f a b h)
