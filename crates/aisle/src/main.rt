@@ -9,8 +9,10 @@ ghost use Rattle.journey.specs.Telling.{Ended};
 ghost use Rattle.aisle.specs.Answers.{opened_lines, Readied, Lent, Answered};
 
 use answers::{FloorRead, Job, Place, Refusal, Settings, Verdict};
-use libc::STDIN_FILENO;
 use line::{Line, print};
+
+// Standard input.
+const STDIN_FILENO: i32 = 0;
 
 // The rest of the checks on the opening table, and the trials.
 fn opened(

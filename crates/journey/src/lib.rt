@@ -17,8 +17,10 @@ ghost use Rattle.model.specs.Decision.{least_room};
 
 use answers::{Job, Report, Verdict};
 use decision::LEAST_ROOM;
-use libc::STDOUT_FILENO;
 use line::print;
+
+// Standard output.
+const STDOUT_FILENO: i32 = 1;
 
 // A part is handed to the C library to write: on standard output, and only the first bytes of the list; how many.
 fn hand_out(fd: i32, part: &[u8], out: &[u8]) -> usize

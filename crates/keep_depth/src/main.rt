@@ -11,9 +11,9 @@ ghost use Rattle.std.specs.Prelude.{◌≡◌, true, ◌≤◌, length};
 ghost use Rattle.keep_depth.specs.Parts.{at_once, kept_room, copies_room, Room, Stepped, Ended};
 
 use learner::{Place, Refusal};
-use libc::STDIN_FILENO;
 use lines::Reach;
 use notation::print;
+use std::io::{Read, Stdin};
 
 // The longest line that is of the form. A line of which so many bytes are there without an LF is malformed.
 const LONGEST_LINE: usize = 56;
@@ -96,7 +96,7 @@ fn at_end(held: usize, line: usize) -> End
 }
 
 // Copies standard input to its end. A loop has to end and nothing says that an input does, so the turns are counted down from a number that no input uses up.
-fn copy_all(kept: &mut [u8], part: &mut [u8], out: &mut [u8]) -> End
+fn copy_all(input: &mut Stdin, kept: &mut [u8], part: &mut [u8], out: &mut [u8]) -> End
     requires { (length kept.old ≡ kept_room) × (length part.old ≡ at_once) × (length out.old ≡ copies_room) }
     ensures { Ended result }
 {
@@ -104,15 +104,14 @@ fn copy_all(kept: &mut [u8], part: &mut [u8], out: &mut [u8]) -> End
     let mut line = 1;
     let mut turns = TURNS;
     while turns > 0 {
-        let got = libc::read(STDIN_FILENO, part);
-        if got < 0 {
-            return End::Unread;
-        }
+        let got = match input.read(part) {
+            Err(_) => return End::Unread,
+            Ok(n) => n,
+        };
         if got == 0 {
             return at_end(held, line);
         }
-        let n = io::count(got, part);
-        let s = copy_part(kept, held, &part[..n], line, out);
+        let s = copy_part(kept, held, &part[..got], line, out);
         if !stream::write(out, s.wrote) {
             return End::Unwritten;
         }
@@ -126,11 +125,12 @@ fn copy_all(kept: &mut [u8], part: &mut [u8], out: &mut [u8]) -> End
     End::Unread
 }
 
-fn main() {
+fn main(rt: HostRuntime) {
+    let mut input = rt.stdin();
     let mut kept = rooms::kept();
     let mut part = io::large_buffer();
     let mut out = rooms::copies();
-    match copy_all(&mut kept, &mut part, &mut out) {
+    match copy_all(&mut input, &mut kept, &mut part, &mut out) {
         End::Copied => {}
         End::Refused(r) => stream::refuse(r),
         End::Unread => stream::say(b"keep_depth: standard input could not be read\n"),

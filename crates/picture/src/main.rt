@@ -19,9 +19,11 @@ mod ways;
 use answers::Settings;
 use drawing::Page;
 use learner::{FloorRead, Job, Place, Ran, Refusal, Verdict};
-use libc::STDIN_FILENO;
 use line::Line;
 use runs::Outcome;
+
+// Standard input.
+const STDIN_FILENO: i32 = 0;
 
 // The line of a refusal.
 fn refuse(page: &mut Page, r: Refusal) -> usize {

@@ -14,7 +14,7 @@ ghost use Rattle.renew.specs.Kept.{Taken};
 ghost use Rattle.renew.specs.Answers.{Answered};
 
 use learner::Written;
-use libc::STDIN_FILENO;
+use std::io::{Read, Stdin};
 
 // What came of standard input: how many of its last bytes are held, and whether it was read to its end.
 #[derive(Clone, Copy)]
@@ -24,7 +24,7 @@ struct Input {
 }
 
 // Reads standard input to its end. A loop has to end and nothing says that an input does, so the turns are counted down from a number that no input uses up.
-fn take_in(kept: &mut [u8], part: &mut [u8]) -> Input
+fn take_in(input: &mut Stdin, kept: &mut [u8], part: &mut [u8]) -> Input
     requires { longest + length part.old ≤ length kept.old }
     ensures taken { Taken kept.new result.held }
     ensures prefix_len { IsPrefixLen result.held kept.new }
@@ -32,15 +32,22 @@ fn take_in(kept: &mut [u8], part: &mut [u8]) -> Input
     let mut held = 0;
     let mut turns = u64::MAX;
     while turns > 0 {
-        let got = libc::read(STDIN_FILENO, part);
-        if got <= 0 {
+        let got = match input.read(part) {
+            Err(_) => {
+                return Input {
+                    held: held,
+                    ended: false,
+                };
+            }
+            Ok(n) => n,
+        };
+        if got == 0 {
             return Input {
                 held: held,
-                ended: got == 0,
+                ended: true,
             };
         }
-        let n = io::count(got, part);
-        held = last::keep(kept, held, &part[..n]);
+        held = last::keep(kept, held, &part[..got]);
         turns -= 1;
     }
     Input {
@@ -73,11 +80,12 @@ fn tell(last: &[u8], out: &mut [u8]) {
     }
 }
 
-fn main() {
+fn main(rt: HostRuntime) {
+    let mut stdin = rt.stdin();
     let mut kept = rooms::kept();
     let mut part = io::large_buffer();
     let mut out = rooms::file();
-    let input = take_in(&mut kept, &mut part);
+    let input = take_in(&mut stdin, &mut kept, &mut part);
     if !input.ended {
         stream::say(b"renew: standard input could not be read\n");
         return;
