@@ -2,7 +2,7 @@
 -- Assumes nothing.
 use mathlib.Core.Path.{◌≡◌, ◌∙◌}
 use mathlib.Core.List.{List}
-use Prim.Native.Nat.{ℕ, zero, suc, ◌+◌, ◌-◌, ◌/◌, ◌%◌, ◌≤◌}
+use Prim.Native.Nat.{ℕ, zero, suc, ◌+◌, ◌/◌, ◌%◌, ◌≤◌}
 use native.Mathlib.Omega.{arith}
 use lib.ListN.{get_or, replicate, length-replicate, get_or-replicate}
 use Rattle.learning.specs.Ahead.{Window, Ahead}
@@ -12,7 +12,6 @@ use Rattle.learning.proofs.Sound.{ring_self}
 use Rattle.learning.proofs.Unique.{ring_unique}
 use Rattle.learning.proofs.Found.{found}
 use Rattle.answers.specs.declared.Job.{Job}
-use Rattle.model.specs.Floor.{size}
 use Rattle.model.specs.Checks.{deepest, ground_in}
 use Rattle.model.specs.Lookahead.{seen}
 use Rattle.model.proofs.Rings.{empty-full}
