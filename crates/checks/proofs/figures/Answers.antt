@@ -1,0 +1,12 @@
+-- `checks::figures` meets its contract. The invariant: no cell that was passed has a figure above the ceiling.
+use Rattle.learning.proofs.Words.{sym, ◌∙◌, arith}
+use Rattle.model.proofs.Accepted.{figures-names, figures-done}
+use Rattle.checks.proofs.figures.Goals as goal
+
+pub returns-then-table-x-gt-HIGHEST : goal.returns-then-table-x-gt-HIGHEST
+returns-then-table-x-gt-HIGHEST c f e =
+    c.refuse_at.ensures ∙ sym (figures-names f _ _ (omega arith) c.loop-x.invariant.1 c.if-table-x-gt-HIGHEST.true)
+
+pub returns : goal.returns
+returns c f e =
+    sym (figures-done f _ (λ k h. c.loop-x.invariant.1 k (omega arith)))
