@@ -1,7 +1,7 @@
 -- `line::scan` meets its contract. The loop's invariant: the numbers so far, with those of the bytes left, are the line's (`Scanning`), and they are seven at most.
-use Rattle.learning.proofs.Words.{◌-◌, rules, not-true, not-false, arith, length}
+use Rattle.learning.proofs.Words.{◌-◌, length}
 use Rattle.line.specs.Reading.{numbers_of, Goes}
-use Rattle.line.proofs.Laws.{Scanning, scanning_none, scanning_pushed, scanned_none, scanned_bad, scanned_eighth, scanned, refused, refused_beyond, goes, full}
+use Rattle.line.proofs.Laws.{Scanning}
 use Rattle.line.proofs.scan.Given as goal
 
 abbrev pub invariant-loop-i : goal.invariant-loop-i

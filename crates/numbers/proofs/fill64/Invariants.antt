@@ -1,7 +1,7 @@
 -- `numbers::fill64` meets its contract. The loop's invariant: `Filling`, reading on from here gives what reading the whole list gives.
 -- The same loop as for every width, by the laws of `Filling`.
-use Rattle.learning.proofs.Words.{◌-◌, arith, rules, not-true, not-false}
-use Rattle.numbers.proofs.Lists.{Filling, filling, filling-long, filling_off, filling_more, filling_all}
+use Rattle.learning.proofs.Words.{◌-◌}
+use Rattle.numbers.proofs.Lists.{Filling}
 use Rattle.numbers.proofs.fill64.Given as goal
 
 abbrev pub invariant-loop-i : goal.invariant-loop-i

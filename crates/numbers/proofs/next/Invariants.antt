@@ -1,7 +1,6 @@
 -- `numbers::next` meets its contract. The loop's invariant: what stands here is what stands at the first place.
-use Rattle.learning.proofs.Words.{◌-◌, ◌≡◌, length, drop, rules, not-true, not-false}
+use Rattle.learning.proofs.Words.{◌-◌, ◌≡◌, length, drop}
 use Rattle.numbers.specs.Reading.{number_from, number_at}
-use Rattle.numbers.proofs.Laws.{blanks-end, blanks_over, blanks_more}
 use Rattle.numbers.proofs.next.Given as goal
 
 abbrev pub invariant-loop-i : goal.invariant-loop-i

@@ -1,6 +1,6 @@
 -- `line::depth::first_line` meets its contract. The loop's invariant: `Counting`, so many numbers are read.
-use Rattle.learning.proofs.Words.{◌-◌, rules, not-true, not-false, arith, length}
-use Rattle.line.proofs.Depths.{Counting, counting, counting_more, first_unended, first_no_word, first_last}
+use Rattle.learning.proofs.Words.{◌-◌, length}
+use Rattle.line.proofs.Depths.{Counting}
 use Rattle.line.proofs.depth.first_line.Given as goal
 
 abbrev pub invariant-loop-i : goal.invariant-loop-i

@@ -1,7 +1,6 @@
 -- `line::print::moves` meets its contract. The loop's invariant: the first i bytes are written, and nothing else has changed.
-use Rattle.learning.proofs.Words.{◌-◌, ◌≤◌, ◌≡◌, arith, length, take, sets, rules}
+use Rattle.learning.proofs.Words.{◌-◌, ◌≤◌, ◌≡◌, length, take, sets}
 use Rattle.line.specs.Printing.{move_digits}
-use Rattle.line.proofs.Decimals.{moves_more, moves_all}
 use Rattle.line.proofs.print.moves.Given as goal
 
 abbrev pub invariant-loop-i : goal.invariant-loop-i

@@ -1,7 +1,7 @@
 -- `numbers::print::fields64` meets its contract. The loop's invariant: `Fields`, the first i entries are printed.
 -- The same loop as for every width, by the laws of `Fields`.
-use Rattle.learning.proofs.Words.{◌-◌, length, rules}
-use Rattle.numbers.proofs.Fields.{Fields, fields, fields_more, fields_all}
+use Rattle.learning.proofs.Words.{◌-◌, length}
+use Rattle.numbers.proofs.Fields.{Fields}
 use Rattle.numbers.proofs.print.fields64.Given as goal
 
 abbrev pub invariant-loop-i : goal.invariant-loop-i

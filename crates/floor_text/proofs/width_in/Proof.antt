@@ -1,7 +1,0 @@
--- `floor_text::width_in` meets its contract: by what it calls.
-use Rattle.learning.proofs.Words.{needs}
-use Rattle.floor_text.proofs.width_in as f
-use f.Tie as tie
-
-pub width_in_spec : {M : Type 1} → f.Statement.statement M
-width_in_spec = tie.close (tie.spec (search needs) (search needs) (search needs) (λ c. (cc, search needs)))
