@@ -1,6 +1,6 @@
 -- Document 02 on the default depth: "a converted line must print what it printed before. Lines that give a depth are copied byte for byte."
 -- The numbers of a line do not hang on the text after it, and the old depth ahead of its LF is one number more; so the two ways ask for the same. Assumes nothing.
-use Prim.Native.Nat.{ℕ, zero, suc, ◌+◌, ◌-◌, ◌≤◌}
+use Prim.Native.Nat.{ℕ, zero, suc, ◌-◌, ◌≤◌}
 use mathlib.Core.Path.{◌≡◌, refl, sym, ap, ◌∙◌}
 use mathlib.Core.Bool.{Bool, true, false}
 use mathlib.Core.Option.{Option, none, some}

@@ -22,7 +22,7 @@ use Rattle.model.specs.Basics.{member}
 use Rattle.model.specs.Floor.{Floor, size, Sized, free, price, ahead, allowed, heading, opposite}
 use Rattle.model.specs.Grounds.{ground_of, price_same}
 use Rattle.model.specs.Checks.{ceiling, floor_of, goals, sizes, path_room, settings, places, goals_hold, figures}
-use Rattle.model.specs.Lookahead.{seen, ring, w, empty_ring, target, route, moves_along, most_moves}
+use Rattle.model.specs.Lookahead.{seen, ring, w, empty_ring, route, moves_along, most_moves}
 use Rattle.model.specs.Decision.{at_goal, moves_room, judge, Deed, unchanged, refused, rise, forward, forward_by, back_out, back_out_by, stay, go_back, act, laid, Outcome, decide, least_room}
 use Rattle.model.specs.Opening.{open_trial}
 use Rattle.model.specs.Ride.{Ride, begun, next, next_by, ride_from, ride_from_by, bound, ride, ride_by}

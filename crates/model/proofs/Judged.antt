@@ -22,7 +22,7 @@ use Rattle.answers.specs.declared.Verdict.TheVariants as Vd
 use Rattle.model.specs.Basics.{every, member, distinct, unless}
 use Rattle.model.specs.Floor.{size, free}
 use Rattle.model.specs.Grounds.{price-free}
-use Rattle.model.specs.Checks.{ceiling, floor_of, goals, ground_in, settings, places, figures}
+use Rattle.model.specs.Checks.{ceiling, floor_of, goals, ground_in, places, figures}
 use Rattle.model.specs.Decision.{at_goal, on_path, moves_room, state_holds, judge, least_room}
 use Rattle.model.specs.Ride.{learning_job}
 use Rattle.model.proofs.Moves.{is_true}

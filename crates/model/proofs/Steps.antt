@@ -15,7 +15,7 @@ use Rattle.learning.specs.Walk.{Network}
 use Rattle.learning.specs.Trial as learning
 use Rattle.learning.specs.Trial.{CanReach, LooksAhead, LeadsOn, raised}
 use Rattle.learning.specs.Path.{Linked, All, end, also}
-use Rattle.learning.specs.Ground.{Goal, net_of, ring_of, last_of, leg_of}
+use Rattle.learning.specs.Ground.{net_of, ring_of, last_of, leg_of}
 use Rattle.learning.proofs.Walks.{turn}
 use Rattle.learning.proofs.Paths.{all_init, all_last, linked_last}
 use Rattle.learning.proofs.Decision.{raised_greater, raised_not}
