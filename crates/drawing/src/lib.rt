@@ -7,15 +7,17 @@
 
 ghost use Rattle.std.specs.Prelude.{◌≤◌, length};
 
-use libc::STDOUT_FILENO;
 use line::print;
+
+// Standard output, as the operating system numbers it.
+const STDOUT: i32 = 1;
 
 pub type Page = [u8; 65536];
 
 // What stands before a place of a list is written out.
 fn write_front(list: &[u8], at: usize) {
     if at <= list.len() {
-        io::write_all(STDOUT_FILENO, &list[..at]);
+        io::write_all(STDOUT, &list[..at]);
     }
 }
 

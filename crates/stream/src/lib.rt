@@ -5,8 +5,12 @@
 ghost use Rattle.std.specs.Prelude.{◌≡◌, ◌++◌, ◌+◌, ◌≤◌, length, take, drop};
 
 use answers::Refusal;
-use libc::{STDERR_FILENO, STDOUT_FILENO};
 use line::print;
+
+// The two outputs, as the operating system numbers them.
+const STDOUT: i32 = 1;
+
+const STDERR: i32 = 2;
 
 // Moves n bytes, from a place on, to the front.
 pub fn to_front(list: &mut [u8], from: usize, n: usize)
@@ -24,12 +28,12 @@ pub fn to_front(list: &mut [u8], from: usize, n: usize)
 pub fn write(out: &[u8], n: usize) -> bool
     requires { n ≤ length out.now }
 {
-    io::write_all(STDOUT_FILENO, &out[..n])
+    io::write_all(STDOUT, &out[..n])
 }
 
 // A line on standard error.
 pub fn say(words: &[u8]) {
-    io::write_all(STDERR_FILENO, words);
+    io::write_all(STDERR, words);
 }
 
 // The one line of a refusal, on standard error.
