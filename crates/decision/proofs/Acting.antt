@@ -19,9 +19,9 @@ use Rattle.answers.specs.declared.Verdict.TheVariants as Vd
 use Rattle.answers.specs.declared.Decided.{Decided}
 use Rattle.answers.specs.Says.{says_answer}
 use Rattle.model.specs.Basics.{member}
-use Rattle.model.specs.Floor.{size, free}
+use Rattle.model.specs.Floor.{free}
 use Rattle.model.specs.Checks.{ceiling, floor_of, goals}
-use Rattle.model.specs.Lookahead.{seen, ring, w, empty_ring, target}
+use Rattle.model.specs.Lookahead.{seen, ring, w, empty_ring}
 use Rattle.model.specs.Decision.{Deed, at_goal, refused, rise, stored, forward, forward_by, back_out, back_out_by, stay, go_back, learn, act, outcome_of, decide, laid}
 use Rattle.model.proofs.Accepted.{Settings, never}
 use Rattle.model.proofs.Moves.{sized-cells, free-below, free_few}
