@@ -22,7 +22,7 @@ use Rattle.model.specs.Opening.{open_trial, open_run}
 use Rattle.model.specs.Ride.{Ride, ride, report, Course, course_from, course_from_by, RunOutcome, run_of, run, run_by}
 use Rattle.model.proofs.Openings.{accepted-trial, ready-run}
 use Rattle.model.proofs.Demand.{trial_stays_accepted}
-use Rattle.run.specs.Trials.{none, Rode, IsRun, allowed_by, limit_after, answered}
+use Rattle.run.specs.Trials.{Rode, IsRun, allowed_by, limit_after, answered}
 
 -- a run that is over
 abbrev over : (made : ℕ) → (settled : Bool) → (table path : List ℕ) → List Report → RunOutcome
