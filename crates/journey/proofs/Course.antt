@@ -13,7 +13,7 @@ use Rattle.learning.specs.Ground.{pick}
 use Rattle.answers.specs.declared.Job.{Job}
 use Rattle.answers.specs.declared.Verdict.TheVariants as Vd
 use Rattle.model.specs.Opening.{open_trial}
-use Rattle.model.specs.Ride.{Ride, ride, report, course_from}
+use Rattle.model.specs.Ride.{Ride, ride, course_from}
 use Rattle.model.specs.FloorText.{LF}
 use Rattle.model.specs.Line.{field, settled_word, trial_line, trial_lines, course_lines}
 use Rattle.model.proofs.Rides.{course_none, course_settled, course_again}
