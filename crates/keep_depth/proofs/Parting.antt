@@ -14,7 +14,7 @@ use Rattle.model.specs.Basics.{refuse_at}
 use Rattle.model.specs.KeepDepth.{Unended, lines_of, ahead, copy_lines, longest_line, keep_depth}
 use Rattle.model.proofs.Accepted.{never}
 use Rattle.model.proofs.Parts.{drop-cut}
-use Rattle.model.proofs.CopiedLines.{stopped, none_left, unended_stops, long_stops}
+use Rattle.model.proofs.CopiedLines.{none_left, unended_stops, long_stops}
 use Rattle.notation.specs.Printing.{Printed}
 use Rattle.notation.proofs.Decimals.{printed_front}
 use Rattle.keep_depth.specs.declared.lines.Reach.{Reach}
