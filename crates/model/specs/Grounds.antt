@@ -83,6 +83,7 @@ pub fare_same : (f : Floor) (t t' s s' : Bool) (a b : ℕ) → t ≡ t' → s �
 fare_same f t t' s s' a b e i =
     ap₂ (λ t s. fare_between f t s a b) e i ∙ ap₂ (fare t' s') (apart_comm (column f a) (column f b)) (apart_comm (row f a) (row f b))
 
+-- (`min_comm` takes no part, but for the wrong edit by which one end alone counts: with it this file can be read all the same)
 pub slowly_same : (f : Floor) (a b : ℕ) → slowly f a b ≡ slowly f b a
 slowly_same f a b = cc (either_comm (slow f a) (slow f b), min_comm a b)
   where

@@ -1,12 +1,12 @@
 // Numbers and words written into a lent list, one after another.
 ghost use Rattle.std.specs.Prelude.{◌+◌, ◌≤◌, ◌<◌, length, [], ◌∷◌};
-ghost use Rattle.model.specs.Line.{decimal as decimalOf, field as field_of};
+ghost use Rattle.model.specs.Line.{decimal as decimal_of, field as field_of};
 ghost use Rattle.notation.specs.Printing.{Printed};
 
 // The number n from the place `at` on; the place after it.
 pub fn decimal(out: &mut [u8], at: usize, n: usize) -> usize
-    requires { at + length (decimalOf n) ≤ length out.old }
-    ensures { Printed out.old at (decimalOf n) out.new result }
+    requires { at + length (decimal_of n) ≤ length out.old }
+    ensures { Printed out.old at (decimal_of n) out.new result }
 {
     if n <= 9 {
         out[at] = (48 + n) as u8;
