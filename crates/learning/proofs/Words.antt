@@ -4,7 +4,7 @@ pub use borrow.Author.Count.{below_more}
 pub use borrow.Author.Rules.{rules}
 pub use borrow.Author.Tests.{not-true, not-false, ne_eqb, eq-eqb, le-ltb, lt-ltb, le-leb, lt-leb}
 pub use lib.Dec.{lit<, eqb, ltb, lit≤, leb}
-pub use lib.ListN.{length, get_or, length-set, take, drop, set, get_or-eq_default as List·getD-eq-default, length-replicate, length-drop, replicate, length-take, length-append}
+pub use lib.ListN.{length, get_or, length-set, take, drop, set, get_or-eq_default, length-replicate, length-drop, replicate, length-take, length-append}
 pub use lib.Seq.{length-take-le, sets, set-get_or, set_out}
 pub use mathlib.Core.Bool.{true, false, Bool, ◌||◌, ◌&&◌, true≢false}
 pub use mathlib.Core.List.{List, ◌++◌, [], ◌∷◌}

@@ -26,8 +26,8 @@ pub use ghost.Atoms.{Atoms}
 pub use base.Fraction.{full_share}
 pub use seplogic.Ra.Ura.{Ura}
 pub use lib.Dec.{T}
-pub use lib.WfN.{lt-wf_rel as Nat·lt-wfRel}
-pub use mathlib.Core.WellFounded.InvImage.{wf as InvImage·wf}
+pub use lib.WfN.{lt-wf_rel}
+pub use mathlib.Core.WellFounded.InvImage.{wf as inv_image_wf}
 pub use mathlib.Core.WellFounded.{WellFounded}
 pub use mir.Syntax.{named, w8, w64, ty_int, ty_bool, ty_array, ty_ptr}
 pub use mir.Val.{Val, WT, has_ty, vbool, vint, vunit, vptr}

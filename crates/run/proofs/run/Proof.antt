@@ -3,7 +3,7 @@
 -- The invariant and all that it gives are laws of `Course.antt`; all that the walk knows of the callees is that each meets its contract. Assumes nothing.
 use types.Logic.{Logic}
 use Rattle.learning.proofs.Words.{◌≡◌, refl, sym, ◌∙◌, ap, subst, ℕ, ◌+◌, ◌≤◌, ◌<◌, lt_of_le_of_lt, arith, Bool, true, false, List, [], ◌∷◌, length, set, ltb, lit<}
-use Rattle.lending.proofs.Walking.{◌^◌, WellFounded, InvImage·wf, Nat·lt-wfRel, T as Holds, ltb-true, ltb-false, Ura, full_share, named, w64, ty_int, ty_bool, Val, WT, has_ty, vbool, vint, SProp, emp}
+use Rattle.lending.proofs.Walking.{◌^◌, WellFounded, inv_image_wf, lt-wf_rel, T as Holds, ltb-true, ltb-false, Ura, full_share, named, w64, ty_int, ty_bool, Val, WT, has_ty, vbool, vint, SProp, emp}
 use Rattle.lending.proofs.Walking.{id⊢, fat, flft, Memory, Routine, Out, Env, after_seq, after_block, after_turn, Calls, Loops, Wp, at_return, WpFn, Tables, Fun, tables, tables_of}
 use Rattle.lending.proofs.Walking.{Item, ‵, runs, any_q, at_ret, Sq, ◌$◌, !, move, keep, rewrite, drop, whole, sub, look_in, look, store, init, forget, stop, fld, from, load, lit, of_opd, bin}
 use Rattle.lending.proofs.Walking.{and_then, no_more, assigns, assigns_last, first, blocks, stays, leaves_loop, land, returns, exec, Below, again, loops, FmC, fm_of, RattleType, Is, Ises, Are, valss}
@@ -166,7 +166,7 @@ module _ {M : Type 1} {𝓤 : Ura M} (𝓛 : Logic 𝓤) (mem : Memory → SProp
     Nearer v k i = left v k < left v i
 
     Nearer_wf : (v : Verdict) → WellFounded (Nearer v)
-    Nearer_wf v = InvImage·wf (left v) Nat·lt-wfRel.wf
+    Nearer_wf v = inv_image_wf (left v) lt-wf_rel.wf
 
     abbrev stand : (v : Verdict) → v ≡ verdict → Here v
     stand v e = record {
