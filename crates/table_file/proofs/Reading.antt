@@ -14,11 +14,14 @@ use Rattle.answers.specs.declared.Verdict.TheVariants as Vd
 use Rattle.model.specs.Basics.{refuse_at}
 use Rattle.model.specs.Floor.{Floor, size, goals_of}
 use Rattle.model.specs.TableFile.{second_long, edition_in, count_in, back_in, trailer_holds, check_trailer, find_records, goal_place}
-use Rattle.model.specs.TableFile.{cell_in, figure_in, record_fault, judge_records, applied, read_verdict}
+use Rattle.model.specs.TableFile.{cell_in, figure_in, record_fault, judge_records, judge_table, applied, check_ahead, read_verdict}
 use Rattle.model.specs.Opening.{open_table}
 use Rattle.model.proofs.Parts.{rest}
 use Rattle.model.proofs.Files.{Openable, openable, read-gives, judge_more, judge-stop, trailer_tells, trailer_judges, Pointed, pointed, found, found-long}
+use Rattle.table_file.specs.declared.Site.{Site}
+use Rattle.table_file.specs.Site.{floor_at, goals_at}
 use Rattle.table_file.specs.Promises.{Opened}
+use Rattle.learning.proofs.Words.{le-leb}
 
 -- ---- what an opened table gives
 
@@ -51,6 +54,12 @@ module _ (file : List ℕ) where
 
   pub records-long : (n : ℕ) (part : List ℕ) → n ≡ count_in file → part ≡ find_records file → trailer_holds file ≡ true → n * 6 ≤ length part
   records-long n part a b e = rw (a, b) (omega (arith, found-long file ((trailer_tells file).holds e)))
+
+-- once nothing stands ahead of the records, the table that the trailer points to decides
+pub by_table : (s : Site) (floor file : List ℕ) (figures : ℕ) → length file ≤ back_in file → open_table (floor_at s floor) s.q s.goals figures ≡ Vd.Done → trailer_holds file ≡ true
+    → read_verdict (floor_at s floor) s.q s.goals file figures ≡ judge_table (floor_at s floor) s.q (goals_at s) file
+unfolding read_verdict check_trailer check_ahead
+by_table s floor file figures l o h = rw (o, h, le-leb _ _ l)
 
 -- ---- the job that it names
 

@@ -1,26 +1,19 @@
 -- `table_file::reader::judge_read` meets its contract: one check after another, and the first refusal stands.
-use Rattle.learning.proofs.Words.{◌≡◌, sym, ◌∙◌, true, le-leb, lt-leb}
+use Rattle.learning.proofs.Words.{◌≡◌, sym, ◌∙◌, true, arith, lt-leb}
 use Rattle.answers.specs.declared.Verdict.TheVariants.{Done}
 use Rattle.model.specs.Opening.{open_table}
-use Rattle.model.specs.TableFile.{trailer_holds, check_trailer, check_ahead, judge_table, read_verdict}
+use Rattle.model.specs.TableFile.{trailer_holds, check_trailer, check_ahead, read_verdict}
 use Rattle.model.proofs.Accepted.{then_stops, then_goes}
-use Rattle.table_file.specs.Site.{floor_at, goals_at}
-use Rattle.table_file.proofs.Reading.{opened, ending-room, records-long}
+use Rattle.table_file.specs.Site.{floor_at}
+use Rattle.table_file.proofs.Reading.{opened, ending-room, records-long, by_table}
 use Rattle.table_file.proofs.reader.judge_read.Goals as goal
-use Rattle.table_file.proofs.reader.judge_read.Goals.{Else-back_in-file, Else-not-trailer_holds, In-Done}
+use Rattle.table_file.proofs.reader.judge_read.Goals.{Else-not-trailer_holds, In-Done}
 
 opens : (e : In-Done) → let a = e.args in open_table (floor_at a.site a.floor.now) a.site.q a.site.goals a.figures ≡ Done
 opens e = sym e.open_table-v.ensures ∙ e.in-Done.is
 
 holds : (e : Else-not-trailer_holds) → trailer_holds e.args.file.now ≡ true
 holds e = sym e.trailer_holds.ensures ∙ e.if-not-trailer_holds.false
-
--- once nothing stands ahead, the table that the trailer points to decides
-by_table : (e : Else-back_in-file) → let a = e.args in let f = floor_at a.site a.floor.now in
-    open_table f a.site.q a.site.goals a.figures ≡ Done → trailer_holds a.file.now ≡ true
-    → read_verdict f a.site.q a.site.goals a.file.now a.figures ≡ judge_table f a.site.q (goals_at a.site) a.file.now
-unfolding read_verdict check_trailer check_ahead
-by_table e o h = rw (o, h, ← e.back_in.ensures, le-leb _ _ e.if-back_in-file.false)
 
 pub returns-in_default : goal.returns-in_default
 unfolding check_trailer read_verdict
@@ -45,7 +38,7 @@ returns-then-back_in-file c =
 pub returns-in_default-v : goal.returns-in_default-v
 unfolding check_trailer read_verdict
 returns-in_default-v c =
-    rw (by_table (goal.at.returns-in_default-v c).Else-back_in-file (opens (goal.at.returns-in_default-v c).In-Done) (holds (goal.at.returns-in_default-v c).Else-not-trailer_holds)) (search (then_stops, c.same_job-v.ensures))
+    rw (by_table _ _ _ _ (omega (arith, c.back_in.ensures)) (opens (goal.at.returns-in_default-v c).In-Done) (holds (goal.at.returns-in_default-v c).Else-not-trailer_holds)) (search (then_stops, c.same_job-v.ensures))
 
 pub count_in-n-requires : goal.count_in-n-requires
 count_in-n-requires c =
@@ -62,5 +55,5 @@ judge_records-requires-clause-fact_2 c =
 pub returns : goal.returns
 unfolding check_trailer read_verdict
 returns c =
-    rw (by_table (goal.at.returns c).Else-back_in-file (opens (goal.at.returns c).In-Done) (holds (goal.at.returns c).Else-not-trailer_holds), ← c.count_in-n.ensures.0, ← c.find_records.ensures.part)
+    rw (by_table _ _ _ _ (omega (arith, c.back_in.ensures)) (opens (goal.at.returns c).In-Done) (holds (goal.at.returns c).Else-not-trailer_holds), ← c.count_in-n.ensures.0, ← c.find_records.ensures.part)
     (search (then_goes, c.same_job-v.ensures))
