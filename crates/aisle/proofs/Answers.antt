@@ -12,10 +12,8 @@ use Rattle.answers.specs.declared.Job.{Job}
 use Rattle.answers.specs.declared.Place.TheVariants as P
 use Rattle.answers.specs.declared.Refusal.{Refusal}
 use Rattle.answers.specs.declared.Settings.{Settings}
-use Rattle.answers.specs.declared.Verdict.{Verdict}
-use Rattle.answers.specs.declared.Verdict.TheVariants as Vd
-use Rattle.answers.specs.declared.FloorRead.{FloorRead}
-use Rattle.answers.specs.declared.FloorRead.TheVariants as Fr
+use Rattle.answers.specs.Outcomes.{Verdict, FloorRead, read_sizes}
+use Rattle.std.specs.Prelude.{Ok, Err}
 use Rattle.answers.proofs.One.{floor_one}
 use Rattle.model.specs.Basics.{then}
 use Rattle.model.specs.Floor.{size, one_goal, opening, opening_table}
@@ -56,10 +54,10 @@ module _ (j : Job) (bytes : List ℕ) (start trials : ℕ) (path : List ℕ) (R 
   unfolding opening_table
   long = list_length (size (floor_of j bytes)) (opening (floor_of j bytes) j.q (goals j))
 
-  sizes-done : (n : ℕ) → n ≡ size (floor_of j bytes) → sizes (floor_of j bytes) n ≡ Vd.Done
+  sizes-done : (n : ℕ) → n ≡ size (floor_of j bytes) → sizes (floor_of j bytes) n ≡ Ok tt
   sizes-done n e = (sizes_judges (floor_of j bytes) n).done (R.sized, e)
 
-  scale-done : scale j.q ≡ Vd.Done
+  scale-done : scale j.q ≡ Ok tt
   scale-done = let s = (settings_judges j).gives R.holds in (scale_judges j.q).done (omega (arith, s.light, s.weight), s.fine)
 
   job_is : open_job j bytes start (opening_table (floor_of j bytes) j.q (goals j)) ≡ accepts j bytes start (opening_table (floor_of j bytes) j.q (goals j))
@@ -67,17 +65,17 @@ module _ (j : Job) (bytes : List ℕ) (start trials : ℕ) (path : List ℕ) (R 
   job_is = then_next _ (sizes-done _ long) ∙ then_next _ R.holds
 
   -- a goal is off the floor or blocked: 4
-  fill-refuses : {figures : ℕ} {f : Refusal} → figures ≡ size (floor_of j bytes) → open_table (floor_of j bytes) j.q j.goals figures ≡ Vd.Refused f
-      → open_job j bytes start (opening_table (floor_of j bytes) j.q (goals j)) ≡ Vd.Refused f
+  fill-refuses : {figures : ℕ} {f : Refusal} → figures ≡ size (floor_of j bytes) → open_table (floor_of j bytes) j.q j.goals figures ≡ Err f
+      → open_job j bytes start (opening_table (floor_of j bytes) j.q (goals j)) ≡ Err f
   unfolding open_table accepts
   fill-refuses {figures} {f} n e = job_is ∙ then_refused _ (by (benches (floor_of j bytes) (goals j)) refl)
     where
-      off : then (benches (floor_of j bytes) (goals j)) (goals_hold j.goals) ≡ Vd.Refused f
+      off : then (benches (floor_of j bytes) (goals j)) (goals_hold j.goals) ≡ Err f
       off = sym (then_next _ (sizes-done figures n) ∙ then_next _ scale-done) ∙ e
 
-      by : (v : Verdict) → benches (floor_of j bytes) (goals j) ≡ v → places (floor_of j bytes) start (goals j) ≡ Vd.Refused f
-      by Vd.Done t = not_refused R.order (sym (then_next _ t) ∙ off)
-      by (Vd.Refused g) t =
+      by : (v : Verdict) → benches (floor_of j bytes) (goals j) ≡ v → places (floor_of j bytes) start (goals j) ≡ Err f
+      by (Ok _) t = not_refused R.order (sym (then_next _ t) ∙ off)
+      by (Err g) t =
           let blocked : AllFree (floor_of j bytes) (goals j) → ⊥ = λ h. not_refused ((bench_judges (floor_of j bytes) (goals j)).done h) t in
           (places_judges (floor_of j bytes) start (goals j)).refused (λ h. blocked h.1)
           ∙ sym ((bench_judges (floor_of j bytes) (goals j)).refused blocked) ∙ t ∙ sym (then_refused _ t) ∙ off
@@ -92,23 +90,23 @@ module _ (j : Job) (bytes : List ℕ) (start trials : ℕ) (path : List ℕ) (R 
       ∙ sym job_is
 
   module _ {lent after : List ℕ} {v : Verdict} (F : Fills (floor_of j bytes) j.q j.goals lent v after) (n : length lent ≡ size (floor_of j bytes)) where
-    pub fill-refused : {out out' : List ℕ} {at : ℕ} {f : Refusal} → v ≡ Vd.Refused f → Ended out 0 (refusal_line f) out' at → Ended out 0 (opened_lines j bytes start trials path) out' at
+    pub fill-refused : {out out' : List ℕ} {at : ℕ} {f : Refusal} → v ≡ Err f → Ended out 0 (refusal_line f) out' at → Ended out 0 (opened_lines j bytes start trials path) out' at
     fill-refused e h = told_as (ap (λ u. told_of u j bytes start trials (opening_table (floor_of j bytes) j.q (goals j)) path) (sym (fill-refuses n (sym F.answer.is ∙ e)))) h
 
     -- the table is the opening one
-    pub fill_is : v ≡ Vd.Done → after ≡ opening_table (floor_of j bytes) j.q (goals j)
+    pub fill_is : v ≡ Ok tt → after ≡ opening_table (floor_of j bytes) j.q (goals j)
     fill_is e = F.left ∙ ap (λ u. filled u (floor_of j bytes) j.q j.goals lent) (sym F.answer.is ∙ e)
 
-    module _ {w : Verdict} (done : v ≡ Vd.Done) (places : length path ≡ size (floor_of j bytes)) (O : w ≡ open_trial j bytes start after path) where
+    module _ {w : Verdict} (done : v ≡ Ok tt) (places : length path ≡ size (floor_of j bytes)) (O : w ≡ open_trial j bytes start after path) where
       judged : open_job j bytes start (opening_table (floor_of j bytes) j.q (goals j)) ≡ w
       judged = sym (trial_is places) ∙ ap (λ t. open_trial j bytes start t path) (sym (fill_is done)) ∙ sym O
 
-      pub open-refused : {out out' : List ℕ} {at : ℕ} {f : Refusal} → w ≡ Vd.Refused f → Ended out 0 (refusal_line f) out' at → Ended out 0 (opened_lines j bytes start trials path) out' at
+      pub open-refused : {out out' : List ℕ} {at : ℕ} {f : Refusal} → w ≡ Err f → Ended out 0 (refusal_line f) out' at → Ended out 0 (opened_lines j bytes start trials path) out' at
       open-refused e h = told_as (ap (λ u. told_of u j bytes start trials (opening_table (floor_of j bytes) j.q (goals j)) path) (sym (judged ∙ e))) h
 
-      pub open_told : {out out' : List ℕ} {at : ℕ} → w ≡ Vd.Done → Ended out 0 (told_of Vd.Done j bytes start trials after path) out' at → Ended out 0 (opened_lines j bytes start trials path) out' at
+      pub open_told : {out out' : List ℕ} {at : ℕ} → w ≡ Ok tt → Ended out 0 (told_of (Ok tt) j bytes start trials after path) out' at → Ended out 0 (opened_lines j bytes start trials path) out' at
       open_told e h =
-          told_as (ap (λ t. told_of Vd.Done j bytes start trials t path) (fill_is done) ∙ ap (λ u. told_of u j bytes start trials (opening_table (floor_of j bytes) j.q (goals j)) path)
+          told_as (ap (λ t. told_of (Ok tt) j bytes start trials t path) (fill_is done) ∙ ap (λ u. told_of u j bytes start trials (opening_table (floor_of j bytes) j.q (goals j)) path)
           (sym (judged ∙ e))) h
 
 -- ---- the settings
@@ -135,7 +133,7 @@ part-told s w h bytes few t = told_as (ap (λ p. opened_lines (job_in s w h) byt
 
 -- a floor text that is read
 pub record Read (text : List ℕ) (w h : ℕ) (bytes : List ℕ) : Type 0 where
-  pub done : floor_verdict text 4096 ≡ Vd.Done
+  pub done : floor_verdict text 4096 ≡ Ok tt
   pub width : w ≡ width_in text
   pub height : h ≡ height_in text
   pub wide : 1 ≤ w
@@ -155,22 +153,22 @@ module _ (text buffer after : List ℕ) (r : FloorRead) (room : length buffer �
   unfolding read_floor
   after_is = h.buffer ∙ ap (λ (n : ℕ). (floor_from (floor_verdict text n) text buffer).buffer) room
 
-  read-refuses : (f : Refusal) → r ≡ Fr.Refused f → floor_verdict text 4096 ≡ Vd.Refused f
+  read-refuses : (f : Refusal) → r ≡ Err f → floor_verdict text 4096 ≡ Err f
   read-refuses f e = by (floor_verdict text 4096) (sym answer_is ∙ e)
     where
-      by : (v : Verdict) → (floor_from v text buffer).answer ≡ Fr.Refused f → v ≡ Vd.Refused f
-      by Vd.Done z = let y : ◌≡◌ {A = ℕ} 0 1 = cc in absurd (omega arith)
-      by (Vd.Refused g) z = cc
+      by : (v : Verdict) → (floor_from v text buffer).answer ≡ Err f → v ≡ Err f
+      by (Ok _) z = let y : ◌≡◌ {A = ℕ} 0 1 = cc in absurd (omega arith)
+      by (Err g) z = cc
 
-  reads : (w k : ℕ) → r ≡ Fr.Sizes w k → Read text w k (take (w * k) after)
+  reads : (w k : ℕ) → r ≡ read_sizes w k → Read text w k (take (w * k) after)
   reads w k e = by (floor_verdict text 4096) refl
     where
       by : (v : Verdict) → floor_verdict text 4096 ≡ v → Read text w k (take (w * k) after)
-      by (Vd.Refused g) z =
-          let d : Fr.Sizes w k ≡ Fr.Refused g = sym e ∙ answer_is ∙ ap (λ v. (floor_from v text buffer).answer) z in
+      by (Err g) z =
+          let d : read_sizes w k ≡ Err g = sym e ∙ answer_is ∙ ap (λ v. (floor_from v text buffer).answer) z in
           let y : ◌≡◌ {A = ℕ} 0 1 = cc in absurd (omega arith)
-      by Vd.Done z =
-          let d : Fr.Sizes w k ≡ Fr.Sizes (width_in text) (height_in text) = sym e ∙ answer_is ∙ ap (λ v. (floor_from v text buffer).answer) z in
+      by (Ok _) z =
+          let d : read_sizes w k ≡ read_sizes (width_in text) (height_in text) = sym e ∙ answer_is ∙ ap (λ v. (floor_from v text buffer).answer) z in
           let eq-w : w ≡ width_in text = cc in
           let eq-h : k ≡ height_in text = cc in
           let sized = read-sized text 4096 z in
@@ -193,28 +191,28 @@ module _ (text buffer after : List ℕ) (r : FloorRead) (room : length buffer �
           }
 
 -- it is read into a cleared list
-pub read-refused : (text : List ℕ) {after : List ℕ} {r : FloorRead} {f : Refusal} → Reads (read_floor text (replicate 4096 0)) r after → r ≡ Fr.Refused f → floor_verdict text 4096 ≡ Vd.Refused f
+pub read-refused : (text : List ℕ) {after : List ℕ} {r : FloorRead} {f : Refusal} → Reads (read_floor text (replicate 4096 0)) r after → r ≡ Err f → floor_verdict text 4096 ≡ Err f
 read-refused text {after} {r} {f} h e = read-refuses text (replicate 4096 0) after r (length-replicate {A = ℕ} 4096 0) h f e
 
-pub read_done : {text after : List ℕ} {r : FloorRead} {w k : ℕ} → Reads (read_floor text (replicate 4096 0)) r after → r ≡ Fr.Sizes w k → Read text w k (take (w * k) after)
+pub read_done : {text after : List ℕ} {r : FloorRead} {w k : ℕ} → Reads (read_floor text (replicate 4096 0)) r after → r ≡ read_sizes w k → Read text w k (take (w * k) after)
 read_done {text} {after} {r} {w} {k} h e = reads text (replicate 4096 0) after r (length-replicate {A = ℕ} 4096 0) h w k e
 
 -- ---- the whole
 
 module _ (s : Settings) (text : List ℕ) where
-  line_refused : (f : Refusal) → line_holds s ≡ Vd.Refused f → judge_aisle s text ≡ Vd.Refused f
+  line_refused : (f : Refusal) → line_holds s ≡ Err f → judge_aisle s text ≡ Err f
   unfolding judge_aisle
   line_refused f e = by (settings (job_in s 1 1)) refl e
     where
-      by : (v : Verdict) → settings (job_in s 1 1) ≡ v → then v (trials_hold s.trials) ≡ Vd.Refused f → judge_aisle s text ≡ Vd.Refused f
-      by (Vd.Refused g) z k = then_refused _ (sym (settings_same s (width_in text) (height_in text)) ∙ z) ∙ k
-      by Vd.Done z k = then_next _ (sym (settings_same s (width_in text) (height_in text)) ∙ z) ∙ then_refused _ k
+      by : (v : Verdict) → settings (job_in s 1 1) ≡ v → then v (trials_hold s.trials) ≡ Err f → judge_aisle s text ≡ Err f
+      by (Err g) z k = then_refused _ (sym (settings_same s (width_in text) (height_in text)) ∙ z) ∙ k
+      by (Ok _) z k = then_next _ (sym (settings_same s (width_in text) (height_in text)) ∙ z) ∙ then_refused _ k
 
-  pub line-told : {out out' : List ℕ} {at : ℕ} (f : Refusal) → line_holds s ≡ Vd.Refused f → Ended out 0 (refusal_line f) out' at → Ended out 0 (printed (judge_aisle s text) s text) out' at
+  pub line-told : {out out' : List ℕ} {at : ℕ} (f : Refusal) → line_holds s ≡ Err f → Ended out 0 (refusal_line f) out' at → Ended out 0 (printed (judge_aisle s text) s text) out' at
   line-told f e h = told_as (ap (λ u. printed u s text) (sym (line_refused f e))) h
 
-  module _ (holds : line_holds s ≡ Vd.Done) where
-    parts : (settings (job_in s (width_in text) (height_in text)) ≡ Vd.Done) × (trials_hold s.trials ≡ Vd.Done)
+  module _ (holds : line_holds s ≡ Ok tt) where
+    parts : (settings (job_in s (width_in text) (height_in text)) ≡ Ok tt) × (trials_hold s.trials ≡ Ok tt)
     parts = let a = then_done _ _ holds in (sym (settings_same s (width_in text) (height_in text)) ∙ a.0, a.1)
 
     text_next : judge_aisle s text ≡ then (floor_verdict text 4096) (open_job (job_in s (width_in text) (height_in text)) (cells_of (width_in text) (height_in text) (rows_in text)) s.start
@@ -222,7 +220,7 @@ module _ (s : Settings) (text : List ℕ) where
     unfolding judge_aisle
     text_next = then_next _ parts.0 ∙ then_next _ parts.1
 
-    pub text-told : {out out' : List ℕ} {at : ℕ} (f : Refusal) → floor_verdict text 4096 ≡ Vd.Refused f → Ended out 0 (refusal_line f) out' at → Ended out 0 (printed (judge_aisle s text) s text) out' at
+    pub text-told : {out out' : List ℕ} {at : ℕ} (f : Refusal) → floor_verdict text 4096 ≡ Err f → Ended out 0 (refusal_line f) out' at → Ended out 0 (printed (judge_aisle s text) s text) out' at
     text-told f e h = told_as (ap (λ u. printed u s text) (sym (text_next ∙ then_refused _ e))) h
 
     module _ {w k : ℕ} {bytes : List ℕ} (R : Read text w k bytes) where
@@ -241,8 +239,8 @@ module _ (s : Settings) (text : List ℕ) where
           ≡ told_of v (job_in s (width_in text) (height_in text)) (cells_of (width_in text) (height_in text) (rows_in text)) s.start s.trials
           (opening_table (floor_of (job_in s (width_in text) (height_in text)) (cells_of (width_in text) (height_in text) (rows_in text))) s.q (goals (job_in s (width_in text) (height_in text))))
           (replicate (width_in text * height_in text) 0)
-      printed_by Vd.Done = refl
-      printed_by (Vd.Refused f) = refl
+      printed_by (Ok _) = refl
+      printed_by (Err f) = refl
 
       pub floor-told : {out out' : List ℕ} {at : ℕ} → Ended out 0 (opened_lines (job_in s w k) bytes s.start s.trials (replicate (w * k) 0)) out' at
           → Ended out 0 (printed (judge_aisle s text) s text) out' at

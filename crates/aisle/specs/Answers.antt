@@ -1,8 +1,8 @@
 -- What the program's functions take and promise: parts of the model's `aisle`, from the inside out.
 use Rattle.std.specs.Prelude.{ℕ, ◌≤◌, ◌≡◌, List, length, take}
 use Rattle.answers.specs.declared.Job.{Job}
-use Rattle.answers.specs.declared.Verdict.{Verdict}
-use Rattle.answers.specs.declared.Verdict.TheVariants as Vd
+use Rattle.answers.specs.Outcomes.{Verdict}
+use Rattle.std.specs.Prelude.{Ok, Err}
 use Rattle.model.specs.Floor.{Sized, size, opening_table}
 use Rattle.model.specs.Checks.{floor_of, goals, goals_hold, settings}
 use Rattle.model.specs.Opening.{open_job}
@@ -12,8 +12,8 @@ use Rattle.journey.specs.Telling.{Ended}
 
 -- what is told of a job by what its opening says
 abbrev pub told_of : Verdict → Job → List ℕ → (start trials : ℕ) → (table path : List ℕ) → List ℕ
-told_of (Vd.Refused r) j bytes start trials table path = refusal_line r
-told_of Vd.Done j bytes start trials table path = course_lines j bytes (course_from j bytes start trials table path)
+told_of (Err r) j bytes start trials table path = refusal_line r
+told_of (Ok _) j bytes start trials table path = course_lines j bytes (course_from j bytes start trials table path)
 
 -- on the opening table
 abbrev pub opened_lines : Job → List ℕ → (start trials : ℕ) → (path : List ℕ) → List ℕ
@@ -24,8 +24,8 @@ opened_lines j bytes start trials path =
 -- a floor that is read, settings that hold, and goals that do, the line's one goal being all
 pub record Readied (j : Job) (bytes : List ℕ) (trials : ℕ) : Type 0 where
   pub sized : Sized (floor_of j bytes)
-  pub holds : settings j ≡ Vd.Done
-  pub order : goals_hold j.goals ≡ Vd.Done
+  pub holds : settings j ≡ Ok tt
+  pub order : goals_hold j.goals ≡ Ok tt
   pub some : 1 ≤ trials
   pub few : trials ≤ 1000
 

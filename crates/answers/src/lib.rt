@@ -1,4 +1,4 @@
-// The types that calls take and give: a job and a state, and for each kind of call an answer by its cases.
+// The types that calls take and give: a job and a state, what a decision answers, and the refusal that any call may answer in place of its result.
 
 #![tactic(auto)]
 
@@ -48,13 +48,6 @@ pub struct Refusal {
     pub place: Place,
 }
 
-// What a call answers that gives back nothing but its number.
-#[derive(Clone, Copy)]
-pub enum Verdict {
-    Done,
-    Refused(Refusal),
-}
-
 // What a decision answers.
 #[derive(Clone, Copy)]
 pub enum Answer {
@@ -91,32 +84,18 @@ pub struct Report {
     pub travel: u64,
 }
 
-// What a trial answers.
+// A run that was made: how many trials it made, and whether the last of them learned nothing.
 #[derive(Clone, Copy)]
-pub enum Tried {
-    Made(Report),
-    Refused(Refusal),
+pub struct Made {
+    pub trials: usize,
+    pub settled: bool,
 }
 
-// What a run answers: how many trials it made, and whether the last of them learned nothing.
+// The sizes of a floor whose text was read.
 #[derive(Clone, Copy)]
-pub enum Ran {
-    Made { trials: usize, settled: bool },
-    Refused(Refusal),
-}
-
-// What reading a floor text answers: the floor's sizes.
-#[derive(Clone, Copy)]
-pub enum FloorRead {
-    Sizes { width: usize, height: usize },
-    Refused(Refusal),
-}
-
-// What writing a table file or a floor text answers: how many bytes it has.
-#[derive(Clone, Copy)]
-pub enum Written {
-    Length(usize),
-    Refused(Refusal),
+pub struct Sizes {
+    pub width: usize,
+    pub height: usize,
 }
 
 // What a line of the program `aisle` asks for.

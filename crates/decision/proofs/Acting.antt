@@ -14,8 +14,8 @@ use Rattle.answers.specs.declared.State.{State}
 use Rattle.answers.specs.declared.Refusal.{Refusal}
 use Rattle.answers.specs.declared.Answer.{Answer}
 use Rattle.answers.specs.declared.Answer.TheVariants as A
-use Rattle.answers.specs.declared.Verdict.{Verdict}
-use Rattle.answers.specs.declared.Verdict.TheVariants as Vd
+use Rattle.answers.specs.Outcomes.{Verdict}
+use Rattle.std.specs.Prelude.{Ok, Err}
 use Rattle.answers.specs.declared.Decided.{Decided}
 use Rattle.answers.specs.Says.{says_answer}
 use Rattle.model.specs.Basics.{member}
@@ -238,7 +238,7 @@ module _ {j : Job} {bytes : List ℕ} {s : State} {table : List ℕ} (path : Lis
 module _ (j : Job) (bytes : List ℕ) (s : State) (table path moves : List ℕ) (from : ℕ) where
   pub decides_acts : {r : Acted} {n : ℕ} {a : Answer} {table' path' moves' : List ℕ} → Acts j bytes s (act j bytes s table path) r table' path'
       → Lays moves from (way_of j bytes s.current r.answer) moves' n → a ≡ counts r.answer n
-      → Decides (outcome_of Vd.Done (act j bytes s table path) s table path moves from) (record { answer = a; state = r.state }) table' path' moves'
+      → Decides (outcome_of (Ok tt) (act j bytes s table path) s table path moves from) (record { answer = a; state = r.state }) table' path' moves'
   decides_acts {r} h y e = record {
     answer = ap says_answer (e ∙ ap (counts r.answer) (y.count ∙ ap length (sym h.way)) ∙ sym h.answer);
     state = h.state;
@@ -247,11 +247,11 @@ module _ (j : Job) (bytes : List ℕ) (s : State) (table path moves : List ℕ) 
     moves = y.moves ∙ ap (laid moves from) (sym h.way);
   }
 
-  pub decides_refused : {v : Verdict} {place : List ℕ} (q : Refusal) → Judged j bytes s table path (length moves) from place v → v ≡ Vd.Refused q
+  pub decides_refused : {v : Verdict} {place : List ℕ} (q : Refusal) → Judged j bytes s table path (length moves) from place v → v ≡ Err q
       → Decides (decide j bytes s table path moves from) (record { answer = A.Refused q; state = s }) table path moves
   decides_refused q h e =
       rw (decide-refused j bytes s table path moves from q (sym h.verdict ∙ e)) (record { answer = refl; state = refl; table = refl; path = refl; moves = refl })
 
-  pub decides_past : {v : Verdict} {place : List ℕ} {r : Decided} {table' path' moves' : List ℕ} → Judged j bytes s table path (length moves) from place v → v ≡ Vd.Done
-      → Decides (outcome_of Vd.Done (act j bytes s table path) s table path moves from) r table' path' moves' → Decides (decide j bytes s table path moves from) r table' path' moves'
+  pub decides_past : {v : Verdict} {place : List ℕ} {r : Decided} {table' path' moves' : List ℕ} → Judged j bytes s table path (length moves) from place v → v ≡ Ok tt
+      → Decides (outcome_of (Ok tt) (act j bytes s table path) s table path moves from) r table' path' moves' → Decides (decide j bytes s table path moves from) r table' path' moves'
   decides_past g e h = rw (decide_acts j bytes s table path moves from (sym g.verdict ∙ e)) h

@@ -10,8 +10,8 @@ use Rattle.answers.specs.declared.Job.{Job}
 use Rattle.answers.specs.declared.State.{State}
 use Rattle.answers.specs.declared.Place.TheVariants as P
 use Rattle.answers.specs.declared.Refusal.{Refusal}
-use Rattle.answers.specs.declared.Verdict.{Verdict}
-use Rattle.answers.specs.declared.Verdict.TheVariants as Vd
+use Rattle.answers.specs.Outcomes.{Verdict}
+use Rattle.std.specs.Prelude.{Ok, Err}
 use Rattle.model.specs.Basics.{then, refuse_at}
 use Rattle.model.specs.Floor.{Sized, size}
 use Rattle.model.specs.Checks.{ceiling, floor_of, goals, sizes, path_room, settings, places, goals_hold, figures}
@@ -23,8 +23,8 @@ use Rattle.decision.specs.Ready.{Places, Ready, Judged}
 use Rattle.decision.specs.Inner.{lists_fit, Checked}
 
 then_assoc : (a b c : Verdict) → then (then a b) c ≡ then a (then b c)
-then_assoc Vd.Done b c = refl
-then_assoc (Vd.Refused r) b c = refl
+then_assoc (Ok _) b c = refl
+then_assoc (Err r) b c = refl
 
 -- ---- the checks 1 and 2
 
@@ -34,7 +34,7 @@ pub record Fits (j : Job) (bytes : List ℕ) (figures places room from : ℕ) : 
   pub path : size (floor_of j bytes) ≤ places
   pub moves : from + least_room ≤ room
 
-pub fits : (j : Job) (bytes : List ℕ) (figures places room from : ℕ) → lists_fit j bytes figures places room from ≡ Vd.Done → Fits j bytes figures places room from
+pub fits : (j : Job) (bytes : List ℕ) (figures places room from : ℕ) → lists_fit j bytes figures places room from ≡ Ok tt → Fits j bytes figures places room from
 unfolding lists_fit
 fits j bytes figures places room from e =
     let a = then_done _ _ e in
@@ -48,7 +48,7 @@ module _ {j : Job} {bytes : List ℕ} {s : State} {path : List ℕ} where
   pub checked_refused : {place : List ℕ} {v : Verdict} → size (floor_of j bytes) ≤ length path → v ≡ refuse_at 8 P.Nowhere → (Held j bytes s path → ⊥) → Checked j bytes s path place v
   checked_refused wide e not = record { verdict = e ∙ sym ((held_judges j bytes s path wide).refused not); places = λ d. not_refused d e }
 
-  pub checked_done : {place : List ℕ} → size (floor_of j bytes) ≤ length path → Held j bytes s path → Places place path s.length → Checked j bytes s path place Vd.Done
+  pub checked_done : {place : List ℕ} → size (floor_of j bytes) ≤ length path → Held j bytes s path → Places place path s.length → Checked j bytes s path place (Ok tt)
   checked_done wide h p = record { verdict = sym ((held_judges j bytes s path wide).done h); places = λ d. p }
 
 -- ---- the whole judgement
@@ -70,17 +70,17 @@ module _ (j : Job) (bytes : List ℕ) (s : State) (table path : List ℕ) (room 
       let r = then (settings j) (then (places (floor_of j bytes) s.current (goals j)) (then (goals_hold j.goals) (then (figures (floor_of j bytes) table) (state_holds j bytes s path)))) in
       then_assoc a (then b m) r ∙ ap (then a) (then_assoc b m r)
 
-  low : length table ≡ size (floor_of j bytes) → figures (floor_of j bytes) table ≡ Vd.Done → (x : ℕ) → get_or table x 0 ≤ ceiling
+  low : length table ≡ size (floor_of j bytes) → figures (floor_of j bytes) table ≡ Ok tt → (x : ℕ) → get_or table x 0 ≤ ceiling
   low l e x = by (dec_le (length table) x)
     where
       by : Dec (length table ≤ x) → get_or table x 0 ≤ ceiling
       by (yes h) = omega (arith, get_or-eq_default table 0 {n = x} h)
       by (no h) = figures-accepted (floor_of j bytes) table e x (omega arith)
 
-  pub roomy : judge j bytes s table path room from ≡ Vd.Done → from + least_room ≤ room
+  pub roomy : judge j bytes s table path room from ≡ Ok tt → from + least_room ≤ room
   roomy e = (fits j bytes (length table) (length path) room from (then_done _ _ (judge_is ∙ e)).0).moves
 
-  pub ready : judge j bytes s table path room from ≡ Vd.Done → Ready j bytes s table path
+  pub ready : judge j bytes s table path room from ≡ Ok tt → Ready j bytes s table path
   ready e =
       let (lists, after-lists) = then_done _ _ (judge_is ∙ e) in
       let (three, after-three) = then_done _ _ after-lists in
@@ -104,7 +104,7 @@ module _ (j : Job) (bytes : List ℕ) (s : State) (table path : List ℕ) (room 
       }
 
 module _ {j : Job} {bytes : List ℕ} {s : State} {table path : List ℕ} {room from : ℕ} {place : List ℕ} {v : Verdict} where
-  pub judged-refused : {r : Refusal} → v ≡ checks j bytes s table path room from → v ≡ Vd.Refused r → Judged j bytes s table path room from place v
+  pub judged-refused : {r : Refusal} → v ≡ checks j bytes s table path room from → v ≡ Err r → Judged j bytes s table path room from place v
   judged-refused e t = record { verdict = e ∙ judge_is j bytes s table path room from; places = λ d. not_refused d t }
 
   pub judged_checked : Checked j bytes s path place v → (v ≡ state_holds j bytes s path → v ≡ checks j bytes s table path room from) → Judged j bytes s table path room from place v

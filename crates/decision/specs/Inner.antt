@@ -5,8 +5,8 @@ use Rattle.answers.specs.declared.Job.{Job}
 use Rattle.answers.specs.declared.State.{State}
 use Rattle.answers.specs.declared.Place.TheVariants as P
 use Rattle.answers.specs.declared.Answer.TheVariants as A
-use Rattle.answers.specs.declared.Verdict.{Verdict}
-use Rattle.answers.specs.declared.Verdict.TheVariants as Vd
+use Rattle.answers.specs.Outcomes.{Verdict}
+use Rattle.std.specs.Prelude.{Ok}
 use Rattle.model.specs.Basics.{then}
 use Rattle.model.specs.Checks.{floor_of, sizes, path_room}
 use Rattle.model.specs.Lookahead.{seen, new_figure, target}
@@ -38,7 +38,7 @@ pub record Walked (j : Job) (bytes : List ℕ) (current : ℕ) (path : List ℕ)
 -- the state's check: its verdict, and where it is done the noted places
 pub record Checked (j : Job) (bytes : List ℕ) (s : State) (path place : List ℕ) (v : Verdict) : Type 0 where
   pub verdict : v ≡ state_holds j bytes s path
-  pub places : v ≡ Vd.Done → Places place path s.length
+  pub places : v ≡ Ok tt → Places place path s.length
 
 -- a path that the current cell can be written to
 pub record Open (path place : List ℕ) (n current : ℕ) : Type 0 where

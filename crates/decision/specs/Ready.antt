@@ -3,8 +3,8 @@ use Rattle.std.specs.Prelude.{ℕ, ◌*◌, ◌≤◌, ◌<◌, ◌≡◌, true,
 use Rattle.answers.specs.declared.Job.{Job}
 use Rattle.answers.specs.declared.State.{State}
 use Rattle.answers.specs.declared.Decided.{Decided}
-use Rattle.answers.specs.declared.Verdict.{Verdict}
-use Rattle.answers.specs.declared.Verdict.TheVariants as Vd
+use Rattle.answers.specs.Outcomes.{Verdict}
+use Rattle.std.specs.Prelude.{Ok}
 use Rattle.answers.specs.Says.{says_answer}
 use Rattle.model.specs.Floor.{Sized, size, free}
 use Rattle.model.specs.Checks.{ceiling, floor_of, goals, Benched}
@@ -37,7 +37,7 @@ pub record Ready (j : Job) (bytes : List ℕ) (s : State) (table path : List ℕ
 -- A judged call: its verdict, and where it is done the noted places.
 pub record Judged (j : Job) (bytes : List ℕ) (s : State) (table path : List ℕ) (room from : ℕ) (place : List ℕ) (v : Verdict) : Type 0 where
   pub verdict : v ≡ judge j bytes s table path room from
-  pub places : v ≡ Vd.Done → Places place path s.length
+  pub places : v ≡ Ok tt → Places place path s.length
 
 -- The answer, the state, the rise, the cost and the lent lists are those of the model's deed. The moves are not laid nor counted yet, and the answer tells which
 -- they are.

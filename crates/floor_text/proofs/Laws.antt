@@ -14,8 +14,8 @@ use lib.Seq.{drop-cons, take-suc, take_all, set_at, drop-drop, take_at, drop_at,
 use Rattle.answers.specs.Says.{says_floor_read}
 use Rattle.answers.specs.declared.Place.TheVariants as P
 use Rattle.answers.specs.declared.Refusal.{Refusal}
-use Rattle.answers.specs.declared.Verdict.TheVariants as Vd
-use Rattle.answers.specs.declared.FloorRead.TheVariants as Fr
+use Rattle.answers.specs.Outcomes.{read_sizes}
+use Rattle.std.specs.Prelude.{Ok, Err}
 use Rattle.model.specs.Basics.{choose, every, refuse_at}
 use Rattle.model.specs.FloorText.{begins, header, height_in, width_in, rows_in, after_height, after_width, type_and_height, and_width, and_map}
 use Rattle.model.specs.FloorText.{is_letter, byte_of, row_holds, rows, cells_of, read_floor, floor_verdict}
@@ -120,11 +120,11 @@ module _ {w h : ℕ} {text t : List ℕ} {row : ℕ} (g : Rowed w h text t row) 
   pub rowed_fault : {b : Bool} → b ≡ row_holds w t → not b ≡ true → row < h → refuse_at 12 (P.Line (5 + row)) ≡ rows w h 5 text
   rowed_fault e n l = rows-fault w (h - row) (5 + row) t (sym e ∙ not-true _ n) (omega arith) ∙ g.left
 
-  rowed_all : h ≤ row → choose (eqb (length t) 0) Vd.Done (refuse_at 12 (P.Line (5 + row))) ≡ rows w h 5 text
+  rowed_all : h ≤ row → choose (eqb (length t) 0) (Ok tt) (refuse_at 12 (P.Line (5 + row))) ≡ rows w h 5 text
   unfolding rows
   rowed_all l = (let n : h - row ≡ 0 = omega arith in rw n) ∙ g.left
 
-  pub rowed_done : h ≤ row → length t ≡ 0 → Vd.Done ≡ rows w h 5 text
+  pub rowed_done : h ≤ row → length t ≡ 0 → Ok tt ≡ rows w h 5 text
   rowed_done l e = rw (eq-eqb (length t) 0 e) at (rowed_all l)
 
   pub rowed_over : h ≤ row → (length t ≡ 0 → ⊥) → refuse_at 12 (P.Line (5 + row)) ≡ rows w h 5 text
@@ -187,12 +187,12 @@ header_judges text =
     (λ h. ((((h.typed, h.high), h.worded), h.wide), h.mapped)))
 
 -- The public call, by what the header, the room and the rows say.
-pub header_refused : (text buffer : List ℕ) → header text ≡ refuse_at 11 P.Nowhere → Reads (read_floor text buffer) (Fr.Refused (record { number = 11; place = P.Nowhere })) buffer
+pub header_refused : (text buffer : List ℕ) → header text ≡ refuse_at 11 P.Nowhere → Reads (read_floor text buffer) (Err (record { number = 11; place = P.Nowhere })) buffer
 unfolding read_floor floor_verdict
 header_refused text buffer e = rw e (record { answer = refl; buffer = refl })
 
 module _ {text : List ℕ} (buffer : List ℕ) {w h : ℕ} (s : Sound text w h) where
-  pub no_room : length buffer < w * h → Reads (read_floor text buffer) (Fr.Refused (record { number = 2; place = P.Nowhere })) buffer
+  pub no_room : length buffer < w * h → Reads (read_floor text buffer) (Err (record { number = 2; place = P.Nowhere })) buffer
   unfolding read_floor floor_verdict
   no_room l =
       let z = rw (s.width, s.height) at l in
@@ -202,18 +202,18 @@ module _ {text : List ℕ} (buffer : List ℕ) {w h : ℕ} (s : Sound text w h) 
     abbrev roomy : leb (width_in text * height_in text) (length buffer) ≡ true
     roomy = le-leb (width_in text * height_in text) (length buffer) (rw (s.width, s.height) at l)
 
-    pub rows-refused : (r : Refusal) → rows w h 5 (rows_in text) ≡ Vd.Refused r → Reads (read_floor text buffer) (Fr.Refused r) buffer
+    pub rows-refused : (r : Refusal) → rows w h 5 (rows_in text) ≡ Err r → Reads (read_floor text buffer) (Err r) buffer
     unfolding read_floor floor_verdict
     rows-refused r e =
         let z = rw (s.width, s.height) at e in
         rw (s.accepted, roomy, z) (record { answer = refl; buffer = refl })
 
-    pub rows-read : {after : List ℕ} → rows w h 5 (rows_in text) ≡ Vd.Done → after ≡ cells_of w h (rows_in text) ++ drop (w * h) buffer → Reads (read_floor text buffer) (Fr.Sizes w h) after
+    pub rows-read : {after : List ℕ} → rows w h 5 (rows_in text) ≡ Ok tt → after ≡ cells_of w h (rows_in text) ++ drop (w * h) buffer → Reads (read_floor text buffer) (read_sizes w h) after
     unfolding read_floor floor_verdict
     rows-read e k =
         let z = rw (s.width, s.height) at e in
         let y = rw (s.width, s.height) at k in
-        rw (s.accepted, roomy, z) (record { answer = λ i. says_floor_read (Fr.Sizes (s.width i) (s.height i)); buffer = y })
+        rw (s.accepted, roomy, z) (record { answer = λ i. says_floor_read (read_sizes (s.width i) (s.height i)); buffer = y })
 
 -- The rows stored so far, and what one row more does.
 pub record Filled (w h : ℕ) (text out₀ t out : List ℕ) (row : ℕ) : Type 0 where

@@ -6,9 +6,8 @@ use native.Mathlib.Omega.{arith}
 use lib.ListN.{length, take, drop, set, get_or, length-append, length-map, length-set, length-drop}
 use lib.Seq.{sets, sets-eq, length-sets, length-take-le}
 use Rattle.answers.specs.declared.Refusal.{Refusal}
-use Rattle.answers.specs.declared.Verdict.{Verdict}
-use Rattle.answers.specs.declared.Verdict.TheVariants as Vd
-use Rattle.answers.specs.declared.Written.TheVariants as Wr
+use Rattle.answers.specs.Outcomes.{Verdict}
+use Rattle.std.specs.Prelude.{Ok, Err}
 use Rattle.model.specs.Floor.{Floor, Sized}
 use Rattle.model.specs.FloorText.{LF, and_width, and_map, type_and_height}
 use Rattle.model.specs.FloorWritten.{letter_of, rows_of, size_line, text_of, text_verdict, write_floor}
@@ -139,16 +138,16 @@ room_for_both : (f : Floor) → length (text_of f) ≡ length (head_of f.width f
 room_for_both f = ap length (sym (head_then_rows f)) ∙ length-append (head_of f.width f.height) (rows_of f.width f.height f.bytes)
 
 -- what an accepted writing has shown: room for the header, and for the rows after it
-pub text-fits : (f : Floor) (room : ℕ) → text_verdict f room ≡ Vd.Done → Sized f × (length (head_of f.width f.height) + length (rows_of f.width f.height f.bytes) ≤ room)
+pub text-fits : (f : Floor) (room : ℕ) → text_verdict f room ≡ Ok tt → Sized f × (length (head_of f.width f.height) + length (rows_of f.width f.height f.bytes) ≤ room)
 text-fits f room e = let g = text-gives f room e in (g.0, omega (arith, g.1, room_for_both f))
 
 module _ (f : Floor) (buffer : List ℕ) {v : Verdict} (e : v ≡ text_verdict f (length buffer)) where
-  pub write-refused : (r : Refusal) → v ≡ Vd.Refused r → Writes (write_floor f buffer) (Wr.Refused r) buffer
+  pub write-refused : (r : Refusal) → v ≡ Err r → Writes (write_floor f buffer) (Err r) buffer
   unfolding write_floor
   write-refused = writes_refused (text_of f) buffer e
 
-  pub write_done : {mid after : List ℕ} {at end : ℕ} → v ≡ Vd.Done → Printed buffer 0 (head_of f.width f.height) mid at
-      → Printed mid at (rows_of f.width f.height f.bytes) after end → Writes (write_floor f buffer) (Wr.Length end) after
+  pub write_done : {mid after : List ℕ} {at end : ℕ} → v ≡ Ok tt → Printed buffer 0 (head_of f.width f.height) mid at
+      → Printed mid at (rows_of f.width f.height f.bytes) after end → Writes (write_floor f buffer) (Ok end) after
   unfolding write_floor
   write_done h P Q =
       let T = rw (head_then_rows f) at (printed_then (head_of f.width f.height) (rows_of f.width f.height f.bytes) P Q) in

@@ -2,8 +2,8 @@
 use Rattle.std.specs.Prelude.{ℕ, ◌≤◌, ◌≡◌, List}
 use Rattle.answers.specs.Says.{says_floor_read}
 use Rattle.answers.specs.declared.Place.TheVariants as P
-use Rattle.answers.specs.declared.Verdict.TheVariants as Vd
-use Rattle.answers.specs.declared.FloorRead.{FloorRead}
+use Rattle.answers.specs.Outcomes.{FloorRead}
+use Rattle.std.specs.Prelude.{Ok}
 use Rattle.model.specs.Basics.{refuse_at}
 use Rattle.model.specs.FloorText.{FloorOutcome, header, width_in, height_in}
 use Rattle.floor_text.specs.declared.Header.{Header}
@@ -11,7 +11,7 @@ use Rattle.floor_text.specs.declared.Header.TheVariants as Hd
 
 -- an accepted header with its sizes
 pub record Sound (text : List ℕ) (w h : ℕ) : Type 0 where
-  pub accepted : header text ≡ Vd.Done
+  pub accepted : header text ≡ Ok tt
   pub width : w ≡ width_in text
   pub height : h ≡ height_in text
   pub narrow : w ≤ 64

@@ -11,7 +11,7 @@ use lib.Dec.{eqb}
 use lib.ListN.{length, length-append}
 use Rattle.learning.specs.Ground.{pick}
 use Rattle.answers.specs.declared.Job.{Job}
-use Rattle.answers.specs.declared.Verdict.TheVariants as Vd
+use Rattle.std.specs.Prelude.{Ok}
 use Rattle.model.specs.Opening.{open_trial}
 use Rattle.model.specs.Ride.{Ride, ride, course_from}
 use Rattle.model.specs.FloorText.{LF}
@@ -45,12 +45,12 @@ pub record Coursing (j : Job) (bytes : List ℕ) (start trials : ℕ) (table₀ 
   pub few : limit ≤ 1000
   pub within : made ≤ 1000
   pub settled : limit ≡ 0 → ((course_from j bytes start trials table₀ path₀).rides ≡ done) × ((course_from j bytes start trials table₀ path₀).settled ≡ true)
-  pub going : 1 ≤ limit → (made ≤ limit) × (open_trial j bytes start table path ≡ Vd.Done)
+  pub going : 1 ≤ limit → (made ≤ limit) × (open_trial j bytes start table path ≡ Ok tt)
       × ((course_from j bytes start trials table₀ path₀).rides ≡ done ++ (course_from j bytes start (limit - made) table path).rides)
       × ((course_from j bytes start trials table₀ path₀).settled ≡ (course_from j bytes start (limit - made) table path).settled)
 
 module _ {j : Job} {bytes : List ℕ} {start trials : ℕ} {table₀ path₀ out₀ : List ℕ} where
-  pub none_yet : open_trial j bytes start table₀ path₀ ≡ Vd.Done → 1 ≤ trials → trials ≤ 1000 → length out₀ ≡ 65536
+  pub none_yet : open_trial j bytes start table₀ path₀ ≡ Ok tt → 1 ≤ trials → trials ≤ 1000 → length out₀ ≡ 65536
       → Coursing j bytes start trials table₀ path₀ out₀ 0 trials table₀ path₀ out₀ 0
   unfolding trial_lines
   none_yet opened some few size =
@@ -71,7 +71,7 @@ module _ {j : Job} {bytes : List ℕ} {start trials : ℕ} {table₀ path₀ out
       }
 
   module _ {made limit : ℕ} {table path out : List ℕ} {at : ℕ} (s : Coursing j bytes start trials table₀ path₀ out₀ made limit table path out at) (h : made < limit) where
-    pub may_tell : (open_trial j bytes start table path ≡ Vd.Done) × Room out at
+    pub may_tell : (open_trial j bytes start table path ≡ Ok tt) × Room out at
     may_tell = ((s.going (omega arith)).1, s.told.room)
 
     one_more : (out' : List ℕ) (at' : ℕ) → Told out at (trial_line j bytes (ride j bytes start table path)) out' at'
@@ -79,7 +79,7 @@ module _ {j : Job} {bytes : List ℕ} {start trials : ℕ} {table₀ path₀ out
         (ride j bytes start table path).path out' at'
     one_more out' at' t = by (eqb (ride j bytes start table path).learned 0) refl
       where
-        g : (made ≤ limit) × (open_trial j bytes start table path ≡ Vd.Done)
+        g : (made ≤ limit) × (open_trial j bytes start table path ≡ Ok tt)
             × ((course_from j bytes start trials table₀ path₀).rides ≡ s.done ++ (course_from j bytes start (limit - made) table path).rides)
             × ((course_from j bytes start trials table₀ path₀).settled ≡ (course_from j bytes start (limit - made) table path).settled)
         g = s.going (omega arith)

@@ -13,7 +13,7 @@ use lib.Seq.{sets-eq, length-sets, take_at, length-take-le, drop-append-le, drop
 use Rattle.learning.specs.Path.{All, end, also}
 use Rattle.answers.specs.declared.Job.{Job}
 use Rattle.answers.specs.declared.Report.{Report}
-use Rattle.answers.specs.declared.Verdict.TheVariants as Vd
+use Rattle.std.specs.Prelude.{Ok}
 use Rattle.model.specs.Opening.{open_trial}
 use Rattle.model.specs.Basics.{member}
 use Rattle.model.specs.Checks.{goals}
@@ -126,7 +126,7 @@ all_at (also p a) ys (suc i) h = all_at a ys i (omega arith)
 
 -- ---- a decision of a trial
 
-module _ (j : Job) (bytes : List ℕ) (start : ℕ) (table₀ path₀ : List ℕ) (opened : open_trial j bytes start table₀ path₀ ≡ Vd.Done)
+module _ (j : Job) (bytes : List ℕ) (start : ℕ) (table₀ path₀ : List ℕ) (opened : open_trial j bytes start table₀ path₀ ≡ Ok tt)
     {w : Stand} {table path : List ℕ} (g : Driving j bytes start table₀ path₀ w table path) (aside : member w.state.current (goals j) ≡ false) where
   abbrev d : Deed
   d = act j bytes w.state table path
@@ -173,7 +173,7 @@ pub record Telling (j : Job) (bytes : List ℕ) (start : ℕ) (table₀ path₀ 
   pub moved_is : moved ≡ some under.drive.at.moves
   pub room : length moves ≡ least_room
 
-module _ {j : Job} {bytes : List ℕ} {start : ℕ} {table₀ path₀ : List ℕ} (opened : open_trial j bytes start table₀ path₀ ≡ Vd.Done) {out₀ : List ℕ} {from : ℕ} where
+module _ {j : Job} {bytes : List ℕ} {start : ℕ} {table₀ path₀ : List ℕ} (opened : open_trial j bytes start table₀ path₀ ≡ Ok tt) {out₀ : List ℕ} {from : ℕ} where
   pub tells_none : {moves mark cost list place along : List ℕ} → Scratch mark cost list place along → length moves ≡ least_room → Room out₀ from
       → Telling j bytes start table₀ path₀ out₀ from (set_out start) table₀ path₀ moves mark cost list place along false out₀ from
   tells_none l room r =

@@ -9,7 +9,7 @@ use lib.ListN.{length, take, drop, length-drop}
 use lib.Seq.{length-sets, length-take-le, take_at}
 use Rattle.answers.specs.declared.Place.TheVariants as P
 use Rattle.answers.specs.declared.Refusal.{Refusal}
-use Rattle.answers.specs.declared.Verdict.TheVariants as Vd
+use Rattle.std.specs.Prelude.{Ok, Err}
 use Rattle.model.specs.Basics.{refuse_at}
 use Rattle.model.specs.KeepDepth.{Unended, lines_of, ahead, copy_lines, longest_line, keep_depth}
 use Rattle.model.proofs.Accepted.{never}
@@ -108,14 +108,14 @@ reading kept = record { few = omega arith; unended = λ k h e. omega arith; coun
 
 module _ {kept : List ℕ} {held line turns : ℕ} (D : Reading kept held line turns) where
   -- the end: all is copied, or a line is left without its LF
-  pub all_copied : held ≡ 0 → Told Vd.Done
+  pub all_copied : held ≡ 0 → Told (Ok tt)
   all_copied z =
       let (all, written, t) = D.taken in
       let e : take held kept ++ [] ≡ [] = ap (λ (k : ℕ). take k kept ++ []) z in (
         all,
         written,
         ap keep_depth (sym (append-nil all)) ∙ t [] ∙ ap (λ (l : List ℕ). ahead written (copy_lines line (lines_of l))) e
-            ∙ ap (ahead written) (none_left line) ∙ ap (λ (w : List ℕ). record { written = w; verdict = Vd.Done }) (append-nil written),
+            ∙ ap (ahead written) (none_left line) ∙ ap (λ (w : List ℕ). record { written = w; verdict = Ok tt }) (append-nil written),
       )
 
   pub line-left : 1 ≤ held → held ≤ length kept → Told (refuse_at 3 (P.Line line))
@@ -158,7 +158,7 @@ module _ {kept : List ℕ} {held line turns : ℕ} (D : Reading kept held line t
 
 -- ---- what is said at the end
 
-refused-told : {r : End} {x : Refusal} → r ≡ E.Refused x → Told (Vd.Refused x) → Ended r
+refused-told : {r : End} {x : Refusal} → r ≡ E.Refused x → Told (Err x) → Ended r
 refused-told e t = subst Ended (sym e) t
 
 module _ {kept : List ℕ} {held line turns : ℕ} (D : Reading kept held line turns) {r : End} where

@@ -1,8 +1,8 @@
 -- What copying a list of lines promises, part by part: what is held of an unfinished line, and what is told of all that was read.
 use Rattle.std.specs.Prelude.{ℕ, ◌+◌, ◌*◌, ◌≤◌, ◌<◌, ◌≡◌, true, false, List, ◌++◌, length, take}
 use Rattle.answers.specs.declared.Place.TheVariants as P
-use Rattle.answers.specs.declared.Verdict.{Verdict}
-use Rattle.answers.specs.declared.Verdict.TheVariants as Vd
+use Rattle.answers.specs.Outcomes.{Verdict}
+use Rattle.std.specs.Prelude.{Ok, Err}
 use Rattle.model.specs.Basics.{refuse_at}
 use Rattle.model.specs.KeepDepth.{Unended, lines_of, ahead, copy_lines, longest_line, keep_depth}
 use Rattle.keep_depth.specs.declared.Step.{Step}
@@ -52,7 +52,7 @@ abbrev pub Told : Verdict → Type 0
 Told v = (all : List ℕ) × (written : List ℕ) × (keep_depth all ≡ record { written = written; verdict = v })
 
 abbrev pub Ended : End → Type 0
-Ended E.Copied = Told Vd.Done
-Ended (E.Refused r) = Told (Vd.Refused r)
+Ended E.Copied = Told (Ok tt)
+Ended (E.Refused r) = Told (Err r)
 Ended E.Unread = Unit {0}
 Ended E.Unwritten = Unit {0}

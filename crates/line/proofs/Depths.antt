@@ -13,7 +13,7 @@ use lib.Dec.{eqb, leb}
 use lib.ListN.{length, take, drop, length-append, length-drop}
 use lib.Seq.{length-take-le, sets-eq}
 use Rattle.answers.specs.declared.Place.TheVariants as P
-use Rattle.answers.specs.declared.Written.TheVariants as Wr
+use Rattle.std.specs.Prelude.{Ok, Err}
 use Rattle.model.specs.Basics.{choose}
 use Rattle.model.specs.Line.{numbers_in, after_line, read_line_by, default_depth, settings_of, decimal_in}
 use Rattle.model.specs.KeepDepth.{is_asked, given_of, numbers_first, numbers_given, with_old_depth, depth_verdict, with_depth}
@@ -184,7 +184,7 @@ printed_first buffer bytes after end h p = (omega (arith, p.next), p.written ∙
 
 -- what one line is refused by, and when it is written
 module _ (line buffer : List ℕ) (given : ℕ) (e : given ≡ numbers_given line) where
-  pub depth-malformed : given ≡ 0 → Writes (with_depth line buffer) (Wr.Refused (record { number = 3; place = P.Nowhere })) buffer
+  pub depth-malformed : given ≡ 0 → Writes (with_depth line buffer) (Err (record { number = 3; place = P.Nowhere })) buffer
   unfolding with_depth depth_verdict
   depth-malformed z = writes_refused _ _ (sym (then_refused _ ((form_judges line).refused (λ h. omega arith)))) _ refl
 
@@ -192,7 +192,7 @@ module _ (line buffer : List ℕ) (given : ℕ) (e : given ≡ numbers_given lin
     formed : 1 ≤ numbers_given line
     formed = omega (arith, positive given some)
 
-    pub depth_no_room : r ≡ false → Writes (with_depth line buffer) (Wr.Refused (record { number = 17; place = P.Nowhere })) buffer
+    pub depth_no_room : r ≡ false → Writes (with_depth line buffer) (Err (record { number = 17; place = P.Nowhere })) buffer
     unfolding with_depth depth_verdict
     depth_no_room t =
         let small : length buffer < length (with_old_depth line) = leb-false _ _ (sym f ∙ t) in
@@ -202,7 +202,7 @@ module _ (line buffer : List ℕ) (given : ℕ) (e : given ≡ numbers_given lin
       pub depth-fits : 0 + length (with_old_depth line) ≤ length buffer
       depth-fits = let fits : length (with_old_depth line) ≤ length buffer = leb-true _ _ (sym f ∙ t) in omega arith
 
-      pub depth-done : {after : List ℕ} {end : ℕ} → Printed buffer 0 (with_old_depth line) after end → Writes (with_depth line buffer) (Wr.Length end) after
+      pub depth-done : {after : List ℕ} {end : ℕ} → Printed buffer 0 (with_old_depth line) after end → Writes (with_depth line buffer) (Ok end) after
       unfolding with_depth depth_verdict
       depth-done p =
           let fits : length (with_old_depth line) ≤ length buffer = omega (arith, depth-fits) in

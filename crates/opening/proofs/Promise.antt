@@ -9,7 +9,7 @@ use Rattle.answers.specs.Says.{says_verdict}
 use Rattle.answers.specs.declared.Goals.{Goals}
 use Rattle.answers.specs.declared.Job.{Job}
 use Rattle.answers.specs.declared.Refusal.{Refusal}
-use Rattle.answers.specs.declared.Verdict.{Verdict}
+use Rattle.answers.specs.Outcomes.{Verdict}
 use Rattle.answers.specs.declared.Verdict.TheVariants.{Done, Refused}
 use Rattle.model.specs.Basics.{then}
 use Rattle.model.specs.Floor.{Floor, goals_of, opening_table}

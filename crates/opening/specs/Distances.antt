@@ -2,7 +2,7 @@
 use Rattle.std.specs.Prelude.{ℕ, ◌*◌, ◌≤◌, ◌<◌, ◌≡◌, Bool, ◌&&◌, List, ltb, length, get_or}
 use Rattle.learning.specs.Ground.{pick, reach_of, dist_of}
 use Rattle.answers.specs.declared.Job.{Job}
-use Rattle.answers.specs.declared.Verdict.{Verdict}
+use Rattle.answers.specs.Outcomes.{Verdict}
 use Rattle.model.specs.Basics.{then, unless, naming}
 use Rattle.model.specs.Floor.{Floor, size, Sized}
 use Rattle.model.specs.Grounds.{ground_of}

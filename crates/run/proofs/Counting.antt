@@ -8,7 +8,7 @@ use lib.ListN.{length, get_or, set, take, drop, length-append, length-drop}
 use lib.Seq.{sets, sets-eq, take-suc, take-suc-set, take_at, drop-append-add, drop-drop, length-take-le}
 use Rattle.answers.specs.declared.Job.{Job}
 use Rattle.answers.specs.declared.Report.{Report}
-use Rattle.answers.specs.declared.Ran.{Ran}
+use Rattle.answers.specs.Outcomes.{Ran}
 use Rattle.answers.specs.Says.{says_ran}
 use Rattle.model.specs.Ride.{RunOutcome, run}
 use Rattle.run.specs.Trials.{IsRun}

@@ -14,9 +14,8 @@ use lib.Seq.{take-suc-set, drop-set-lt, set_split}
 use Rattle.learning.specs.Ground.{pick}
 use Rattle.answers.specs.declared.Job.{Job}
 use Rattle.answers.specs.declared.Report.{Report}
-use Rattle.answers.specs.declared.Verdict.{Verdict}
-use Rattle.answers.specs.declared.Verdict.TheVariants as Vd
-use Rattle.answers.specs.declared.Ran.TheVariants as Rn
+use Rattle.answers.specs.Outcomes.{Verdict, made_run}
+use Rattle.std.specs.Prelude.{Ok, Err}
 use Rattle.answers.specs.Says.{says_ran}
 use Rattle.model.specs.Opening.{open_trial, open_run}
 use Rattle.model.specs.Ride.{Ride, ride, report, Course, course_from, course_from_by, RunOutcome, run_of, run, run_by}
@@ -26,7 +25,7 @@ use Rattle.run.specs.Trials.{Rode, IsRun, allowed_by, limit_after, answered}
 
 -- a run that is over
 abbrev over : (made : ℕ) → (settled : Bool) → (table path : List ℕ) → List Report → RunOutcome
-over made settled table path reports = record { answer = Rn.Made made settled; table = table; path = path; reports = reports }
+over made settled table path reports = record { answer = made_run made settled; table = table; path = path; reports = reports }
 
 module _ (j : Job) (bytes : List ℕ) (start : ℕ) where
   -- what a run comes to that has made some trials, none of which learned nothing, and may make so many more
@@ -115,15 +114,15 @@ module _ (j : Job) (bytes : List ℕ) (start : ℕ) where
 
   -- where a run stands: over after a trial that learned nothing, or going on; or refused
   pub standing : Verdict → (made limit : ℕ) → (table path : List ℕ) → List Report → RunOutcome
-  standing Vd.Done made limit table path reports = elim (eqb limit 0) [ true ↦ over made true table path reports | false ↦ goes_on (limit - made) made table path reports ]
-  standing (Vd.Refused r) made limit table path reports = record { answer = Rn.Refused r; table = table; path = path; reports = reports }
+  standing (Ok _) made limit table path reports = elim (eqb limit 0) [ true ↦ over made true table path reports | false ↦ goes_on (limit - made) made table path reports ]
+  standing (Err r) made limit table path reports = record { answer = Err r; table = table; path = path; reports = reports }
 
   module _ (made limit : ℕ) (table path : List ℕ) (reports : List Report) where
-    stands_over : eqb limit 0 ≡ true → standing Vd.Done made limit table path reports ≡ over made true table path reports
+    stands_over : eqb limit 0 ≡ true → standing (Ok tt) made limit table path reports ≡ over made true table path reports
     unfolding standing
     stands_over e = rw (e, standing)
 
-    stands-going : eqb limit 0 ≡ false → standing Vd.Done made limit table path reports ≡ goes_on (limit - made) made table path reports
+    stands-going : eqb limit 0 ≡ false → standing (Ok tt) made limit table path reports ≡ goes_on (limit - made) made table path reports
     unfolding standing
     stands-going e = rw (e, standing)
 
@@ -131,10 +130,10 @@ module _ (j : Job) (bytes : List ℕ) (start : ℕ) where
     stands_still : (v : Verdict) → limit ≤ made
         → standing v made limit table path reports ≡ record { answer = answered v made limit; table = table; path = path; reports = reports }
     unfolding standing goes_on
-    stands_still (Vd.Refused f) h = refl
-    stands_still Vd.Done h = by (eqb limit 0) refl
+    stands_still (Err f) h = refl
+    stands_still (Ok _) h = by (eqb limit 0) refl
       where
-        by : (b : Bool) → eqb limit 0 ≡ b → standing Vd.Done made limit table path reports ≡ over made (eqb limit 0) table path reports
+        by : (b : Bool) → eqb limit 0 ≡ b → standing (Ok tt) made limit table path reports ≡ over made (eqb limit 0) table path reports
         by true e = stands_over e ∙ ap (λ b. over made b table path reports) (sym e)
         by false e =
             let none_left : limit - made ≡ 0 = omega arith in
@@ -142,8 +141,8 @@ module _ (j : Job) (bytes : List ℕ) (start : ℕ) where
 
   -- while trials are left: the opening passed, and passes at each trial; there is a record for each
   pub record Going (v : Verdict) (limit : ℕ) (table path : List ℕ) (reports : List Report) : Type 0 where
-    pub done : v ≡ Vd.Done
-    pub opened : open_trial j bytes start table path ≡ Vd.Done
+    pub done : v ≡ Ok tt
+    pub opened : open_trial j bytes start table path ≡ Ok tt
     pub room : limit ≤ length reports
 
   -- The invariant of a run that is to come to o, and that the opening answered with v.
@@ -157,7 +156,7 @@ module _ (j : Job) (bytes : List ℕ) (start : ℕ) where
     pub within : made ≤ 1000
 
   pub may_ride : {o : RunOutcome} {v : Verdict} {made limit : ℕ} {table path : List ℕ} {reports : List Report} → Running o v made limit table path reports → made < limit
-      → open_trial j bytes start table path ≡ Vd.Done
+      → open_trial j bytes start table path ≡ Ok tt
   may_ride s h = (s.going h).opened
 
   pub has_room : {o : RunOutcome} {v : Verdict} {made limit : ℕ} {table path : List ℕ} {reports : List Report} → Running o v made limit table path reports → made < limit
@@ -168,9 +167,9 @@ module _ (j : Job) (bytes : List ℕ) (start : ℕ) where
   pub begins : (trials : ℕ) (table path : List ℕ) (reports : List Report) (v : Verdict) → v ≡ open_run j bytes start table path trials (length reports)
       → Running (run j bytes start trials table path reports) v 0 (allowed_by v trials) table path reports
   unfolding run_by standing
-  begins trials table path reports (Vd.Refused f) e =
+  begins trials table path reports (Err f) e =
       record { comes = ap (λ u. run_of u j bytes (course_from j bytes start trials table path) table path reports) e; going = λ h. absurd (omega arith); few = omega arith; within = omega arith }
-  begins trials table path reports Vd.Done e =
+  begins trials table path reports (Ok _) e =
       let s = ready-run j bytes start table path trials (length reports) (sym e) in
       let c = course_from j bytes start trials table path in
       let many : length (map (report j bytes) c.rides) ≡ length c.rides = length-map c.rides (report j bytes) in
@@ -190,8 +189,8 @@ module _ (j : Job) (bytes : List ℕ) (start : ℕ) where
 
   module _ (o : RunOutcome) (made limit : ℕ) (table path : List ℕ) (reports : List Report) where
     -- one trial more, of a run that is opened
-    turned : Running o Vd.Done made limit table path reports → made < limit
-        → Running o Vd.Done (made + 1) (limit_after limit (report j bytes (this 0 made table path reports)))
+    turned : Running o (Ok tt) made limit table path reports → made < limit
+        → Running o (Ok tt) (made + 1) (limit_after limit (report j bytes (this 0 made table path reports)))
         (this 0 made table path reports).table (this 0 made table path reports).path (filed 0 made table path reports)
     turned s h = by (eqb (ride j bytes start table path).learned 0) refl
       where
@@ -209,7 +208,7 @@ module _ (j : Job) (bytes : List ℕ) (start : ℕ) where
             let at : suc k ≡ limit - made = omega arith in
             ap (λ (n : ℕ). goes_on n made table path reports) at ∙ sym (stands-going made limit table path reports (ne_eqb limit 0 (λ e. omega arith))) ∙ s.comes
 
-        by : (b : Bool) → eqb r.learned 0 ≡ b → Running o Vd.Done (made + 1) (limit_after limit (report j bytes r)) r.table r.path rs
+        by : (b : Bool) → eqb r.learned 0 ≡ b → Running o (Ok tt) (made + 1) (limit_after limit (report j bytes r)) r.table r.path rs
         by true e =
             rw e
             (record {
@@ -241,7 +240,7 @@ module _ (j : Job) (bytes : List ℕ) (start : ℕ) where
     -- one trial more
     pub turns : made < limit → (r : Report) (t p : List ℕ) → Rode j bytes (ride j bytes start table path) r t p → Running o v (made + 1) (limit_after limit r) t p (set reports made r)
     turns h r t p d =
-        let told : v ≡ Vd.Done = (s.going h).done in
+        let told : v ≡ Ok tt = (s.going h).done in
         rw (d.record_is, d.table_is, d.path_is, told) (turned o made limit table path reports (rw told at s) h)
 
     -- none is left

@@ -16,9 +16,8 @@ use Rattle.answers.specs.declared.Job.{Job}
 use Rattle.answers.specs.declared.State.{State}
 use Rattle.answers.specs.declared.Report.{Report}
 use Rattle.answers.specs.declared.Refusal.{Refusal}
-use Rattle.answers.specs.declared.Verdict.{Verdict}
-use Rattle.answers.specs.declared.Verdict.TheVariants as Vd
-use Rattle.answers.specs.declared.Tried.TheVariants as Td
+use Rattle.answers.specs.Outcomes.{Verdict}
+use Rattle.std.specs.Prelude.{Ok, Err}
 use Rattle.answers.specs.Says.{says_tried}
 use Rattle.model.specs.Basics.{member}
 use Rattle.model.specs.Checks.{floor_of, goals}
@@ -67,7 +66,7 @@ pub record Along (j : Job) (bytes : List ℕ) (s : State) (path along : List ℕ
 abbrev pub yet_to : Job → List ℕ → State → (table path : List ℕ) → ℕ
 yet_to j bytes s table path = potential (learning_job j bytes) (as_state s table path)
 
-module _ (j : Job) (bytes : List ℕ) (start : ℕ) (table₀ path₀ : List ℕ) (opened : open_trial j bytes start table₀ path₀ ≡ Vd.Done) where
+module _ (j : Job) (bytes : List ℕ) (start : ℕ) (table₀ path₀ : List ℕ) (opened : open_trial j bytes start table₀ path₀ ≡ Ok tt) where
   abbrev R : openings.Ready j bytes start table₀ path₀
   R = openings.ready j bytes start table₀ path₀ opened
 
@@ -253,7 +252,7 @@ pub record Underway (j : Job) (bytes : List ℕ) (start : ℕ) (table₀ path₀
   -- the sums of the legs
   pub legs_so : Along j bytes w.state path along
 
-module _ {j : Job} {bytes : List ℕ} {start : ℕ} {table₀ path₀ : List ℕ} (opened : open_trial j bytes start table₀ path₀ ≡ Vd.Done) where
+module _ {j : Job} {bytes : List ℕ} {start : ℕ} {table₀ path₀ : List ℕ} (opened : open_trial j bytes start table₀ path₀ ≡ Ok tt) where
   pub sets_out : {mark cost list place along : List ℕ} → Scratch mark cost list place along
       → Underway j bytes start table₀ path₀ (set_out start) table₀ path₀ mark cost list place along
   sets_out l = record {
@@ -298,7 +297,7 @@ module _ {j : Job} {bytes : List ℕ} {start : ℕ} {table₀ path₀ : List ℕ
         pub nearer : yet_to j bytes r.state table' path' < yet_to j bytes w.state table path
         nearer = lowers j bytes start table₀ path₀ opened u.drive e a
 
-pub sets_out_at : (j : Job) (bytes : List ℕ) {start : ℕ} {table₀ path₀ mark cost list place along : List ℕ} (opened : open_trial j bytes start table₀ path₀ ≡ Vd.Done)
+pub sets_out_at : (j : Job) (bytes : List ℕ) {start : ℕ} {table₀ path₀ mark cost list place along : List ℕ} (opened : open_trial j bytes start table₀ path₀ ≡ Ok tt)
     (l : Scratch mark cost list place along) → (sets_out opened l).drive.at ≡ begun start table₀ path₀
 unfolding sets_out begins
 sets_out_at j bytes opened l = refl
@@ -306,18 +305,18 @@ sets_out_at j bytes opened l = refl
 -- ---- a trial's answer, by what the opening answers
 
 module _ (j : Job) (bytes : List ℕ) (start : ℕ) (table path : List ℕ) where
-  pub trial-refused : {v : Verdict} {f : Refusal} → v ≡ open_trial j bytes start table path → v ≡ Vd.Refused f → IsTrial (trial j bytes start table path) (Td.Refused f) table path
+  pub trial-refused : {v : Verdict} {f : Refusal} → v ≡ open_trial j bytes start table path → v ≡ Err f → IsTrial (trial j bytes start table path) (Err f) table path
   unfolding trial_by
   trial-refused judged e =
       let o = ap (λ u. trial_of u j bytes (ride j bytes start table path) table path) (sym judged ∙ e) in
       record { answer_is = ap (λ u. says_tried u.answer) (sym o); table_is = ap (λ u. u.table) (sym o); path_is = ap (λ u. u.path) (sym o) }
 
-  pub trial-made : {v : Verdict} {r : Report} {t p : List ℕ} → v ≡ open_trial j bytes start table path → v ≡ Vd.Done → Rode j bytes (ride j bytes start table path) r t p
-      → IsTrial (trial j bytes start table path) (Td.Made r) t p
+  pub trial-made : {v : Verdict} {r : Report} {t p : List ℕ} → v ≡ open_trial j bytes start table path → v ≡ Ok tt → Rode j bytes (ride j bytes start table path) r t p
+      → IsTrial (trial j bytes start table path) (Ok r) t p
   trial-made judged e d =
       let o = trial_is_made j bytes start table path (sym judged ∙ e) in
       record {
-        answer_is = ap (λ x. says_tried (Td.Made x)) d.record_is ∙ ap (λ u. says_tried u.answer) (sym o);
+        answer_is = ap (λ x. says_tried (Ok x)) d.record_is ∙ ap (λ u. says_tried u.answer) (sym o);
         table_is = d.table_is ∙ ap (λ u. u.table) (sym o);
         path_is = d.path_is ∙ ap (λ u. u.path) (sym o);
       }

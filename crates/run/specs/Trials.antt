@@ -3,11 +3,8 @@ use Rattle.std.specs.Prelude.{ℕ, ◌+◌, ◌<◌, ◌≡◌, List, eqb, ltb, 
 use Rattle.learning.specs.Ground.{pick}
 use Rattle.answers.specs.declared.Job.{Job}
 use Rattle.answers.specs.declared.Report.{Report}
-use Rattle.answers.specs.declared.Verdict.{Verdict}
-use Rattle.answers.specs.declared.Verdict.TheVariants as Vd
-use Rattle.answers.specs.declared.Tried.{Tried}
-use Rattle.answers.specs.declared.Ran.{Ran}
-use Rattle.answers.specs.declared.Ran.TheVariants as Rn
+use Rattle.answers.specs.Outcomes.{Verdict, Tried, Ran, made_run}
+use Rattle.std.specs.Prelude.{Ok, Err}
 use Rattle.answers.specs.Says.{says_tried, says_ran}
 use Rattle.model.specs.Basics.{choose}
 use Rattle.model.specs.Ride.{Ride, report, TrialOutcome, RunOutcome}
@@ -55,13 +52,13 @@ pub record IsRun (o : RunOutcome) (r : Ran) (table path : List ℕ) (reports : L
 
 -- how many trials a run may come to: none where it is refused; and 0 from a trial on that learned nothing
 abbrev pub allowed_by : Verdict → ℕ → ℕ
-allowed_by Vd.Done trials = trials
-allowed_by (Vd.Refused r) trials = 0
+allowed_by (Ok _) trials = trials
+allowed_by (Err r) trials = 0
 
 abbrev pub limit_after : ℕ → Report → ℕ
 limit_after limit r = pick (eqb r.learned 0) 0 limit
 
 -- what a run answers that made so many trials
 abbrev pub answered : Verdict → (made limit : ℕ) → Ran
-answered Vd.Done made limit = Rn.Made made (eqb limit 0)
-answered (Vd.Refused r) made limit = Rn.Refused r
+answered (Ok _) made limit = made_run made (eqb limit 0)
+answered (Err r) made limit = Err r

@@ -9,8 +9,8 @@ use native.Mathlib.Omega.{arith}
 use lib.ListN.{length, get_or, take, drop, set, length-drop, length-set}
 use Rattle.answers.specs.declared.Goals.{Goals}
 use Rattle.answers.specs.declared.Place.TheVariants as P
-use Rattle.answers.specs.declared.Verdict.{Verdict}
-use Rattle.answers.specs.declared.Verdict.TheVariants as Vd
+use Rattle.answers.specs.Outcomes.{Verdict}
+use Rattle.std.specs.Prelude.{Ok}
 use Rattle.model.specs.Basics.{refuse_at}
 use Rattle.model.specs.Floor.{Floor, size, goals_of}
 use Rattle.model.specs.TableFile.{second_long, edition_in, count_in, back_in, trailer_holds, check_trailer, find_records, goal_place}
@@ -25,7 +25,7 @@ use Rattle.learning.proofs.Words.{le-leb}
 
 -- ---- what an opened table gives
 
-pub opened : (f : Floor) (q : ℕ) (g : Goals) (n : ℕ) → open_table f q g n ≡ Vd.Done → Opened f q (goals_of g) × (n ≡ size f)
+pub opened : (f : Floor) (q : ℕ) (g : Goals) (n : ℕ) → open_table f q g n ≡ Ok tt → Opened f q (goals_of g) × (n ≡ size f)
 opened f q g n e = let o = openable f q g n e in (record { sized = o.sized; scale = o.scale; benches = o.benches }, o.cells)
 
 -- ---- the trailer, and the records that it points to
@@ -38,7 +38,7 @@ module _ (file : List ℕ) where
   pub ending-room : trailer_holds file ≡ true → 12 ≤ length file
   ending-room e = omega (arith, (points e).room)
 
-  pub checked : check_trailer file ≡ Vd.Done → trailer_holds file ≡ true
+  pub checked : check_trailer file ≡ Ok tt → trailer_holds file ≡ true
   checked e = (trailer_tells file).shown ((trailer_judges file).gives e)
 
   -- what is not of edition 1 has room for a trailer of edition 2
@@ -56,7 +56,7 @@ module _ (file : List ℕ) where
   records-long n part a b e = rw (a, b) (omega (arith, found-long file ((trailer_tells file).holds e)))
 
 -- once nothing stands ahead of the records, the table that the trailer points to decides
-pub by_table : (s : Site) (floor file : List ℕ) (figures : ℕ) → length file ≤ back_in file → open_table (floor_at s floor) s.q s.goals figures ≡ Vd.Done → trailer_holds file ≡ true
+pub by_table : (s : Site) (floor file : List ℕ) (figures : ℕ) → length file ≤ back_in file → open_table (floor_at s floor) s.q s.goals figures ≡ Ok tt → trailer_holds file ≡ true
     → read_verdict (floor_at s floor) s.q s.goals file figures ≡ judge_table (floor_at s floor) s.q (goals_at s) file
 unfolding read_verdict check_trailer check_ahead
 by_table s floor file figures l o h = rw (o, h, le-leb _ _ l)
@@ -97,7 +97,7 @@ module _ {f : Floor} {q : ℕ} {gs : List ℕ} {n : ℕ} {part : List ℕ} where
         let j : n - i ≡ suc (n - suc i) = omega arith in
         r ∙ (sym (judge-stop f q gs low t (n - suc i) i k (sym e) h) ∙ rw j at g.left)
 
-    pub judging_all : n ≤ i → Vd.Done ≡ judge_records f q gs n 0 0 part
+    pub judging_all : n ≤ i → Ok tt ≡ judge_records f q gs n 0 0 part
     unfolding judge_records
     judging_all h = (let e : n - i ≡ 0 = omega arith in rw e) ∙ g.left
 
@@ -131,5 +131,5 @@ module _ {n : ℕ} {part table₀ : List ℕ} where
     applying_all h = (let e : n - i ≡ 0 = omega arith in rw e) ∙ g.left
 
 -- ---- what an accepted reading gives
-pub read-open : (f : Floor) (q : ℕ) (g : Goals) (file : List ℕ) (n : ℕ) → read_verdict f q g file n ≡ Vd.Done → Openable f q g n × (trailer_holds file ≡ true)
+pub read-open : (f : Floor) (q : ℕ) (g : Goals) (file : List ℕ) (n : ℕ) → read_verdict f q g file n ≡ Ok tt → Openable f q g n × (trailer_holds file ≡ true)
 read-open f q g file n e = let r = (read-gives f q g file n e).0 in (openable f q g n r.opens, checked file r.checked)

@@ -6,7 +6,7 @@ use mathlib.Core.Logic.{⊎_elim}
 use Prim.Native.Nat.{ℕ, ◌+◌, ◌*◌, ◌≤◌, ◌<◌}
 use native.Mathlib.Omega.{arith}
 use lib.ListN.{length, drop}
-use Rattle.answers.specs.declared.Verdict.TheVariants as Vd
+use Rattle.std.specs.Prelude.{Ok}
 use Rattle.model.specs.TableFile.{half_at, first_long, second_long, trailer, scale_in, edition_in, count_in, trailer_holds, find_records, trailer_of}
 use Rattle.model.specs.Renewal.{renewed_trailer, renewed, renew_verdict}
 use Rattle.model.proofs.Accepted.{then_done}
@@ -52,7 +52,7 @@ module _ (file : List ℕ) (held : trailer_holds file ≡ true) where
       (omega (arith, long, renewed-bytes, found-long file ((trailer_tells file).holds held)), behind (find_records file) (renewed_trailer file) buffer mid after at long front h)
 
 -- what an accepted renewing has shown
-pub renew-gives : (file : List ℕ) (room : ℕ) → renew_verdict file room ≡ Vd.Done → (trailer_holds file ≡ true) × (second_long + length (find_records file) ≤ room)
+pub renew-gives : (file : List ℕ) (room : ℕ) → renew_verdict file room ≡ Ok tt → (trailer_holds file ≡ true) × (second_long + length (find_records file) ≤ room)
 unfolding renew_verdict
 renew-gives file room e =
     let (sound, roomy) = then_done _ _ e in

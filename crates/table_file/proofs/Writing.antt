@@ -10,7 +10,7 @@ use lib.ListN.{length, take, drop, get_or, take-append-drop, length-append}
 use lib.Seq.{take_at, drop_at, drop-drop}
 use Rattle.answers.specs.declared.Goals.{Goals}
 use Rattle.answers.specs.declared.Place.TheVariants as P
-use Rattle.answers.specs.declared.Verdict.TheVariants as Vd
+use Rattle.std.specs.Prelude.{Ok}
 use Rattle.model.specs.Basics.{refuse_at}
 use Rattle.model.specs.Floor.{Floor, size, opening, goals_of}
 use Rattle.model.specs.TableFile.{second_long, half, word, changed, records_of, trailer_of, file_of, write_verdict}
@@ -117,11 +117,11 @@ module _ (f : Floor) (q : ℕ) (gs table : List ℕ) (count room : ℕ) (c : cou
   unfolding file_room
   no_room h = simp (lt-leb (length (file_of f q gs table)) room (omega (arith, length-file f q gs table)))
 
-  pub roomy : second_long + 6 * count ≤ room → file_room (length (file_of f q gs table)) room ≡ Vd.Done
+  pub roomy : second_long + 6 * count ≤ room → file_room (length (file_of f q gs table)) room ≡ Ok tt
   unfolding file_room
   roomy h = simp (le-leb (length (file_of f q gs table)) room (omega (arith, length-file f q gs table)))
 
-pub ample : (f : Floor) (q : ℕ) (gs table : List ℕ) (n room : ℕ) → n ≡ size f → second_long + 6 * n ≤ room → file_room (length (file_of f q gs table)) room ≡ Vd.Done
+pub ample : (f : Floor) (q : ℕ) (gs table : List ℕ) (n room : ℕ) → n ≡ size f → second_long + 6 * n ≤ room → file_room (length (file_of f q gs table)) room ≡ Ok tt
 ample f q gs table n room e h = roomy f q gs table (length (changed f q gs table (size f) 0)) room refl (omega (arith, changed_few f q gs table (size f) 0))
 
 -- the trailer's two parts are the trailer, where each number fits in its byte
@@ -176,7 +176,7 @@ pub record Writable (f : Floor) (q : ℕ) (gs table : List ℕ) (room : ℕ) : T
   pub fits : second_long + 6 * length (changed f q gs table (size f) 0) ≤ room
   pub few : length (changed f q gs table (size f) 0) ≤ 4096
 
-pub writable : (f : Floor) (q : ℕ) (g : Goals) (table : List ℕ) (room : ℕ) → write_verdict f q g table room ≡ Vd.Done → Writable f q (goals_of g) table room
+pub writable : (f : Floor) (q : ℕ) (g : Goals) (table : List ℕ) (room : ℕ) → write_verdict f q g table room ≡ Ok tt → Writable f q (goals_of g) table room
 writable f q g table room e =
     let w = write-gives f q g table room e in
     let (o, z) = opened f q g (length table) w.0 in

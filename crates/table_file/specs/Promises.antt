@@ -1,7 +1,7 @@
 -- What the table calls promise, and what an opened table's job is known to meet.
 use Rattle.std.specs.Prelude.{ℕ, ◌-◌, ◌≤◌, ◌≡◌, List, length}
 use Rattle.answers.specs.Says.{says_verdict}
-use Rattle.answers.specs.declared.Verdict.{Verdict}
+use Rattle.answers.specs.Outcomes.{Verdict}
 use Rattle.model.specs.Basics.{choose}
 use Rattle.model.specs.Floor.{Floor, Sized, size}
 use Rattle.model.specs.Checks.{finest, Benched}

@@ -1,6 +1,6 @@
 -- `decision::judge` meets its contract: a check that is refused stops the next ones, and one that is done gives what the next ones ask for.
 use Rattle.learning.proofs.Words.{◌≡◌, sym, ◌∙◌, length}
-use Rattle.answers.specs.declared.Verdict.{Verdict}
+use Rattle.answers.specs.Outcomes.{Verdict}
 use Rattle.model.specs.Checks.{floor_of, figures}
 use Rattle.model.proofs.Accepted.{then_stops, then_goes, settings_judges}
 use Rattle.decision.proofs.Judging.{Fits, fits, ordered, judged-refused, judged_checked}

@@ -14,8 +14,7 @@ use denote.Struct.Laws as LL
 use denote.Enum.Laws as EL
 use Rattle.answers.specs.declared.Job.{Job}
 use Rattle.answers.specs.declared.Report.{Report}
-use Rattle.answers.specs.declared.Verdict.{Verdict}
-use Rattle.answers.specs.declared.Ran.{Ran}
+use Rattle.answers.specs.Outcomes.{Verdict, Ran}
 use Rattle.model.specs.Opening.{open_run}
 use Rattle.model.specs.Ride.{ride, RunOutcome}
 use Rattle.model.specs.Ride as model
