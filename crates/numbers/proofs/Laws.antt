@@ -6,9 +6,8 @@ use mathlib.Core.Bool.{Bool, true, false, ◌&&◌}
 use mathlib.Core.List.{List, [], ◌∷◌}
 use native.Mathlib.Nat.{add-zero}
 use native.Mathlib.Decide.{dec_le}
-use native.Mathlib.Numerals.{add-one}
 use native.Mathlib.Omega.{arith}
-use borrow.Author.Tests.{leb-true, le-leb, lt-leb, ne_eqb}
+use borrow.Author.Tests.{le-leb, lt-leb, ne_eqb}
 use lib.Dec.{leb}
 use lib.ListN.{length, get_or, drop, drop_of_length-le, length-drop}
 use Rattle.model.specs.FloorText.{is_digit}
@@ -16,12 +15,12 @@ use Rattle.model.proofs.Openings.{not_both}
 use Rattle.notation.specs.declared.digits.Run.{Run}
 use Rattle.notation.specs.Runs.{digits_in, value_in, run_at}
 use Rattle.notation.proofs.Runs.{digit_bounds, here, one_digit, no_digit, with_small, with_great, stays_great, run_after, run-rest}
-use Rattle.std.specs.Prelude.{Option, Some, None, IfSome, not, is_none}
-use Rattle.std.specs.List.{list_all, position, position_from}
+use Rattle.std.specs.Prelude.{Option, Some, None, IfSome, not}
+use Rattle.std.specs.List.{position, position_from}
 use Rattle.std.proofs.lemmas.Iterator.Adapters.{position_from-zero}
 use lib.Seq.{drop-drop}
-use Rattle.std.proofs.lemmas.Option.{IfSome_then, none-some, same_Some, cond_some}
-use Rattle.numbers.specs.Reading.{is_blank, greatest, digits_from, number_from, number_at, number_in, ended_at, at_most}
+use Rattle.std.proofs.lemmas.Option.{IfSome_then, none-some, same_Some}
+use Rattle.numbers.specs.Reading.{is_blank, greatest, digits_from, number_from, number_at}
 
 abbrev found : (value at : ℕ) → Option Run
 found value at = Some (record { value = value; after = at })
@@ -130,7 +129,7 @@ digits_short at value [] = omega arith
 digits_short at value (b ∷ bs) = go (is_blank b) (is_digit b && leb (10 * value + (b - 48)) greatest) (digits_short (suc at) (10 * value + (b - 48)) bs)
   where
     go : (s t : Bool) → IfSome (digits_from (suc at) (10 * value + (b - 48)) bs) (λ r. r.after ≤ suc at + length bs)
-        → IfSome (elim s [ | true ↦ found value at | false ↦ elim t [ true ↦ digits_from (suc at) (10 * value + (b - 48)) bs | false ↦ None ] ]) (λ r. r.after ≤ at + suc (length bs))
+        → IfSome (elim s [ true ↦ found value at | false ↦ elim t [ true ↦ digits_from (suc at) (10 * value + (b - 48)) bs | false ↦ None ] ]) (λ r. r.after ≤ at + suc (length bs))
     go true t h = omega arith
     go false true h = IfSome_then (digits_from (suc at) (10 * value + (b - 48)) bs) h (λ r k. omega arith)
     go false false h = tt

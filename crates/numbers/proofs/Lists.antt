@@ -1,11 +1,11 @@
 -- Lists that are read, whatever their entries: one turn of the loop, its start and its ends.
 -- Reading on from here gives what reading the whole list gives. Assumes nothing.
-use Rattle.std.proofs.Common.{◌≡◌, ℕ, zero, suc, ◌+◌, ◌-◌, ◌≤◌, ◌<◌, List, ◌++◌, length, map, drop, take, set, length-set, Option, Some, None, refl, sym, ap, ◌∙◌, arith, add-one, take-append-drop}
+use Rattle.std.proofs.Common.{◌≡◌, ℕ, suc, ◌+◌, ◌-◌, ◌≤◌, ◌<◌, List, ◌++◌, length, map, drop, take, set, length-set, Option, Some, None, refl, sym, ◌∙◌, arith, add-one, take-append-drop}
 use Rattle.std.proofs.lemmas.List.{length-map, length-take-le, map-set, set-append_left}
 use Rattle.std.proofs.lemmas.Option.{none-some, same_Some}
 use borrow.Author.Tests.{le-leb, lt-leb}
 use Rattle.notation.specs.declared.digits.Run.{Run}
-use Rattle.numbers.specs.Reading.{number_in, value_of, place_after, Filled, faulty, fill_from, read_list, Read}
+use Rattle.numbers.specs.Reading.{number_in, value_of, place_after, Filled, fill_from, read_list, Read}
 
 -- what a call for one number answers, and where it leaves the reader
 module _ (at : ℕ) where

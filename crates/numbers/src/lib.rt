@@ -2,7 +2,7 @@
 
 #![tactic(auto)]
 
-// pub mod print;
+pub mod print;
 
 ghost use Rattle.std.specs.Prelude.{◌≡◌, ◌≤◌, ℕ, length, map, drop, position, not, IfSome};
 ghost use Rattle.numbers.specs.Reading.{is_blank, greatest, digits_from, number_at, number_in, value_of, place_after, ended_at, Read, read_list, list_at};
@@ -33,7 +33,7 @@ impl Entry for u8 {
 
     ghost MOST = { 255 };
 
-    const MOST: usize = 255;
+    const MOST: usize = u8::MAX as usize;
 
     fn from_number(n: usize) -> u8 {
         n as u8
@@ -49,7 +49,7 @@ impl Entry for u16 {
 
     ghost MOST = { 65535 };
 
-    const MOST: usize = 65535;
+    const MOST: usize = u16::MAX as usize;
 
     fn from_number(n: usize) -> u16 {
         n as u16
@@ -65,7 +65,7 @@ impl Entry for u32 {
 
     ghost MOST = { 4294967295 };
 
-    const MOST: usize = 4294967295;
+    const MOST: usize = u32::MAX as usize;
 
     fn from_number(n: usize) -> u32 {
         n as u32
@@ -81,7 +81,7 @@ impl Entry for u64 {
 
     ghost MOST = { 4294967295 };
 
-    const MOST: usize = 4294967295;
+    const MOST: usize = GREATEST;
 
     fn from_number(n: usize) -> u64 {
         n as u64

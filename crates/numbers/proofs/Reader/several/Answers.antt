@@ -1,5 +1,5 @@
 -- `numbers::Reader::several` meets its contract. The loop's invariant: `Filling`, reading on from here gives what reading the whole list gives.
-use Rattle.std.proofs.Common.{rules, arith, sym, ap, ◌∙◌, refl, length, ◌<◌}
+use Rattle.std.proofs.Common.{arith, ◌∙◌, refl}
 use Rattle.std.proofs.lemmas.List.{set-get_or}
 use Rattle.numbers.proofs.Lists.{filling, filling_long, filling_off, filling_more, filling_all}
 use Rattle.numbers.proofs.Reader.several.Goals as goal
