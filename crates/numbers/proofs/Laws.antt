@@ -1,5 +1,5 @@
 -- What stands at a place of an input: the number that a run of digits makes, after any blanks, or none.
--- A loop's invariant is that reading on from here gives what reading from the start gives. Assumes nothing.
+-- Assumes nothing.
 use Prim.Native.Nat.{ℕ, suc, ◌+◌, ◌-◌, ◌*◌, ◌≤◌, ◌<◌}
 use mathlib.Core.Path.{◌≡◌, refl, sym, ap, ◌∙◌}
 use mathlib.Core.Bool.{Bool, true, false, ◌&&◌}

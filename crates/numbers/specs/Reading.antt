@@ -49,11 +49,12 @@ abbrev pub place_after : ℕ → Option Run → ℕ
 place_after at (Some r) = r.after
 place_after at None = at
 
--- nothing is left
+-- nothing but blanks is left
 abbrev pub ended_at : (input : List ℕ) (at : ℕ) → Bool
 ended_at input at = list_all is_blank (drop at input)
 
--- what is answered of a list, the length or none after a fault; the place then; and the lent list with what was read
+-- what is answered of a list, its length or nothing after a fault; the place then, which after a fault is where the number was looked for; and the lent
+-- list with what was read
 pub record Filled : Type 0 where
   pub answer : Option ℕ
   pub at : ℕ
@@ -79,7 +80,7 @@ list_after most input at None list = faulty at list
 abbrev pub list_at : (most : ℕ) (input : List ℕ) (at : ℕ) → List ℕ → Filled
 list_at most input at list = list_after most input at (number_in greatest input at) list
 
-pub record Read (f : Filled) (answer' : Option ℕ) (at : ℕ) (list : List ℕ) : Type 0 where
-  pub answer : answer' ≡ f.answer
+pub record Read (f : Filled) (result : Option ℕ) (at : ℕ) (list : List ℕ) : Type 0 where
+  pub answer : result ≡ f.answer
   pub place : at ≡ f.at
   pub entries : list ≡ f.list
