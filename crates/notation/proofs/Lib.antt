@@ -1,4 +1,5 @@
--- Laws of notation: Runs of digits that are read, Decimals of numbers that are printed, and Puts of bytes.
+-- Laws of notation: Runs of digits that are read, Decimals of numbers and what a printer Prints, and Puts of bytes.
 pub mod Puts
 pub mod Runs
 pub mod Decimals
+pub mod Prints

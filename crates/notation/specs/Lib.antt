@@ -1,4 +1,5 @@
--- What the functions of notation promise: Runs of digits that are read, Printing, and Puts of bytes.
+-- What the functions of notation promise: Runs of digits that are read, Printing and what a printer Prints, and Puts of bytes.
 pub mod Puts
 pub mod Runs
 pub mod Printing
+pub mod Prints

@@ -8,8 +8,8 @@ pub fn half_at(bytes: &[u8], at: usize) -> usize
     requires { at + 2 ≤ length bytes.now }
     ensures { (result ≡ half_at bytes.now at) × (result < 65536) }
 {
-    let a = super::wide8(bytes[at]);
-    let b = super::wide8(bytes[at + 1]);
+    let a = usize::from(bytes[at]);
+    let b = usize::from(bytes[at + 1]);
     a * 256 + b
 }
 
