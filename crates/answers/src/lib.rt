@@ -2,6 +2,8 @@
 
 #![tactic(auto)]
 
+ghost use Rattle.std.specs.Prelude.{◌≡◌};
+
 // The goals of a job, where a trip may end: how many are named, and the first four of them. A place past the count is not looked at.
 #[derive(Clone, Copy)]
 pub struct Goals {
@@ -46,6 +48,18 @@ pub enum Place {
 pub struct Refusal {
     pub number: usize,
     pub place: Place,
+}
+
+impl Refusal {
+    // A refusal that names no place.
+    pub fn numbered(number: usize) -> Refusal
+        ensures { result ≡ record { number = number; place = Place.Nowhere } }
+    {
+        Refusal {
+            number,
+            place: Place::Nowhere,
+        }
+    }
 }
 
 // What a decision answers.

@@ -1,5 +1,6 @@
 -- The lowest cell before another: the first that a move leads to, the moves to the lowest cells being tried first.
 -- Assumes nothing.
+use Rattle.std.specs.Prelude.{None}
 use mathlib.Core.Path.{◌≡◌, ap, sym, ◌∙◌}
 use mathlib.Core.List.{List}
 use Prim.Native.Nat.{ℕ, ◌+◌, ◌≤◌, ◌<◌}
@@ -12,8 +13,7 @@ use Rattle.model.specs.Grounds.{price_same}
 use Rattle.model.specs.Lookahead.{fine}
 use Rattle.model.proofs.Moves.{opposite-lt}
 use Rattle.floor.specs.declared.Step.{Step}
-use Rattle.floor.specs.declared.Step.TheVariants.{To, Wall}
-use Rattle.floor.specs.Moves.{step_of}
+use Rattle.floor.specs.Moves.{to, step_of}
 use Rattle.floor.proofs.Steps.{step-heading, price-step, wall≢to, same_to}
 use Rattle.lookahead.specs.declared.Link.{Link}
 use Rattle.lookahead.specs.Marks.{In}
@@ -26,10 +26,10 @@ module _ {f : Floor} {base : ℕ} {mark cost : List ℕ} {x : ℕ} where
   -- ---- one move
 
   module _ {j : ℕ} {b : Link} (e : b.cell ≡ 4096) where
-    led_nowhere : ((y v : ℕ) → step_of f x j ≡ To y v → Before f base mark cost x y → ⊥) → Led f base mark cost x j b
+    led_nowhere : ((y v : ℕ) → step_of f x j ≡ to y v → Before f base mark cost x y → ⊥) → Led f base mark cost x j b
     led_nowhere n = record { some = λ l. absurd (omega arith); none = λ l. n }
 
-    pub led_wall : {told : Step} → told ≡ step_of f x j → told ≡ Wall → Led f base mark cost x j b
+    pub led_wall : {told : Step} → told ≡ step_of f x j → told ≡ None → Led f base mark cost x j b
     led_wall s w = led_nowhere (λ y v t. absurd (wall≢to y v (sym w ∙ s ∙ t)))
 
     module _ {y v : ℕ} (M : Moved f x j y v) where
@@ -80,7 +80,7 @@ module _ {f : Floor} {base : ℕ} {mark cost : List ℕ} {x : ℕ} where
         lowest : (y : ℕ) → Before f base mark cost x y → b.cell ≤ y
         lowest y B = by (dec_le i k) (dec_le k i)
           where
-            step : (m : ℕ) × (m < 8) × (step_of f x m ≡ To y (price f x y))
+            step : (m : ℕ) × (m < 8) × (step_of f x m ≡ to y (price f x y))
             step = price-step f z x y (omega (arith, price_same f x y))
 
             found : (k : ℕ) × (k < 8) × (rising_move k ≡ step.0)
@@ -89,7 +89,7 @@ module _ {f : Floor} {base : ℕ} {mark cost : List ℕ} {x : ℕ} where
             k : ℕ
             k = found.0
 
-            there : step_of f x (rising_move k) ≡ To y (price f x y)
+            there : step_of f x (rising_move k) ≡ to y (price f x y)
             there = ap (step_of f x) found.2 ∙ step.2
 
             by : Dec (i ≤ k) → Dec (k ≤ i) → b.cell ≤ y

@@ -1,5 +1,6 @@
 -- Costs that are lowered along moves: they stay the costs of walks, and where no move lowers any, each is the least.
 -- Assumes nothing.
+use Rattle.std.specs.Prelude.{None}
 use mathlib.Core.Path.{◌≡◌, refl, ap, sym, ◌∙◌}
 use mathlib.Core.List.{List, [], ◌∷◌}
 use mathlib.Core.Bool.{Bool, true, false, true≢false}
@@ -17,8 +18,7 @@ use Rattle.model.specs.Floor.{Floor, Sized, least_price, price}
 use Rattle.model.specs.Lookahead.{fineness, fine}
 use Rattle.model.specs.Grounds.{price_same}
 use Rattle.floor.specs.declared.Step.{Step}
-use Rattle.floor.specs.declared.Step.TheVariants.{Wall}
-use Rattle.floor.specs.Moves.{step_of}
+use Rattle.floor.specs.Moves.{to, step_of}
 use Rattle.floor.proofs.Steps.{stepped, price-step, wall≢to, same_to}
 use Rattle.lookahead.specs.Marks.{net, note_at, In}
 use Rattle.lookahead.specs.Costs.{total, at, dearest_fine, Costs, Walked, Under, Followed, Eased, Easing, Lowered, Lower, Listing, Noted, Topmost, Again, Passed, Relaxed}
@@ -123,7 +123,7 @@ module _ {f : Floor} {base : ℕ} {mark : List ℕ} where
       lowered_more p q (λ t y. (y.0, below_more _ m (λ i l d v s h. omega (arith, t.1 i l d v s h, q.drop d)) y.1))
 
   -- a move that leads nowhere, or out of the window, lowers nothing
-  pub eased_wall : (c m : ℕ) {w : ℕ} {cost : List ℕ} {b : Bool} {told : Step} → Costs f base mark cost → at cost c ≡ w → told ≡ step_of f c m → told ≡ Wall
+  pub eased_wall : (c m : ℕ) {w : ℕ} {cost : List ℕ} {b : Bool} {told : Step} → Costs f base mark cost → at cost c ≡ w → told ≡ step_of f c m → told ≡ None
       → Lowered f base mark (Eased f base mark c m w) cost b cost b
   eased_wall c m C own e t = lowered_none C (own, λ x u s i. absurd (wall≢to x u (sym t ∙ e ∙ s)))
 

@@ -7,8 +7,7 @@ use Rattle.model.specs.Floor.{Floor, free, dearest_price}
 use Rattle.model.specs.Checks.{deepest}
 use Rattle.model.specs.Lookahead.{fine, fine_of}
 use Rattle.floor.specs.declared.Spot.{Spot}
-use Rattle.floor.specs.declared.Step.TheVariants.{To}
-use Rattle.floor.specs.Moves.{Placed, step_of}
+use Rattle.floor.specs.Moves.{to, Placed, step_of}
 use Rattle.lookahead.specs.Contract.{last_base}
 
 -- the moves of a floor at their fine prices
@@ -59,7 +58,7 @@ pub record Room (f : Floor) (base : ℕ) (S : State) : Type 0 where
   pub sizes : Sizes base S
   pub free : (x : ℕ) → In base S.mark x → free f x ≡ true
   pub cheap : (x : ℕ) → In base S.mark x → cost_at S x ≤ fine dearest_price * (mark_of S x - base)
-  pub notes : (i : ℕ) → i < S.n → (m d v : ℕ) → m < 8 → step_of f (cell_of S i) m ≡ To d v
+  pub notes : (i : ℕ) → i < S.n → (m d v : ℕ) → m < 8 → step_of f (cell_of S i) m ≡ to d v
       → (note_at S.list i ≡ 65535) ⊎ (In base S.mark d × (cost_at S d ≤ note_at S.list i + fine v))
 
 -- the cells of mark g are being found, and stand in the list from `to` on; a walk of its ring's moves leads
@@ -82,7 +81,7 @@ pub record Kept (base : ℕ) (S S' : State) : Type 0 where
 
 -- every cell that one move leads to from x has a mark, for the moves below m
 abbrev pub Out : Floor → ℕ → State → (x m : ℕ) → Type 0
-Out f base S x m = (i : ℕ) → i < m → (d v : ℕ) → step_of f x i ≡ To d v → In base S.mark d
+Out f base S x m = (i : ℕ) → i < m → (d v : ℕ) → step_of f x i ≡ to d v → In base S.mark d
 
 -- the list with a new cell after its first n, whose moves were not followed yet
 abbrev pub entered : (list : List ℕ) (n d : ℕ) → List ℕ
@@ -116,13 +115,13 @@ pub record Leaving (f : Floor) (base c : ℕ) (at : Spot) (k w : ℕ) (S : State
 -- the move m from c, of cost w, leads to a marked cell or none, which costs no more than the move adds; c itself costs what it did
 pub record Extended (f : Floor) (base k c m w : ℕ) (S S' : State) : Type 0 where
   pub grew : Grew f base k S S'
-  pub out : (d v : ℕ) → step_of f c m ≡ To d v → In base S'.mark d × (cost_at S' d ≤ w + fine v)
+  pub out : (d v : ℕ) → step_of f c m ≡ to d v → In base S'.mark d × (cost_at S' d ≤ w + fine v)
   pub stays : cost_at S' c ≡ w
 
 -- so does each of the first m moves
 pub record Left (f : Floor) (base k c m w : ℕ) (S S' : State) : Type 0 where
   pub grew : Grew f base k S S'
-  pub out : (i : ℕ) → i < m → (d v : ℕ) → step_of f c i ≡ To d v → In base S'.mark d × (cost_at S' d ≤ w + fine v)
+  pub out : (i : ℕ) → i < m → (d v : ℕ) → step_of f c i ≡ to d v → In base S'.mark d × (cost_at S' d ≤ w + fine v)
   pub stays : cost_at S' c ≡ w
 
 -- a free cell of mark k and cost w

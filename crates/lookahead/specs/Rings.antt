@@ -3,8 +3,7 @@ use Rattle.std.specs.Prelude.{◌≡◌, true, List, ◌⊎◌, ℕ, ◌+◌, �
 use Rattle.learning.specs.Walk.{Walk, Any, Leads}
 use Rattle.model.specs.Basics.{member}
 use Rattle.model.specs.Floor.{Floor}
-use Rattle.floor.specs.declared.Step.TheVariants.{To}
-use Rattle.floor.specs.Moves.{step_of}
+use Rattle.floor.specs.Moves.{to, step_of}
 use Rattle.lookahead.specs.declared.Around.{Around}
 use Rattle.lookahead.specs.declared.Around.TheVariants as A
 use Rattle.lookahead.specs.Marks.{net, State, state, mark_of, cost_at, cell_of, In, Room, Spread}
@@ -12,7 +11,7 @@ use Rattle.lookahead.specs.Marks.{net, State, state, mark_of, cost_at, cell_of, 
 -- the cells of marks below k have been left: where they lead is marked, at most one ring further out
 abbrev pub Done : Floor → (base k : ℕ) → State → Type 0
 Done f base k S =
-    (x : ℕ) → In base S.mark x → mark_of S x < k → (m d v : ℕ) → m < 8 → step_of f x m ≡ To d v → In base S.mark d × (mark_of S d ≤ mark_of S x + 1)
+    (x : ℕ) → In base S.mark x → mark_of S x < k → (m d v : ℕ) → m < 8 → step_of f x m ≡ to d v → In base S.mark d × (mark_of S d ≤ mark_of S x + 1)
 
 -- the rings up to that of mark k are marked, and its cells stand in the list from `from` on
 pub record Level (f : Floor) (s base k from : ℕ) (S : State) : Type 0 where

@@ -3,9 +3,8 @@
 use Rattle.std.specs.Prelude.{ℕ, zero, suc, ◌+◌, ◌-◌, ◌*◌, ◌/◌, ◌%◌, ◌≤◌, ◌<◌, ◌≡◌, List, ltb, eqb, length, get_or, set}
 use Rattle.learning.specs.Ground.{pick, list_of}
 use Rattle.model.specs.Floor.{Floor, size, dearest_price, Sized}
-use Rattle.floor.specs.Moves.{all_kinds, kinds, cost}
+use Rattle.floor.specs.Moves.{to, all_kinds, kinds, cost}
 use Rattle.floor.specs.declared.Step.{Step}
-use Rattle.floor.specs.declared.Step.TheVariants.{To}
 use Rattle.opening.specs.Distances.{far}
 use Rattle.opening.specs.Search.{none, Queue, Followed, Searching, to_go}
 
@@ -65,12 +64,12 @@ pub record Begun (f : Floor) (gs l : List ℕ) (k : ℕ) : Type 0 where
 
 -- what a step comes to: the cell that it leads to at cost c has a distance, or gets v and is linked to the queue's last
 pub data Entered (s : Step) (c v : ℕ) (l : List ℕ) (last : ℕ) : List ℕ → ℕ → Type 0 where
-  stays : ((b : ℕ) → s ≡ To b c → dist_at l b < none) → Entered s c v l last l last
-  enters : (b : ℕ) → s ≡ To b c → none ≤ dist_at l b → Entered s c v l last (entered l last b v) b
+  stays : ((b : ℕ) → s ≡ to b c → dist_at l b < none) → Entered s c v l last l last
+  enters : (b : ℕ) → s ≡ to b c → none ≤ dist_at l b → Entered s c v l last (entered l last b v) b
 
 -- a step can be taken: what it leads to has a place in the list, and so has the queue's last; and the distance fits
 pub record Enterable (s : Step) (v : ℕ) (l : List ℕ) (last : ℕ) : Type 0 where
-  pub inside : (b c : ℕ) → s ≡ To b c → (b < length l) × (b < links)
+  pub inside : (b c : ℕ) → s ≡ to b c → (b < length l) × (b < links)
   pub final : last < length l
   pub small : v < none
 
