@@ -4,7 +4,7 @@ use Rattle.learning.specs.Ground.{pick, reach_of, dist_of}
 use Rattle.answers.specs.declared.Job.{Job}
 use Rattle.answers.specs.Outcomes.{Verdict}
 use Rattle.model.specs.Basics.{then, unless, naming}
-use Rattle.model.specs.Floor.{Floor, size, Sized}
+use Rattle.model.specs.Floor.{Floor, size}
 use Rattle.model.specs.Grounds.{ground_of}
 use Rattle.model.specs.Checks.{finest, ceiling, floor_of, goals, Benched}
 

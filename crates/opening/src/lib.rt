@@ -128,35 +128,34 @@ pub fn settings_hold(s: Settings) -> Result<(), Refusal>
     run_settings(job_in(s, 1, 1), s.trials)
 }
 
-// The opening of a run: also its path list, its reports and its trials. It answers the floor of the job.
-pub fn open_run<'a>(
+// The opening of a run: also its path list, its reports and its trials.
+pub fn open_run(
     job: Job,
-    floor: &'a [u8],
+    floor: &[u8],
     start: usize,
     table: &[u32],
     path: usize,
     trials: usize,
     records: usize,
-) -> Result<Floor<'a>, Refusal>
-    ensures { (places : List ℕ) → length places ≡ path → Opens (floor_of job floor.now) (open_run job floor.now start table.now places trials records) result }
+) -> Result<(), Refusal>
+    ensures { (places : List ℕ) → length places ≡ path → result ≡ open_run job floor.now start table.now places trials records }
 {
     let floor = checks::sizes(job.width, job.height, floor, table.len())?;
     checks::path_room(table.len(), path)?;
     reports_room(trials, records)?;
     run_settings(job, trials)?;
-    accepts(job, &floor, start, table)?;
-    Ok(floor)
+    accepts(job, &floor, start, table)
 }
 
 // The opening of a trial, whose path list has so many places: that of a run of one trial with room for its report.
-pub fn open_trial<'a>(
+pub fn open_trial(
     job: Job,
-    floor: &'a [u8],
+    floor: &[u8],
     start: usize,
     table: &[u32],
     path: usize,
-) -> Result<Floor<'a>, Refusal>
-    ensures { (places : List ℕ) → length places ≡ path → Opens (floor_of job floor.now) (open_trial job floor.now start table.now places) result }
+) -> Result<(), Refusal>
+    ensures { (places : List ℕ) → length places ≡ path → result ≡ open_trial job floor.now start table.now places }
 {
     open_run(job, floor, start, table, path, 1, 1)
 }
@@ -165,8 +164,7 @@ pub fn open_trial<'a>(
 pub fn open(job: Job, floor: &[u8], start: usize, table: &[u32]) -> Result<(), Refusal>
     ensures { Answers result (open_job job floor.now start table.now) }
 {
-    open_trial(job, floor, start, table, table.len())?;
-    Ok(())
+    open_trial(job, floor, start, table, table.len())
 }
 
 // 1, 3, 4 and 27 as the calls on a table alone judge them. It answers the floor.

@@ -1,16 +1,16 @@
 // The search for true distances, in rising order: a cell gets its distance once, when it is first reached. The cells that have theirs form one queue,
 // the nearest first; for each cost that a move can have, a place in the queue says up to where the moves of that cost have been followed.
 // One list holds all of it: the entry of a cell is its distance × 8,192 + the next cell of the queue.
-ghost use Rattle.std.specs.Prelude.{◌≡◌, ◌+◌, ◌*◌, ◌≤◌, ◌<◌, length, get_or, Option};
+ghost use Rattle.std.specs.Prelude.{◌≡◌, ◌+◌, ◌*◌, ◌≤◌, ◌<◌, length, get_or, replicate, Option};
 ghost use Rattle.learning.specs.Ground.{list_of};
 ghost use Rattle.learning.proofs.Certificate.{Certified};
-ghost use Rattle.model.specs.Floor.{size, goals_of};
+ghost use Rattle.model.specs.Floor.{Sized, size, goals_of};
 ghost use Rattle.model.specs.Grounds.{ground_of};
 ghost use Rattle.model.specs.Checks.{Benched};
-ghost use Rattle.floor.specs.Moves.{all_kinds, cost, Placed, step_of};
+ghost use Rattle.floor.specs.Moves.{all_kinds, kinds, cost, Placed, step_of};
 ghost use Rattle.opening.specs.Distances.{Distances};
 ghost use Rattle.opening.specs.Search.{none};
-ghost use Rattle.opening.specs.Chain.{links, entry, dist_at, next_at, blank, entered, Entered, Enterable, Follows, Readable, offer_of, Offered, Least, caught, moved_on, last_of, lined, Held, plain};
+ghost use Rattle.opening.specs.Chain.{links, entry, dist_at, next_at, blank, entered, Entered, Enterable, Follows, Readable, offer_of, Offered, Least, caught, moved_on, last_of, lined, plain};
 
 use answers::Goals;
 use floor::{CEILING, Floor, KINDS, PLAIN_KINDS, Spot, Step};
@@ -85,7 +85,7 @@ fn pass(
     list: &mut [u32],
     last: usize,
 ) -> usize
-    requires placed { Placed floor.now cell spot }
+    requires placed { Sized floor.now × Placed floor.now cell spot }
     requires one { (m < 8) × (k < all_kinds) }
     requires long { (length list.old ≡ size floor.now) × (last < size floor.now) }
     requires near { v < none }
@@ -108,6 +108,7 @@ fn follow<const K: usize>(
     list: &mut [u32],
     last: usize,
 ) -> usize
+    requires sized { Sized floor.now }
     requires one { (cell < size floor.now) × (k < all_kinds) }
     requires long { (length list.old ≡ size floor.now) × (last < size floor.now) }
     requires near { v < none }
@@ -149,7 +150,7 @@ fn lesser(list: &[u32], places: &[usize], a: usize, b: usize) -> usize
 // The cost of the least offer.
 fn least<const K: usize>(list: &[u32], places: &[usize; K]) -> usize
     requires { Offered list.now places.now }
-    ensures { Least list.now places.now K result }
+    ensures { Least list.now places.now (length places.now) result }
 {
     let mut best = 0;
     for k in 1..K {
@@ -183,18 +184,10 @@ fn move_on(list: &[u32], places: &mut [usize], k: usize, cell: usize, last: usiz
     places[k] = next_at(list, cell);
 }
 
-// The last goal, with which the queue of goals ends.
-fn last_goal(goals: Goals) -> usize
-    requires { 1 ≤ length (goals_of goals) }
-    ensures { result ≡ last_of (goals_of goals) }
-{
-    floor::goal_at(goals, floor::goals_in(goals) - 1)
-}
-
-// Every goal has the distance 0: they stand in the queue, the first of them first.
-fn begin(goals: Goals, list: &mut [u32])
+// Every goal has the distance 0: they stand in the queue, the first of them first. The last of them.
+fn begin(goals: Goals, list: &mut [u32]) -> usize
     requires { Benched (length list.old) (goals_of goals) × (length list.old ≤ links) }
-    ensures { list.new ≡ lined list.old (goals_of goals) (length (goals_of goals)) }
+    ensures { (list.new ≡ lined list.old (goals_of goals) (length (goals_of goals))) × (result ≡ last_of (goals_of goals)) }
 {
     let mut last = floor::goal_at(goals, 0);
     list[last] = entry(0, END);
@@ -203,30 +196,29 @@ fn begin(goals: Goals, list: &mut [u32])
         enter(list, last, goal, 0);
         last = goal;
     }
+    last
 }
 
 // From the goals to every cell that can be reached: the least offer is followed, and its place moves on, until every place is at the queue's end.
-// Each of the K costs has a place, lent at the first goal; together they take K steps for each cell at most.
-fn spread<const K: usize>(
-    floor: &Floor,
-    goals: Goals,
-    places: &mut [usize; K],
-    list: &mut [u32],
-)
-    requires held { Held floor.now (goals_of goals) list.old (last_of (goals_of goals)) places.old (K * size floor.now) }
-    requires some { 1 ≤ length (goals_of goals) }
+// Each of the K costs has a place, at the first goal to begin with; together they take K steps for each cell at most.
+fn spread<const K: usize>(floor: &Floor, goals: Goals, list: &mut [u32])
+    requires kinds { K ≡ kinds floor.now.bytes }
+    requires benched { Benched (size floor.now) (goals_of goals) }
+    requires empty { list.old ≡ replicate (size floor.now) blank }
     ensures { Certified (ground_of floor.now (goals_of goals)) none (dist_at list.new) }
 {
-    let mut last = last_goal(goals);
-    for _ in 0..K * floor.cells() {
-        let k = least(list, places);
+    let steps = K * floor.cells();
+    let mut places = [floor::goal_at(goals, 0); K];
+    let mut last = begin(goals, list);
+    for _ in 0..steps {
+        let k = least(list, &places);
         let cell = places[k];
         if cell == END {
             return;
         }
         let v = offer(list, cell, k);
         let end = follow::<K>(floor, cell, k, v, list, last);
-        move_on(list, places, k, cell, last);
+        move_on(list, &mut places, k, cell, last);
         last = end;
     }
 }
@@ -234,15 +226,15 @@ fn spread<const K: usize>(
 // From the goals to every cell that can be reached, on whatever floor: its moves have two costs where no cell is slow, else four. (A search for both, with
 // as many places as are lent, takes twice the time on a plain floor.)
 fn explore(floor: &Floor, goals: Goals, list: &mut [u32])
-    requires { Benched (size floor.now) (goals_of goals) × (list.old ≡ list_of (size floor.now) (λ x. blank)) }
-    ensures { Certified (ground_of floor.now (goals_of goals)) none (dist_at list.new) }
+    requires benched { Benched (size floor.now) (goals_of goals) }
+    requires empty { list.old ≡ replicate (size floor.now) blank }
+    ensures sized { Sized floor.now }
+    ensures certified { Certified (ground_of floor.now (goals_of goals)) none (dist_at list.new) }
 {
-    begin(goals, list);
-    let first = floor::goal_at(goals, 0);
     if floor::kinds_on(floor.bytes) < KINDS {
-        spread(floor, goals, &mut [first; PLAIN_KINDS], list);
+        spread::<PLAIN_KINDS>(floor, goals, list);
     } else {
-        spread(floor, goals, &mut [first; KINDS], list);
+        spread::<KINDS>(floor, goals, list);
     }
 }
 
@@ -264,7 +256,8 @@ fn unpack(list: &mut [u32])
 
 // The true distance of every cell to the nearest goal, and FAR where no walk to one exists.
 pub fn find_distances(floor: &Floor, goals: Goals, dist: &mut [u32])
-    requires { (length dist.old ≡ size floor.now) × Benched (size floor.now) (goals_of goals) }
+    requires long { length dist.old ≡ size floor.now }
+    requires benched { Benched (size floor.now) (goals_of goals) }
     ensures { Distances floor.now (goals_of goals) dist.new }
 {
     dist.fill(entry(NONE, END));

@@ -1,8 +1,8 @@
--- `opening::search::spread` meets its contract. The invariant is `Held`, of whatever goals it began with; the places pass each cell once, which bounds the steps.
-use Rattle.learning.proofs.Words.{List, ℕ, ◌*◌, ◌-◌}
-use Rattle.model.specs.Floor.{size}
+-- `opening::search::spread` meets its contract. The invariant is `Held`; the places pass each cell once, which bounds the steps.
+use Rattle.learning.proofs.Words.{◌-◌}
+use Rattle.model.specs.Floor.{goals_of}
 use Rattle.opening.specs.Chain.{Held}
 use Rattle.opening.proofs.search.spread.Given as goal
 
-abbrev pub invariant-loop-i : goal.invariant-loop-i
-invariant-loop-i g l = ?
+abbrev pub invariant-loop : goal.invariant-loop
+invariant-loop g l = Held l.floor (goals_of l.fn.goals) l.list l.last l.places (l.steps - l.counter)
