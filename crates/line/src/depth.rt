@@ -7,7 +7,7 @@ ghost use Rattle.notation.specs.Prints.{Prints, HasRoom};
 ghost use Rattle.line.specs.Depths.{NoLine, FirstLine, Gives};
 
 use super::word_at;
-use answers::{Place, Refusal};
+use answers::Refusal;
 use notation::print::Printer;
 
 // Whether a line of the form may have so many numbers.
@@ -83,16 +83,10 @@ pub fn with_depth(line: &[u8], buffer: &mut [u8]) -> Result<usize, Refusal>
     ensures { Writes (with_depth line.now buffer.old) result buffer.new }
 {
     let Some(given) = numbers_given(line) else {
-        return Err(Refusal {
-            number: 3,
-            place: Place::Nowhere,
-        });
+        return Err(Refusal::numbered(3));
     };
     if !has_room(line, given, buffer.len()) {
-        return Err(Refusal {
-            number: 17,
-            place: Place::Nowhere,
-        });
+        return Err(Refusal::numbered(17));
     }
     let mut out = Printer { out: buffer, at: 0 };
     put_line(line, given, &mut out);
