@@ -1,10 +1,6 @@
 -- `floor_text::store_row` meets its contract: the invariant: `Stored`, i letters are stored.
-use Rattle.learning.proofs.Words.{◌-◌, length}
 use Rattle.floor_text.proofs.Laws.{Stored}
 use Rattle.floor_text.proofs.store_row.Given as goal
 
 abbrev pub invariant-loop-i : goal.invariant-loop-i
 invariant-loop-i l = Stored l.letters l.initial.part l.part l.i
-
-abbrev pub decreases-loop-i : goal.decreases-loop-i
-decreases-loop-i l = length l.letters - l.i
