@@ -1,16 +1,16 @@
 -- Laws of the floor text's definitions, one for each way through the code's tests.
 -- A loop's invariant says that what is left to judge answers like the whole.
 use mathlib.Core.Path.{◌≡◌, refl, sym, ◌∙◌, ap}
-use mathlib.Core.Bool.{Bool, true, false, not, ◌&&◌}
+use mathlib.Core.Bool.{Bool, true, false, not}
 use mathlib.Core.List.{List, [], ◌∷◌, ◌++◌, map, append_assoc, append-nil}
 use Prim.Native.Nat.{ℕ, zero, suc, ◌+◌, ◌-◌, ◌*◌, ◌≤◌, ◌<◌}
 use native.Mathlib.Numerals.{add-one}
 use native.Mathlib.Nat.{mul-le-mul_right, mul_comm}
 use native.Mathlib.Omega.{arith}
 use lib.Dec.{leb, eqb}
-use borrow.Author.Tests.{lt-leb, le-leb, eq-eqb, ne_eqb, not-true, not-false}
-use lib.ListN.{length, take, drop, set, get_or, length-append, length-take, length-drop, length-map, length-set, drop_of_length-le}
-use lib.Seq.{drop-cons, take-suc, take_all, set_at, drop-drop, take_at, drop_at, length-take-le}
+use borrow.Author.Tests.{lt-leb, le-leb, not-true, not-false}
+use lib.ListN.{length, take, drop, set, get_or, length-append, length-take, length-drop, length-map}
+use lib.Seq.{drop-cons, take-suc, set_at, drop-drop, take_at, drop_at, length-take-le}
 use Rattle.answers.specs.Says.{says_floor_read}
 use Rattle.answers.specs.declared.Place.TheVariants as P
 use Rattle.answers.specs.declared.Refusal.{Refusal}
@@ -18,22 +18,16 @@ use Rattle.answers.specs.Outcomes.{read_sizes}
 use Rattle.std.specs.Prelude.{Ok, Err}
 use Rattle.std.specs.List.{list_all}
 use Rattle.std.specs.Cmp.Lexicographic.{pointwise}
+use Rattle.std.proofs.Math.Bool.{and-true, and-false}
 use Rattle.std.proofs.lemmas.Bool.Decides.{nat_tests}
+use Rattle.std.proofs.lemmas.List.{map-append}
 use Rattle.model.specs.Basics.{choose, every, refuse_at}
-use Rattle.model.specs.FloorText.{begins, size_in, size_bytes, header, height_in, width_in, rows_in, after_height, after_width, type_and_height, and_width, and_map}
+use Rattle.model.specs.FloorText.{begins, size_in, size_bytes, header, height_in, width_in, after_height, after_width, type_and_height, and_width, and_map}
 use Rattle.model.specs.FloorText.{is_letter, byte_of, row_holds, rows, cells_of, read_floor, floor_verdict}
 use Rattle.model.proofs.Accepted.{Judges, le_tells, is_tells, and_tells, told, unless_judges}
 use Rattle.model.proofs.Parts.{rest}
 use Rattle.model.proofs.FloorTexts.{rows-fault, rows_more, length-cells}
 use Rattle.floor_text.specs.Reads.{Stands, Sound, Reads}
-
-and_false : (b : Bool) → (b && false) ≡ false
-and_false true = refl
-and_false false = refl
-
-and_true : (b : Bool) → (b && true) ≡ b
-and_true true = refl
-and_true false = refl
 
 eqb_swap : (x y : ℕ) → eqb x y ≡ eqb y x
 eqb_swap x y = grind (arith, nat_tests)
@@ -58,19 +52,16 @@ module _ (w : ℕ) (t : List ℕ) where
 
   pub row_no_LF : eqb (get_or t w 0) 10 ≡ false → false ≡ row_holds w t
   unfolding row_holds
-  row_no_LF e = rw e (sym (and_false _))
+  row_no_LF e = rw e (sym (and-false _))
 
   pub row_by_letters : w < length t → eqb (get_or t w 0) 10 ≡ true → {b : Bool} → b ≡ list_all is_letter (take w t) → b ≡ row_holds w t
   unfolding row_holds
-  row_by_letters h e k = simp (le-leb (suc w) (length t) (omega arith), e) (k ∙ sym (every_all (take w t)) ∙ sym (and_true _))
+  row_by_letters h e k = simp (le-leb (suc w) (length t) (omega arith), e) (k ∙ sym (every_all (take w t)) ∙ sym (and-true _))
 
 -- The rows, one after another: after the given number of sound ones
 pub record Rowed (w h : ℕ) (text t : List ℕ) (row : ℕ) : Type 0 where
   pub most : row ≤ h
   pub left : rows w (h - row) (5 + row) t ≡ rows w h 5 text
-
-pub rowed : {w h : ℕ} {text : List ℕ} → Rowed w h text text 0
-rowed {h = h} = record { most = omega arith; left = let e : h - 0 ≡ h = omega arith in rw e }
 
 module _ {w h : ℕ} {text t : List ℕ} {row : ℕ} (g : Rowed w h text t row) where
   pub rowed_more : {b : Bool} → b ≡ row_holds w t → not b ≡ false → row < h → Rowed w h text (take (length t - (w + 1)) (drop (w + 1) t)) (row + 1)
@@ -98,34 +89,14 @@ module _ {w h : ℕ} {text t : List ℕ} {row : ℕ} (g : Rowed w h text t row) 
     rowed_over n = let k : row ≡ h = omega (arith, g.most) in rw k at (rw (sym e ∙ n) at (rowed_all l))
 
 -- The cells of one row, and of one row more.
-map-append : (xs ys : List ℕ) → map byte_of (xs ++ ys) ≡ map byte_of xs ++ map byte_of ys
-map-append [] ys = refl
-map-append (x ∷ xs) ys = ap (λ (l : List ℕ). byte_of x ∷ l) (map-append xs ys)
-
--- i letters of a row are stored
-pub record Stored (ls part₀ part : List ℕ) (i : ℕ) : Type 0 where
-  pub most : i ≤ length ls
-  pub same : length part ≡ length part₀
-  pub so_far : part ≡ map byte_of (take i ls) ++ drop i part₀
-
-pub stored : {ls part : List ℕ} → Stored ls part part 0
-stored = record { most = omega arith; same = refl; so_far = refl }
-
-module _ {ls part₀ part : List ℕ} {i : ℕ} (g : Stored ls part₀ part i) where
-  pub stored_more : {v : ℕ} → v ≡ byte_of (get_or ls i 0) → (i < length ls) × (length part₀ ≡ length ls) → Stored ls part₀ (set part i v) (i + 1)
-  stored_more {v} e h = record {
-    most = omega arith;
-    same = length-set part i v ∙ g.same;
-    so_far =
-        let a = h.0 in
-        let b : i < length part₀ = omega arith in
-        let n : length (map byte_of (take i ls)) ≡ i = length-map (take i ls) byte_of ∙ length-take-le i ls (omega arith) in
-        let put = set_at (map byte_of (take i ls)) (get_or part₀ i 0) (drop (suc i) part₀) v i n in
-        rw (g.so_far, add-one, take-suc ls i 0, map-append (take i ls) (get_or ls i 0 ∷ []), append_assoc, drop-cons part₀ i 0, put, e);
-  }
-
-  pub stored_all : (length ls ≤ i) × (length part₀ ≡ length ls) → part ≡ map byte_of ls
-  stored_all h = g.so_far ∙ rw (take_all i ls h.0, drop_of_length-le part₀ {i = i} (omega arith)) (append-nil (map byte_of ls))
+-- one letter more of a row is stored
+pub stored_more : (ls part₀ : List ℕ) {part : List ℕ} (i : ℕ) {v : ℕ} → part ≡ map byte_of (take i ls) ++ drop i part₀ → v ≡ byte_of (get_or ls i 0) → i < length ls → length part₀ ≡ length ls
+    → set part i v ≡ map byte_of (take (i + 1) ls) ++ drop (i + 1) part₀
+stored_more ls part₀ i {v} so_far e l m =
+    let b : i < length part₀ = omega arith in
+    let n : length (map byte_of (take i ls)) ≡ i = length-map (take i ls) byte_of ∙ length-take-le i ls (omega arith) in
+    let put = set_at (map byte_of (take i ls)) (get_or part₀ i 0) (drop (suc i) part₀) v i n in
+    rw (so_far, add-one, take-suc ls i 0, map-append byte_of (take i ls) (get_or ls i 0 ∷ []), append_assoc, drop-cons part₀ i 0, put, e)
 
 cells_more : (w n : ℕ) (t : List ℕ) → cells_of w (suc n) t ≡ cells_of w n t ++ map byte_of (take w (drop (n * (w + 1)) t))
 unfolding cells_of

@@ -12,6 +12,7 @@ use borrow.Author.Tests.{lt-leb, le-leb, eq-eqb, ne_eqb, eqb-true}
 use lib.ListN.{length, take, drop, get_or}
 use lib.Seq.{drop-drop, get_or-drop}
 use Rattle.std.specs.Cmp.Lexicographic.{pointwise}
+use Rattle.std.proofs.Math.Bool.{and-true}
 use Rattle.model.specs.Basics.{choose}
 use Rattle.model.specs.FloorText.{is_digit, size_in, size_bytes}
 use Rattle.model.proofs.Accepted.{never}
@@ -27,10 +28,6 @@ size_by digits value after = choose (leb digits 2 && eqb after 10 && leb value 6
 nothing : (b : Bool) → ◌≡◌ {A = ℕ} 0 (choose b 0 0)
 nothing true = refl
 nothing false = refl
-
-and_true : (b : Bool) → (b && true) ≡ b
-and_true true = refl
-and_true false = refl
 
 beyond : (b : Bool) (n : ℕ) → choose (b && false) n 0 ≡ 0
 beyond true n = refl
@@ -69,11 +66,11 @@ few_digits (b ∷ t) = go (is_digit b) (few_digits t)
 -- whether a text begins with a byte, by its first one, which is 0 where there is none
 front_byte : (x : ℕ) (t : List ℕ) → 1 ≤ x → pointwise eqb (take 1 t) (x ∷ []) ≡ eqb (get_or t 0 0) x
 front_byte x [] h = sym (ne_eqb 0 x (λ e. omega arith))
-front_byte x (y ∷ t) h = and_true (eqb y x)
+front_byte x (y ∷ t) h = and-true (eqb y x)
 
 front_zero : (t : List ℕ) → pointwise eqb (48 ∷ []) (take 1 t) ≡ eqb 48 (get_or t 0 0)
 front_zero [] = refl
-front_zero (y ∷ t) = and_true (eqb 48 y)
+front_zero (y ∷ t) = and-true (eqb 48 y)
 
 module _ (t : List ℕ) where
   abbrev first : ℕ

@@ -5,7 +5,7 @@
 mod writer;
 
 ghost use Rattle.std.specs.Prelude.{◌≡◌, ◌++◌, map, ◌+◌, ◌*◌, ◌≤◌, length, drop, MatchOption};
-ghost use Rattle.model.specs.FloorText.{header, size_in, rows_in, is_letter, byte_of, row_holds, rows, cells_of, read_floor};
+ghost use Rattle.model.specs.FloorText.{size_in, is_letter, byte_of, row_holds, rows, cells_of, read_floor};
 ghost use Rattle.floor_text.specs.Reads.{Stands, Sound, NoHeader, Reads};
 
 use answers::{Place, Refusal, Sizes};
@@ -57,7 +57,6 @@ fn byte_of(b: u8) -> u8
 
 // Whether a row stands at the front of a text: its letters and its LF.
 fn row_holds(width: usize, text: &[u8]) -> bool
-    requires { width ≤ 64 }
     ensures { result ≡ row_holds width text.now }
 {
     width < text.len() && text[width] == b'\n' && text[..width].iter().all(|b| is_letter(*b))

@@ -1,6 +1,5 @@
 // The writer of floor text: it judges everything before it stores.
-ghost use Rattle.std.specs.Prelude.{◌≡◌, List, [], ◌∷◌, ◌++◌, map, ℕ, ◌+◌, ◌*◌, ◌≤◌, ◌<◌, length};
-ghost use Rattle.model.specs.Floor.{size};
+ghost use Rattle.std.specs.Prelude.{◌≡◌, [], ◌∷◌, ◌++◌, map, ◌+◌, ◌≤◌, length};
 ghost use Rattle.model.specs.FloorText.{LF, size_bytes};
 ghost use Rattle.model.specs.FloorWritten.{letter_of, rows_of, size_line, text_of, text_verdict, write_floor};
 ghost use Rattle.model.specs.Writing.{Writes};
@@ -34,15 +33,13 @@ fn put_row(out: &mut Printer, cells: &[u8])
     out.byte(b'\n');
 }
 
-// The rows. What is left of the floor is passed on at each row.
+// The rows of a floor.
 fn put_rows(out: &mut Printer, floor: &Floor)
     requires { HasRoom out.old (length (rows_of floor.now.width floor.now.height floor.now.bytes)) }
     ensures { Prints out.old (rows_of floor.now.width floor.now.height floor.now.bytes) out.new }
 {
-    let mut left = floor.bytes;
-    for _row in 0..floor.height {
-        put_row(out, &left[..floor.width]);
-        left = &left[floor.width..];
+    for cells in floor.bytes.chunks_exact(floor.width) {
+        put_row(out, cells);
     }
 }
 

@@ -1,10 +1,9 @@
 -- `floor_text::read_floor` meets its contract: one law for each of no header, no room, a faulty row and all rows stored.
-use Rattle.learning.proofs.Words.{◌≡◌, sym, ◌∙◌, ap, arith}
-use Rattle.std.specs.Prelude.{Option, None, Ok, Err}
+use Rattle.learning.proofs.Words.{◌≡◌, sym, arith}
+use Rattle.std.specs.Prelude.{Option, None, Err}
 use Rattle.std.specs.Option.{ok_or}
 use Rattle.std.proofs.lemmas.Option.{MatchOption-at_some, MatchOption-at_none}
 use Rattle.std.proofs.lemmas.Result.{err_from_is_err_and}
-use Rattle.model.specs.FloorText.{rows}
 use Rattle.model.proofs.FloorTexts.{rows_there}
 use Rattle.floor_text.specs.Reads.{Sound}
 use Rattle.floor_text.proofs.Laws.{header_refused, no_room, rows-refused, rows-read}

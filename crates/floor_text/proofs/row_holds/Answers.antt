@@ -4,7 +4,6 @@ use Rattle.std.proofs.lemmas.Iterator.{YieldsList-from_slice}
 use Rattle.std.proofs.lemmas.Iterator.Search.{all_from_yields_List}
 use Rattle.std.proofs.lemmas.Bool.{ltb-true}
 use Rattle.model.specs.FloorText.{is_letter}
-use Rattle.model.proofs.Accepted.{never}
 use Rattle.floor_text.proofs.Laws.{row-short, row_no_LF, row_by_letters}
 use Rattle.floor_text.proofs.row_holds.Goals as goal
 use Rattle.floor_text.proofs.row_holds.Goals.{then-width-text, else-width-text}

@@ -1,5 +1,5 @@
 -- `floor_text::size_in` meets its contract: each `return` is one law of the run of digits at the front.
-use Rattle.std.proofs.Common.{◌≡◌, get_or, sym, ◌∙◌, arith}
+use Rattle.std.proofs.Common.{arith}
 use Rattle.floor_text.proofs.Sizes.{run_there, no_zero, size-zero, size_out, size_no_LF, size-whole}
 use Rattle.floor_text.proofs.size_in.Goals as goal
 
