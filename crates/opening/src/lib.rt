@@ -12,7 +12,8 @@ ghost use Rattle.model.specs.Opening.{soundness, accepts, open_job, open_trial, 
 ghost use Rattle.model.specs.Line.{job_in};
 ghost use Rattle.floor.specs.Moves.{flat};
 ghost use Rattle.opening.specs.Distances.{above, judged, Openable};
-ghost use Rattle.opening.specs.Promise.{Answers, Opens, Fills, run_settings, line_holds};
+ghost use Rattle.floor.specs.Let.{LetsThrough};
+ghost use Rattle.opening.specs.Promise.{Answers, Fills, run_settings, line_holds};
 
 use answers::{Goals, Job, Place, Refusal, Settings};
 use floor::Floor;
@@ -176,7 +177,7 @@ pub fn open_table<'a>(
     floor: &'a [u8],
     figures: usize,
 ) -> Result<Floor<'a>, Refusal>
-    ensures { Opens (flat width height floor.now) (open_table (flat width height floor.now) q goals figures) result }
+    ensures { LetsThrough (flat width height floor.now) (open_table (flat width height floor.now) q goals figures) result }
 {
     let floor = checks::sizes(width, height, floor, figures)?;
     checks::scale(q)?;
