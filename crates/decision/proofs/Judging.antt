@@ -37,9 +37,9 @@ pub record Fits (f : Floor) (figures places room from : ℕ) : Type 0 where
   pub path : size f ≤ places
   pub moves : from + least_room ≤ room
 
-pub fits : {j : Job} {bytes : List ℕ} {figures places room from : ℕ} {f : Floor} → Fitted j bytes figures places room from (Ok f) → Fits f figures places room from
+pub fits : (j : Job) (bytes : List ℕ) (figures places room from : ℕ) {f : Floor} → Fitted j bytes figures places room from (Ok f) → Fits f figures places room from
 unfolding lists_fit
-fits {j} {bytes} {figures} {places} {room} {from} h =
+fits j bytes figures places room from h =
     let (one, after-one) = then_done _ _ h.1 in
     let (two, of-moves) = then_done _ _ after-one in
     let z = (sizes_judges (floor_of j bytes) figures).gives one in
@@ -87,7 +87,7 @@ module _ (j : Job) (bytes : List ℕ) (s : State) (table path : List ℕ) (room 
       by (no h) = figures-accepted (floor_of j bytes) table e x (omega arith)
 
   fitted : lists_fit j bytes (length table) (length path) room from ≡ Ok tt → Fits (floor_of j bytes) (length table) (length path) room from
-  fitted e = fits (refl, e)
+  fitted e = fits j bytes (length table) (length path) room from (refl, e)
 
   pub roomy : judge j bytes s table path room from ≡ Ok tt → from + least_room ≤ room
   roomy e = (fitted (then_done _ _ (judge_is ∙ e)).0).moves

@@ -1,7 +1,6 @@
 -- `decision::lists_fit` meets its contract: a check that is refused stops the next ones, and one that is done passes on to them.
-use Rattle.learning.proofs.Words.{◌≡◌, sym, ◌∙◌, rules}
-use Rattle.model.specs.Checks.{floor_of, path_room}
-use Rattle.model.proofs.Accepted.{then_stops, then_goes, then_next}
+use Rattle.learning.proofs.Words.{rules}
+use Rattle.model.proofs.Accepted.{then_stops, then_goes}
 use Rattle.decision.specs.Inner.{lists_fit}
 use Rattle.decision.proofs.lists_fit.Goals as goal
 

@@ -3,10 +3,14 @@ use Rattle.learning.proofs.Words.{ap, arith}
 use Rattle.model.specs.Floor.{size}
 use Rattle.decision.proofs.Judging.{checked_refused, checked_done}
 use Rattle.decision.proofs.held.state_holds.Goals as goal
+use Rattle.decision.proofs.held.state_holds.Goals.{then-job-state-via-then-job-state, then-job-state-via-else-job-state+then-cells-state}
 
 pub returns-then-job-state : goal.returns-then-job-state
 returns-then-job-state c =
-    checked_refused c.requires.own c.requires.wide c.numbered.ensures (λ h. ?)
+    checked_refused c.requires.own c.requires.wide c.numbered.ensures (λ h. elim c.then-job-state.branch [
+      | then-job-state-via-then-job-state w ↦ omega (arith, w.if-job-state.true, h.within)
+      | then-job-state-via-else-job-state+then-cells-state w ↦ omega (arith, w.cells.ensures.count, w.if-cells-state.true, ap size c.requires.own, h.short)
+    ])
 
 pub returns-then-not-path_holds : goal.returns-then-not-path_holds
 returns-then-not-path_holds c =
