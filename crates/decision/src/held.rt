@@ -11,8 +11,9 @@ use answers::{Job, Refusal, State};
 use floor::Floor;
 
 // Whether the cell c is noted among the path's first n.
+#[tactic(auto, unfolding(crate::specs::Inner::is_noted))]
 pub(crate) fn noted(path: &[u16], place: &[u16], n: usize, c: usize) -> bool
-    requires short { n ≤ length path.now }
+    requires on_path { n ≤ length path.now }
     requires cell { c < length place.now }
     ensures { result ≡ is_noted path.now place.now n c }
 {
@@ -29,17 +30,17 @@ fn stands(
     i: usize,
     place: &mut [u16],
 ) -> bool
-    requires own { floor.now ≡ floor_of job floor.now.bytes }
     requires sized { Sized floor.now }
-    requires inside { (i < length path.now) × (i < 4096) }
-    requires noted { Places place.old path.now i }
+    requires measured { floor.now ≡ floor_of job floor.now.bytes }
+    requires on_path { (i < length path.now) × (i < 4096) }
+    requires places { Places place.old path.now i }
     ensures { Stands job floor.now.bytes current path.now i place.new result }
 {
     let c = usize::from(path[i]);
-    if !floor.is_free(c) || floor::is_goal(job.goals, c) {
+    if !floor.is_free(c) || floor::is_goal(job.goals, c) || c == current {
         return false;
     }
-    if c == current || noted(path, place, i, c) {
+    if noted(path, place, i, c) {
         return false;
     }
     place[c] = i as u16;
@@ -55,10 +56,10 @@ fn path_holds(
     n: usize,
     place: &mut [u16],
 ) -> bool
-    requires own { floor.now ≡ floor_of job floor.now.bytes }
     requires sized { Sized floor.now }
-    requires short { (n ≤ length path.now) × (n ≤ 4096) }
-    requires places { length place.old ≡ 4096 }
+    requires measured { floor.now ≡ floor_of job floor.now.bytes }
+    requires on_path { (n ≤ length path.now) × (n ≤ 4096) }
+    requires room { length place.old ≡ 4096 }
     ensures { Walked job floor.now.bytes current path.now n place.new result }
 {
     for i in 0..n {
@@ -77,16 +78,17 @@ pub(crate) fn state_holds(
     path: &[u16],
     place: &mut [u16],
 ) -> Result<(), Refusal>
-    requires own { floor.now ≡ floor_of job floor.now.bytes }
+    requires measured { floor.now ≡ floor_of job floor.now.bytes }
     requires settings { Settings job }
     requires wide { size floor.now ≤ length path.now }
-    requires places { length place.old ≡ 4096 }
+    requires room { length place.old ≡ 4096 }
     ensures { Checked job floor.now.bytes state path.now place.new result }
 {
-    if job.q * job.quota < state.learned || floor.cells() < state.length {
+    let n = state.length;
+    if job.q * job.quota < state.learned || floor.cells() < n {
         return Err(Refusal::numbered(8));
     }
-    if !path_holds(job, floor, state.current, path, state.length, place) {
+    if !path_holds(job, floor, state.current, path, n, place) {
         return Err(Refusal::numbered(8));
     }
     Ok(())

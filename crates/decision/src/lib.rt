@@ -13,11 +13,11 @@ ghost use Rattle.model.specs.Decision as model;
 ghost use Rattle.model.specs.Decision.{least_room};
 ghost use Rattle.lookahead.specs.Contract.{Fresh, Used, Asked, Window};
 ghost use Rattle.decision.specs.Ready.{Ready, Places, Judged, Acts, Serves, Decides};
-ghost use Rattle.decision.specs.Inner.{Fitted, refusing, learns};
+ghost use Rattle.decision.specs.Inner.{refusing, learns};
 
 use answers::{Answer, Decided, Job, Refusal, State};
-use floor::{CEILING, Floor};
-use lookahead::Extent;
+use floor::CEILING;
+use lookahead::{Extent, Scratch};
 pub use moves::lay;
 
 // How many places a decision needs for its moves.
@@ -44,23 +44,6 @@ fn moves_room(room: usize, from: usize) -> Result<(), Refusal>
     Ok(())
 }
 
-// The checks 1 and 2, on the lists' lengths. Past them the floor is one by its type.
-fn lists_fit<'a>(
-    job: Job,
-    floor: &'a [u8],
-    figures: usize,
-    places: usize,
-    room: usize,
-    from: usize,
-) -> Result<Floor<'a>, Refusal>
-    ensures { Fitted job floor.now figures places room from result }
-{
-    let floor = checks::sizes(job.width, job.height, floor, figures)?;
-    checks::path_room(floor.cells(), places)?;
-    moves_room(room, from)?;
-    Ok(floor)
-}
-
 // The checks ahead of the lookahead, in their order; where they all pass, the path's places are noted.
 fn judge(
     job: Job,
@@ -75,7 +58,9 @@ fn judge(
     requires { length place.old ≡ 4096 }
     ensures { Judged job floor.now state table.now path.now room from place.new result }
 {
-    let floor = lists_fit(job, floor, table.len(), path.len(), room, from)?;
+    let floor = checks::sizes(job.width, job.height, floor, table.len())?;
+    checks::path_room(table.len(), path.len())?;
+    moves_room(room, from)?;
     checks::settings(job)?;
     checks::places(&floor, state.current, job.goals)?;
     checks::goals_hold(job.goals)?;
@@ -112,22 +97,19 @@ fn learn(
     table: &mut [u32],
     path: &mut [u16],
     base: u32,
-    mark: &mut [u32],
-    cost: &mut [u16],
-    list: &mut [u16],
+    scratch: &mut Scratch,
     place: &mut [u16],
 ) -> Acted
     requires ready { Ready job floor.now state table.old path.old }
     requires asked { Asked job floor.now state.current }
-    requires window { Window job floor.now state.current base mark.old cost.old list.old extent.n extent.last }
-    requires noted { Places place.old path.old state.length }
+    requires window { Window job floor.now state.current base scratch.old extent }
+    requires places { Places place.old path.old state.length }
     ensures acts { Acts job floor.now state (learns job floor.now state table.old path.old)
         result table.new path.new }
-    ensures serves { Serves job floor.now state result mark.new cost.new list.new place.new path.new }
+    ensures serves { Serves job floor.now state result scratch.new place.new path.new }
 {
     let s = state.current;
-    let Extent { last, n } = extent;
-    let aim = lookahead::aim(job, floor, s, table, base, mark, cost, list, n, last);
+    let aim = lookahead::aim(job, floor, s, table, base, scratch, extent);
     let old = table[s] as usize;
     if too_high(old, aim.figure) {
         return refuse(state, 10, base);
@@ -137,7 +119,7 @@ fn learn(
         return steps::forward(job, floor, state, aim, rise, table, path, base, place);
     }
     back::go_back(
-        job, floor, state, aim.figure, rise, table, path, base, mark, cost, list,
+        job, floor, state, aim.figure, rise, table, path, base, scratch,
     )
 }
 
@@ -149,28 +131,24 @@ fn go(
     table: &mut [u32],
     path: &mut [u16],
     base: u32,
-    mark: &mut [u32],
-    cost: &mut [u16],
-    list: &mut [u16],
+    scratch: &mut Scratch,
     place: &mut [u16],
 ) -> Acted
     requires ready { Ready job floor.now state table.old path.old }
     requires asked { Asked job floor.now state.current }
-    requires fresh { Fresh base mark.old cost.old list.old }
-    requires noted { Places place.old path.old state.length }
+    requires fresh { Fresh base scratch.old }
+    requires places { Places place.old path.old state.length }
     ensures acts { Acts job floor.now state (model.act job floor.now state table.old path.old)
         result table.new path.new }
-    ensures serves { Serves job floor.now state result mark.new cost.new list.new place.new path.new }
+    ensures serves { Serves job floor.now state result scratch.new place.new path.new }
 {
-    match lookahead::look(job, floor, state.current, base, mark, cost, list) {
-        Some(extent) => learn(
-            job, floor, state, extent, table, path, base, mark, cost, list, place,
-        ),
-        None => refuse(state, 9, base),
-    }
+    let Some(extent) = lookahead::look(job, floor, state.current, base, scratch) else {
+        return refuse(state, 9, base);
+    };
+    learn(job, floor, state, extent, table, path, base, scratch, place)
 }
 
-// A decision past the checks. Scratch is lent: `mark`, `cost` and `list` are the lookahead's, and `place` has the path's places.
+// A decision past the checks. Scratch is lent: `scratch` is the lookahead's, and `place` has the path's places.
 // Its moves can be laid after it, by `lay`, from what it leaves there.
 pub fn act(
     job: Job,
@@ -179,17 +157,15 @@ pub fn act(
     table: &mut [u32],
     path: &mut [u16],
     base: u32,
-    mark: &mut [u32],
-    cost: &mut [u16],
-    list: &mut [u16],
+    scratch: &mut Scratch,
     place: &mut [u16],
 ) -> Acted
     requires ready { Ready job floor.now state table.old path.old }
-    requires used { Used base mark.old cost.old list.old }
-    requires noted { Places place.old path.old state.length }
+    requires used { Used base scratch.old }
+    requires places { Places place.old path.old state.length }
     ensures acts { Acts job floor.now state (model.act job floor.now state table.old path.old)
         result table.new path.new }
-    ensures serves { Serves job floor.now state result mark.new cost.new list.new place.new path.new }
+    ensures serves { Serves job floor.now state result scratch.new place.new path.new }
 {
     if floor::is_goal(job.goals, state.current) {
         return Acted {
@@ -200,10 +176,8 @@ pub fn act(
             base,
         };
     }
-    let next = lookahead::renew(base, mark);
-    go(
-        job, floor, state, table, path, next, mark, cost, list, place,
-    )
+    let next = lookahead::renew(base, &mut scratch.mark);
+    go(job, floor, state, table, path, next, scratch, place)
 }
 
 // A decision that was let through and its moves, with the lookahead's scratch in its frame.
@@ -219,21 +193,24 @@ fn decide_past(
 ) -> Decided
     requires ready { Ready job floor.now state table.old path.old }
     requires room { from + least_room ≤ length moves.old }
-    requires noted { Places place.old path.old state.length }
+    requires places { Places place.old path.old state.length }
     ensures { Decides (model.outcome_of (Ok tt) (model.act job floor.now state table.old path.old) state
         table.old path.old moves.old from) result table.new path.new moves.new }
 {
-    let mut mark = [0u32; 4096];
-    let mut cost = [0u16; 4096];
-    let mut list = [0u16; 8192];
-    let acted = act(
-        job, floor, state, table, path, 1, &mut mark, &mut cost, &mut list, place,
+    let mut scratch = Scratch::new();
+    let acted = act(job, floor, state, table, path, 1, &mut scratch, place);
+    let n = lay(
+        job,
+        floor,
+        state.current,
+        acted.answer,
+        acted.base,
+        &scratch,
+        moves,
+        from,
     );
-    let Acted { answer, base, .. } = acted;
-    let s = state.current;
-    let n = lay(job, floor, s, answer, base, &mark, &cost, moves, from);
     Decided {
-        answer: moves::count(answer, n),
+        answer: moves::count(acted.answer, n),
         state: acted.state,
     }
 }
@@ -253,11 +230,11 @@ pub fn decide(
 {
     let mut place = [0u16; 4096];
     let room = moves.len();
-    if let Err(refusal) = judge(job, floor, state, table, path, room, from, &mut place) {
-        return Decided {
-            answer: Answer::Refused(refusal),
+    match judge(job, floor, state, table, path, room, from, &mut place) {
+        Ok(()) => decide_past(job, floor, state, table, path, moves, from, &mut place),
+        Err(r) => Decided {
+            answer: Answer::Refused(r),
             state,
-        };
+        },
     }
-    decide_past(job, floor, state, table, path, moves, from, &mut place)
 }

@@ -7,6 +7,7 @@ ghost use Rattle.decision.specs.Laying.{way_back, way_of, counts, Shown, Lays};
 
 use super::LEAST_ROOM;
 use answers::{Answer, Job};
+use lookahead::Scratch;
 
 // The moves of the route from s to the cell x of the window go into the lent list from the place named; their number.
 fn lay_there(
@@ -14,20 +15,19 @@ fn lay_there(
     floor: &[u8],
     s: usize,
     base: u32,
-    mark: &[u32],
-    cost: &[u16],
+    scratch: &Scratch,
     x: usize,
     moves: &mut [u8],
     from: usize,
 ) -> usize
     requires asked { Asked job floor.now s }
-    requires seen { Seen job floor.now s base mark.now cost.now }
+    requires seen { Seen job floor.now s base scratch.now }
     requires near { Near job floor.now s x }
     requires room { from + least_room ≤ length moves.old }
     ensures { Lays moves.old from (moves_to job floor.now s x) moves.new result }
 {
     let end = from + LEAST_ROOM;
-    lookahead::trace(job, floor, s, base, mark, cost, x, &mut moves[from..end])
+    lookahead::trace(job, floor, s, base, scratch, x, &mut moves[from..end])
 }
 
 // The move that goes back.
@@ -41,7 +41,7 @@ fn opposed(m: u8) -> u8
 // Writes the first n moves of there, the last one first and each turned round, over the first n places of part.
 fn turn(there: &[u8], n: usize, part: &mut [u8])
     requires room { (n ≤ length there.now) × (n ≤ length part.old) }
-    requires moves { (i : ℕ) → i < n → get_or there.now i 0 < 8 }
+    requires moves { ((i : ℕ) → i < n → get_or there.now i 0 < 8) }
     ensures { part.new ≡ map opposite (reverse (take n there.now)) ++ drop n part.old }
 {
     for k in 0..n {
@@ -55,20 +55,19 @@ fn lay_back(
     floor: &[u8],
     l: usize,
     base: u32,
-    mark: &[u32],
-    cost: &[u16],
+    scratch: &Scratch,
     x: usize,
     moves: &mut [u8],
     from: usize,
 ) -> usize
     requires asked { Asked job floor.now l }
-    requires seen { Seen job floor.now l base mark.now cost.now }
+    requires seen { Seen job floor.now l base scratch.now }
     requires near { Near job floor.now l x }
     requires room { from + least_room ≤ length moves.old }
     ensures { Lays moves.old from (way_back job floor.now l x) moves.new result }
 {
     let mut there = [0u8; LEAST_ROOM];
-    let n = lookahead::trace(job, floor, l, base, mark, cost, x, &mut there);
+    let n = lookahead::trace(job, floor, l, base, scratch, x, &mut there);
     let end = from + LEAST_ROOM;
     turn(&there, n, &mut moves[from..end]);
     n
@@ -81,21 +80,20 @@ pub fn lay(
     s: usize,
     answer: Answer,
     base: u32,
-    mark: &[u32],
-    cost: &[u16],
+    scratch: &Scratch,
     moves: &mut [u8],
     from: usize,
 ) -> usize
-    requires shown { Shown job floor.now s answer base mark.now cost.now }
+    requires shown { Shown job floor.now s answer base scratch.now }
     requires room { from + least_room ≤ length moves.old }
     ensures { Lays moves.old from (way_of job floor.now s answer) moves.new result }
 {
     match answer {
         Answer::Forward { target, .. } => {
-            lay_there(job, floor, s, base, mark, cost, target, moves, from)
+            lay_there(job, floor, s, base, scratch, target, moves, from)
         }
         Answer::BackedOut { target, .. } => {
-            lay_back(job, floor, target, base, mark, cost, s, moves, from)
+            lay_back(job, floor, target, base, scratch, s, moves, from)
         }
         Answer::Arrived | Answer::Stayed { .. } | Answer::Refused(_) => 0,
     }
@@ -116,6 +114,6 @@ pub(crate) fn count(answer: Answer, n: usize) -> Answer
             rise,
             moves: n,
         },
-        other => other,
+        _ => answer,
     }
 }

@@ -22,8 +22,8 @@ pub(crate) fn store(table: &mut [u32], cell: usize, figure: usize)
 
 // The current cell is written after the path's last, and its place noted. Where the target is on the path, the path is cut there. The new length.
 fn extend(path: &mut [u16], place: &mut [u16], n: usize, current: usize, target: usize) -> usize
-    requires open { Open path.old place.old n current }
-    requires cell { target < 4096 }
+    requires writable { Open path.old place.old n current }
+    requires target { target < 4096 }
     ensures { Extended path.old n current target path.new place.new result }
 {
     path[n] = current as u16;
@@ -49,17 +49,17 @@ pub(crate) fn forward(
     requires ready { Ready job floor.now state table.old path.old }
     requires asked { Asked job floor.now state.current }
     requires aimed { Aimed job floor.now state.current table.old aim }
-    requires rise { rise ≡ aim.figure - get_or table.old state.current 0 }
-    requires noted { Places place.old path.old state.length }
+    requires risen { rise ≡ aim.figure - get_or table.old state.current 0 }
+    requires places { Places place.old path.old state.length }
     ensures acts { Acts job floor.now state
         (model.forward job floor.now state (seen job floor.now state.current) table.old path.old aim.figure aim.target)
         result table.new path.new }
-    ensures answer { (result.base ≡ base) × (result.answer ≡ Answer.Forward aim.target rise 0) }
-    ensures noted { Places place.new path.new result.state.length }
+    ensures places { (result.base ≡ base) × (result.answer ≡ Answer.Forward aim.target rise 0) × Places place.new path.new result.state.length }
 {
     let s = state.current;
+    let n = state.length;
     let target = aim.target;
-    let length = extend(path, place, state.length, s, target);
+    let length = extend(path, place, n, s, target);
     store(table, s, aim.figure);
     Acted {
         answer: Answer::Forward {

@@ -5,7 +5,9 @@ use Rattle.model.proofs.Held.{moves_judges}
 use Rattle.decision.proofs.moves_room.Goals as goal
 
 pub returns-then-room-lt-LEAST_ROOM : goal.returns-then-room-lt-LEAST_ROOM
-returns-then-room-lt-LEAST_ROOM c = ap Err c.numbered.ensures ∙ sym ((moves_judges _ _).refused (λ h. omega arith))
+returns-then-room-lt-LEAST_ROOM c =
+    ap Err c.numbered.ensures ∙ sym ((moves_judges _ _).refused (λ h. omega arith))
 
 pub returns : goal.returns
-returns c = sym ((moves_judges _ _).done (omega arith))
+returns c =
+    sym ((moves_judges _ _).done (omega arith))

@@ -6,4 +6,6 @@ pub returns-then-not-on_last-clause-acts : goal.returns-then-not-on_last-clause-
 returns-then-not-on_last-clause-acts c = λ path e. search acts_lost
 
 pub returns-clause-acts : goal.returns-clause-acts
-returns-clause-acts c = λ path e. acts_returns _ _ c.requires.rise.1 (search) e c.requires.some c.on_last.ensures c.if-not-on_last.false (search)
+returns-clause-acts c =
+    let p = c.requires in
+    λ path e. acts_returns _ _ p.risen.1 (search) e p.path c.on_last.ensures c.if-not-on_last.false (search)
