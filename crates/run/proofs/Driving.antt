@@ -33,8 +33,8 @@ use Rattle.model.proofs.Rides.{Riding, yet, rest, riding_begun, riding_next, doe
 use Rattle.model.proofs.Rides.{kept_low, counts_fit, most_learned, most_decisions, dearest_kept}
 use Rattle.decision.specs.Ready.{Ready, Places}
 use Rattle.decision.proofs.Judging.{ready}
+use Rattle.lookahead.specs.declared.Scratch.{Scratch}
 use Rattle.lookahead.specs.Contract.{Used}
-use Rattle.decision.proofs.Acting.{used-zeros}
 use Rattle.run.specs.declared.Stand.{Stand}
 use Rattle.run.specs.declared.Workspace.{Workspace}
 use Rattle.run.specs.Stands.{set_out, tallied_of, Onward, Went, Left}
@@ -231,15 +231,6 @@ module _ (j : Job) (bytes : List ℕ) (start : ℕ) (table₀ path₀ : List ℕ
           leg = omega (arith, few);
         }
 
--- the lists that a trial starts with
-pub cleared : Cleared (record { mark = replicate 4096 0; cost = replicate 4096 0; list = replicate 8192 0; place = replicate 4096 0; along = replicate 4096 0 })
-cleared = record {
-  used = used-zeros;
-  places = length-replicate {A = ℕ} 4096 0;
-  sums = length-replicate {A = ℕ} 4096 0;
-  none_yet = get_or-replicate {A = ℕ} 4096 0 0 0 (omega arith);
-}
-
 -- ---- the loop of a trial
 
 -- What a trial's loop keeps from one decision to the next.
@@ -247,7 +238,7 @@ pub record Underway (j : Job) (bytes : List ℕ) (start : ℕ) (table₀ path₀
   -- the ride so far
   pub drive : Driving j bytes start table₀ path₀ w table path
   -- the lists that the next decision takes
-  pub used : Used w.base l.mark l.cost l.list
+  pub used : Used w.base l.scratch
   pub places : Places l.place path w.state.length
   -- the sums of the legs
   pub legs_so : Along j bytes w.state path l.along

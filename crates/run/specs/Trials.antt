@@ -21,7 +21,7 @@ pub record Fits (along : List ℕ) (n m leg : ℕ) : Type 0 where
 
 -- the lists that a trial starts with
 pub record Cleared (l : Workspace) : Type 0 where
-  pub used : Used 1 l.mark l.cost l.list
+  pub used : Used 1 l.scratch
   pub places : length l.place ≡ 4096
   pub sums : length l.along ≡ 4096
   pub none_yet : get_or l.along 0 0 ≡ 0

@@ -16,6 +16,7 @@ ghost use Rattle.run.specs.Stands.{set_out, tallied_of, Onward, Went, Left};
 ghost use Rattle.run.specs.Trials.{Fits, noted, Cleared, Rode, IsTrial, IsRun};
 
 use answers::{Answer, Job, Made, Refusal, Report, State};
+use lookahead::Scratch;
 pub use counts::{report_at, run_counts};
 
 // The costs of the legs up to the places of the path: where a decision adds a cell, what they come to there is noted.
@@ -28,13 +29,10 @@ fn note_leg(along: &mut [u32], before: usize, after: usize, leg: usize)
     }
 }
 
-// The lists that a trial works on: the lookahead's marks, costs and list, the places of the cells on the path, and what the legs up to each place of the path
-// come to.
+// What a trial works on: the lookahead's scratch, the places of the cells on the path, and what the legs up to each place of the path come to.
 #[derive(Drop)]
 pub struct Workspace {
-    pub mark: [u32; 4096],
-    pub cost: [u16; 4096],
-    pub list: [u16; 8192],
+    pub scratch: Scratch,
     pub place: [u16; 4096],
     pub along: [u32; 4096],
 }
@@ -87,7 +85,7 @@ impl Stand {
         lists: &mut Workspace,
     ) -> Stand
         requires ready { Onward job floor.now self table.old path.old lists.old.along }
-        requires used { Used self.base lists.old.mark lists.old.cost lists.old.list }
+        requires used { Used self.base lists.old.scratch }
         requires places { Places lists.old.place path.old self.state.length }
         ensures went { Went (act job floor.now self.state table.old path.old) self lists.old.along result table.new path.new lists.new.along }
         ensures left { Left job floor.now (act job floor.now self.state table.old path.old) self result lists.new path.new }
@@ -100,9 +98,7 @@ impl Stand {
             table,
             path,
             self.base,
-            &mut lists.mark,
-            &mut lists.cost,
-            &mut lists.list,
+            &mut lists.scratch,
             &mut lists.place,
         );
         let after = acted.state;
@@ -137,9 +133,7 @@ impl Workspace {
         ensures { Cleared result }
     {
         Workspace {
-            mark: [0; 4096],
-            cost: [0; 4096],
-            list: [0; 8192],
+            scratch: Scratch::new(),
             place: [0; 4096],
             along: [0; 4096],
         }
