@@ -4,7 +4,7 @@
 
 mod search;
 
-ghost use Rattle.std.specs.Prelude.{◌≡◌, List, ℕ, ◌≤◌, ◌<◌, length, get_or};
+ghost use Rattle.std.specs.Prelude.{◌≡◌, List, ℕ, ◌*◌, ◌≤◌, ◌<◌, length, get_or};
 ghost use Rattle.model.specs.Basics.{naming};
 ghost use Rattle.model.specs.Floor.{size, opening_table, goals_of};
 ghost use Rattle.model.specs.Checks.{finest, floor_of, Benched};
@@ -187,14 +187,12 @@ pub fn open_table<'a>(
 }
 
 // Fills a table with opening figures.
-pub fn fill_figures(floor: &Floor, goals: Goals, q: usize, table: &mut [u32])
-    requires fine { q ≤ finest }
-    requires benched { Benched (size floor.now) (goals_of goals) }
-    requires long { length table.old ≡ size floor.now }
-    ensures { table.new ≡ opening_table floor.now q (goals_of goals) }
+pub fn fill_figures(width: usize, height: usize, goals: Goals, q: usize, table: &mut [u32])
+    requires { (1 ≤ width) × (width ≤ 64) × (height ≤ 64) × (q ≤ finest) × Benched (width * height) (goals_of goals) × (length table.old ≡ width * height) }
+    ensures { (bytes : List ℕ) → table.new ≡ opening_table (flat width height bytes) q (goals_of goals) }
 {
-    for x in 0..floor.cells() {
-        table[x] = floor.opening(goals, q, x) as u32;
+    for x in 0..table.len() {
+        table[x] = floor::opening(width, height, goals, q, x) as u32;
     }
 }
 
@@ -209,7 +207,7 @@ pub fn fill_opening(
 ) -> Result<(), Refusal>
     ensures { Fills (flat width height floor.now) q goals table.old result table.new }
 {
-    let floor = open_table(width, height, goals, q, floor, table.len())?;
-    fill_figures(&floor, goals, q, table);
+    open_table(width, height, goals, q, floor, table.len())?;
+    fill_figures(width, height, goals, q, table);
     Ok(())
 }
