@@ -107,8 +107,7 @@ pub fn tell(
             from,
             stand.answer,
             stand.base,
-            &lists.mark,
-            &lists.cost,
+            &lists.scratch,
             &mut moves,
             0,
         );

@@ -16,8 +16,8 @@ ghost use Rattle.run.specs.Stands.{set_out, tallied_of, Onward, Went, Left};
 ghost use Rattle.run.specs.Trials.{Fits, noted, Cleared, Rode, IsTrial, IsRun};
 
 use answers::{Answer, Job, Made, Refusal, Report, State};
-use lookahead::Scratch;
 pub use counts::{report_at, run_counts};
+use lookahead::Scratch;
 
 // The costs of the legs up to the places of the path: where a decision adds a cell, what they come to there is noted.
 fn note_leg(along: &mut [u32], before: usize, after: usize, leg: usize)
