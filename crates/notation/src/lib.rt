@@ -1,10 +1,11 @@
 // How numbers are held and written, whatever they count: the same number in more bits; `digits` reads them and `print` writes them in decimal, `bytes` does
-// both big-endian.
+// both big-endian, and `lists` makes lists to hold them.
 
 #![tactic(auto)]
 
 pub mod bytes;
 pub mod digits;
+pub mod lists;
 pub mod print;
 
 ghost use Rattle.std.specs.Prelude.{◌≡◌, ◌<◌};
