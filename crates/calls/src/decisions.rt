@@ -2,9 +2,10 @@
 ghost use Rattle.notation.specs.Prints.{HasRoom};
 ghost use Rattle.calls.specs.Printing.{Answers};
 
-use crate::rooms::{CELLS, LONGEST, MOVES, zeros};
+use crate::rooms::{CELLS, LONGEST, MOVES};
 use crate::{jobs, show};
 use learner::{Answer, State};
+use notation::lists::filled;
 use notation::print::Printer;
 use numbers::Reader;
 
@@ -14,10 +15,10 @@ pub fn decide(reader: &mut Reader, out: &mut Printer) -> Option<()>
     requires { HasRoom out.old LONGEST }
     ensures { Answers result out.old out.new }
 {
-    let mut floor = zeros::<u8, CELLS>();
-    let mut table = zeros::<u32, CELLS>();
-    let mut path = zeros::<u16, CELLS>();
-    let mut moves = zeros::<u8, MOVES>();
+    let mut floor = filled::<u8, CELLS>(0);
+    let mut table = filled::<u32, CELLS>(0);
+    let mut path = filled::<u16, CELLS>(0);
+    let mut moves = filled::<u8, MOVES>(0);
     let sizes = jobs::read_sizes(reader)?;
     let current = reader.length()?;
     let learned = reader.length()?;

@@ -2,8 +2,9 @@
 ghost use Rattle.notation.specs.Prints.{HasRoom};
 ghost use Rattle.calls.specs.Printing.{Answers};
 
-use crate::rooms::{BYTES, CELLS, LONGEST, zeros};
+use crate::rooms::{BYTES, CELLS, LONGEST};
 use crate::{jobs, show};
+use notation::lists::filled;
 use notation::print::Printer;
 use numbers::Reader;
 
@@ -12,9 +13,9 @@ pub fn write_table(reader: &mut Reader, out: &mut Printer) -> Option<()>
     requires { HasRoom out.old LONGEST }
     ensures { Answers result out.old out.new }
 {
-    let mut floor = zeros::<u8, CELLS>();
-    let mut table = zeros::<u32, CELLS>();
-    let mut buffer = zeros::<u8, BYTES>();
+    let mut floor = filled::<u8, CELLS>(0);
+    let mut table = filled::<u32, CELLS>(0);
+    let mut buffer = filled::<u8, BYTES>(0);
     let site = jobs::read_site(reader)?;
     let cells = reader.list(&mut floor)?;
     let figures = reader.list(&mut table)?;
@@ -41,9 +42,9 @@ pub fn read_table(reader: &mut Reader, out: &mut Printer) -> Option<()>
     requires { HasRoom out.old LONGEST }
     ensures { Answers result out.old out.new }
 {
-    let mut floor = zeros::<u8, CELLS>();
-    let mut file = zeros::<u8, BYTES>();
-    let mut table = zeros::<u32, CELLS>();
+    let mut floor = filled::<u8, CELLS>(0);
+    let mut file = filled::<u8, BYTES>(0);
+    let mut table = filled::<u32, CELLS>(0);
     let site = jobs::read_site(reader)?;
     let cells = reader.list(&mut floor)?;
     let bytes = reader.list(&mut file)?;
@@ -71,7 +72,7 @@ pub fn find_records(reader: &mut Reader, out: &mut Printer) -> Option<()>
     requires { HasRoom out.old LONGEST }
     ensures { Answers result out.old out.new }
 {
-    let mut file = zeros::<u8, BYTES>();
+    let mut file = filled::<u8, BYTES>(0);
     let bytes = reader.list(&mut file)?;
     if !reader.ended() {
         return None;
@@ -86,7 +87,7 @@ pub fn check_trailer(reader: &mut Reader, out: &mut Printer) -> Option<()>
     requires { HasRoom out.old LONGEST }
     ensures { Answers result out.old out.new }
 {
-    let mut file = zeros::<u8, BYTES>();
+    let mut file = filled::<u8, BYTES>(0);
     let bytes = reader.list(&mut file)?;
     if !reader.ended() {
         return None;

@@ -2,9 +2,10 @@
 ghost use Rattle.notation.specs.Prints.{HasRoom};
 ghost use Rattle.calls.specs.Printing.{Answers};
 
-use crate::rooms::{CELLS, LONGEST, zeros};
+use crate::rooms::{CELLS, LONGEST};
 use crate::show;
 use learner::{Goals, Job, Sizes};
+use notation::lists::filled;
 use notation::print::Printer;
 use numbers::Reader;
 
@@ -52,8 +53,8 @@ pub fn open(reader: &mut Reader, out: &mut Printer) -> Option<()>
     requires { HasRoom out.old LONGEST }
     ensures { Answers result out.old out.new }
 {
-    let mut floor = zeros::<u8, CELLS>();
-    let mut table = zeros::<u32, CELLS>();
+    let mut floor = filled::<u8, CELLS>(0);
+    let mut table = filled::<u32, CELLS>(0);
     let sizes = read_sizes(reader)?;
     let start = reader.length()?;
     let job = read_job(reader, sizes)?;
@@ -62,8 +63,8 @@ pub fn open(reader: &mut Reader, out: &mut Printer) -> Option<()>
     if !reader.ended() {
         return None;
     }
-    let opened = learner::open(job, &floor[..cells], start, &table[..figures]);
-    show::verdict(out, opened);
+    let verdict = learner::open(job, &floor[..cells], start, &table[..figures]);
+    show::verdict(out, verdict);
     Some(())
 }
 
@@ -94,8 +95,8 @@ pub fn fill_opening(reader: &mut Reader, out: &mut Printer) -> Option<()>
     requires { HasRoom out.old LONGEST }
     ensures { Answers result out.old out.new }
 {
-    let mut floor = zeros::<u8, CELLS>();
-    let mut table = zeros::<u32, CELLS>();
+    let mut floor = filled::<u8, CELLS>(0);
+    let mut table = filled::<u32, CELLS>(0);
     let site = read_site(reader)?;
     let cells = reader.list(&mut floor)?;
     let figures = reader.list(&mut table)?;
@@ -103,7 +104,7 @@ pub fn fill_opening(reader: &mut Reader, out: &mut Printer) -> Option<()>
         return None;
     }
     let table = &mut table[..figures];
-    let filled = learner::fill_opening(
+    let verdict = learner::fill_opening(
         site.width,
         site.height,
         site.goals,
@@ -111,7 +112,7 @@ pub fn fill_opening(reader: &mut Reader, out: &mut Printer) -> Option<()>
         &floor[..cells],
         table,
     );
-    show::verdict(out, filled);
+    show::verdict(out, verdict);
     show::list(out, table);
     Some(())
 }

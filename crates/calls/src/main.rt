@@ -15,9 +15,10 @@ mod trials;
 ghost use Rattle.notation.specs.Prints.{HasRoom};
 ghost use Rattle.calls.specs.Printing.{Answers};
 
+use notation::lists::filled;
 use notation::print::Printer;
 use numbers::Reader;
-use rooms::{LONGEST, zeros};
+use rooms::LONGEST;
 
 const STDIN_FILENO: i32 = 0;
 
@@ -59,9 +60,9 @@ fn answer(input: &[u8], out: &mut Printer) -> Option<()>
 }
 
 fn main() {
-    let mut input = zeros::<u8, INPUT>();
+    let mut input = filled::<u8, INPUT>(0);
     let got = io::read_full(STDIN_FILENO, &mut input);
-    let mut line = zeros::<u8, LINE>();
+    let mut line = filled::<u8, LINE>(0);
     let mut out = Printer {
         out: &mut line,
         at: 0,

@@ -2,9 +2,10 @@
 ghost use Rattle.notation.specs.Prints.{HasRoom};
 ghost use Rattle.calls.specs.Printing.{Answers};
 
-use crate::rooms::{BYTES, LONGEST, zeros};
+use crate::rooms::{BYTES, LONGEST};
 use crate::show;
 use learner::Refusal;
+use notation::lists::filled;
 use notation::print::Printer;
 use numbers::Reader;
 
@@ -18,8 +19,8 @@ pub fn rewrite<F: Fn(&[u8], &mut [u8]) -> Result<usize, Refusal>>(
     requires room { HasRoom out.old LONGEST }
     ensures { Answers result out.old out.new }
 {
-    let mut old = zeros::<u8, BYTES>();
-    let mut buffer = zeros::<u8, BYTES>();
+    let mut old = filled::<u8, BYTES>(0);
+    let mut buffer = filled::<u8, BYTES>(0);
     let bytes = reader.list(&mut old)?;
     let room = reader.list(&mut buffer)?;
     if !reader.ended() {

@@ -2,8 +2,9 @@
 ghost use Rattle.notation.specs.Prints.{HasRoom};
 ghost use Rattle.calls.specs.Printing.{Answers};
 
-use crate::rooms::{BYTES, CELLS, LONGEST, zeros};
+use crate::rooms::{BYTES, CELLS, LONGEST};
 use crate::{jobs, show};
+use notation::lists::filled;
 use notation::print::Printer;
 use numbers::Reader;
 
@@ -12,8 +13,8 @@ pub fn read_floor(reader: &mut Reader, out: &mut Printer) -> Option<()>
     requires { HasRoom out.old LONGEST }
     ensures { Answers result out.old out.new }
 {
-    let mut text = zeros::<u8, BYTES>();
-    let mut buffer = zeros::<u8, BYTES>();
+    let mut text = filled::<u8, BYTES>(0);
+    let mut buffer = filled::<u8, BYTES>(0);
     let bytes = reader.list(&mut text)?;
     let room = reader.list(&mut buffer)?;
     if !reader.ended() {
@@ -31,8 +32,8 @@ pub fn write_floor(reader: &mut Reader, out: &mut Printer) -> Option<()>
     requires { HasRoom out.old LONGEST }
     ensures { Answers result out.old out.new }
 {
-    let mut floor = zeros::<u8, CELLS>();
-    let mut buffer = zeros::<u8, BYTES>();
+    let mut floor = filled::<u8, CELLS>(0);
+    let mut buffer = filled::<u8, BYTES>(0);
     let sizes = jobs::read_sizes(reader)?;
     let cells = reader.list(&mut floor)?;
     let room = reader.list(&mut buffer)?;

@@ -2,8 +2,9 @@
 ghost use Rattle.notation.specs.Prints.{HasRoom};
 ghost use Rattle.calls.specs.Printing.{Answers};
 
-use crate::rooms::{CELLS, LONGEST, zeros};
+use crate::rooms::{CELLS, LONGEST};
 use crate::{jobs, show};
+use notation::lists::filled;
 use notation::print::Printer;
 use numbers::Reader;
 
@@ -13,9 +14,9 @@ pub fn trial(reader: &mut Reader, out: &mut Printer) -> Option<()>
     requires { HasRoom out.old LONGEST }
     ensures { Answers result out.old out.new }
 {
-    let mut floor = zeros::<u8, CELLS>();
-    let mut table = zeros::<u32, CELLS>();
-    let mut path = zeros::<u16, CELLS>();
+    let mut floor = filled::<u8, CELLS>(0);
+    let mut table = filled::<u32, CELLS>(0);
+    let mut path = filled::<u16, CELLS>(0);
     let sizes = jobs::read_sizes(reader)?;
     let start = reader.length()?;
     let job = jobs::read_job(reader, sizes)?;
