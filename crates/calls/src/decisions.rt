@@ -19,11 +19,11 @@ pub fn decide(reader: &mut Reader, out: &mut Printer) -> Option<()>
     let mut table = filled::<u32, CELLS>(0);
     let mut path = filled::<u16, CELLS>(0);
     let mut moves = filled::<u8, MOVES>(0);
-    let sizes = jobs::read_sizes(reader)?;
+    let sizes = jobs::sizes_told(reader)?;
     let current = reader.length()?;
     let learned = reader.length()?;
     let length = reader.length()?;
-    let job = jobs::read_job(reader, sizes)?;
+    let job = jobs::job_told(reader, sizes)?;
     let from = reader.length()?;
     let cells = reader.list(&mut floor)?;
     let figures = reader.list(&mut table)?;

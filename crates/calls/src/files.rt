@@ -16,7 +16,7 @@ pub fn write_table(reader: &mut Reader, out: &mut Printer) -> Option<()>
     let mut floor = filled::<u8, CELLS>(0);
     let mut table = filled::<u32, CELLS>(0);
     let mut buffer = filled::<u8, BYTES>(0);
-    let site = jobs::read_site(reader)?;
+    let site = jobs::site_told(reader)?;
     let cells = reader.list(&mut floor)?;
     let figures = reader.list(&mut table)?;
     let room = reader.list(&mut buffer)?;
@@ -45,7 +45,7 @@ pub fn read_table(reader: &mut Reader, out: &mut Printer) -> Option<()>
     let mut floor = filled::<u8, CELLS>(0);
     let mut file = filled::<u8, BYTES>(0);
     let mut table = filled::<u32, CELLS>(0);
-    let site = jobs::read_site(reader)?;
+    let site = jobs::site_told(reader)?;
     let cells = reader.list(&mut floor)?;
     let bytes = reader.list(&mut file)?;
     let figures = reader.list(&mut table)?;

@@ -10,14 +10,14 @@ use notation::print::Printer;
 use numbers::Reader;
 
 // Width height.
-pub fn read_sizes(reader: &mut Reader) -> Option<Sizes> {
+pub fn sizes_told(reader: &mut Reader) -> Option<Sizes> {
     let width = reader.length()?;
     let height = reader.length()?;
     Some(Sizes { width, height })
 }
 
 // Goals: eight can be told, twice as many as a job may name; the first four are kept.
-fn read_goals(reader: &mut Reader) -> Option<Goals> {
+fn goals_told(reader: &mut Reader) -> Option<Goals> {
     let mut told = [0usize; 8];
     let count = reader.list(&mut told)?;
     let [first, second, third, fourth, ..] = told;
@@ -31,8 +31,8 @@ fn read_goals(reader: &mut Reader) -> Option<Goals> {
 }
 
 // The rest of a job, after its sizes and where it stands: goals, depth p q quota.
-pub fn read_job(reader: &mut Reader, sizes: Sizes) -> Option<Job> {
-    let goals = read_goals(reader)?;
+pub fn job_told(reader: &mut Reader, sizes: Sizes) -> Option<Job> {
+    let goals = goals_told(reader)?;
     let depth = reader.length()?;
     let p = reader.length()?;
     let q = reader.length()?;
@@ -55,9 +55,9 @@ pub fn open(reader: &mut Reader, out: &mut Printer) -> Option<()>
 {
     let mut floor = filled::<u8, CELLS>(0);
     let mut table = filled::<u32, CELLS>(0);
-    let sizes = read_sizes(reader)?;
+    let sizes = sizes_told(reader)?;
     let start = reader.length()?;
-    let job = read_job(reader, sizes)?;
+    let job = job_told(reader, sizes)?;
     let cells = reader.list(&mut floor)?;
     let figures = reader.list(&mut table)?;
     if !reader.ended() {
@@ -78,9 +78,9 @@ pub struct Site {
 }
 
 // Width height, goals, q.
-pub fn read_site(reader: &mut Reader) -> Option<Site> {
-    let Sizes { width, height } = read_sizes(reader)?;
-    let goals = read_goals(reader)?;
+pub fn site_told(reader: &mut Reader) -> Option<Site> {
+    let Sizes { width, height } = sizes_told(reader)?;
+    let goals = goals_told(reader)?;
     let q = reader.length()?;
     Some(Site {
         width,
@@ -97,7 +97,7 @@ pub fn fill_opening(reader: &mut Reader, out: &mut Printer) -> Option<()>
 {
     let mut floor = filled::<u8, CELLS>(0);
     let mut table = filled::<u32, CELLS>(0);
-    let site = read_site(reader)?;
+    let site = site_told(reader)?;
     let cells = reader.list(&mut floor)?;
     let figures = reader.list(&mut table)?;
     if !reader.ended() {

@@ -18,9 +18,9 @@ pub fn run(reader: &mut Reader, out: &mut Printer) -> Option<()>
     let mut table = filled::<u32, CELLS>(0);
     let mut path = filled::<u16, CELLS>(0);
     let mut counts = filled::<u64, COUNTS>(0);
-    let sizes = jobs::read_sizes(reader)?;
+    let sizes = jobs::sizes_told(reader)?;
     let start = reader.length()?;
-    let job = jobs::read_job(reader, sizes)?;
+    let job = jobs::job_told(reader, sizes)?;
     let trials = reader.length()?;
     let cells = reader.list(&mut floor)?;
     let figures = reader.list(&mut table)?;

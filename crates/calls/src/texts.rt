@@ -34,7 +34,7 @@ pub fn write_floor(reader: &mut Reader, out: &mut Printer) -> Option<()>
 {
     let mut floor = filled::<u8, CELLS>(0);
     let mut buffer = filled::<u8, BYTES>(0);
-    let sizes = jobs::read_sizes(reader)?;
+    let sizes = jobs::sizes_told(reader)?;
     let cells = reader.list(&mut floor)?;
     let room = reader.list(&mut buffer)?;
     if !reader.ended() {
