@@ -15,7 +15,7 @@ use Rattle.answers.specs.declared.Refusal.{Refusal}
 use Rattle.answers.specs.declared.Answer.{Answer}
 use Rattle.answers.specs.declared.Answer.TheVariants as A
 use Rattle.answers.specs.Outcomes.{Verdict}
-use Rattle.std.specs.Prelude.{Ok, Err}
+use Rattle.std.specs.Prelude.{Ok, Err, Option, Some, None}
 use Rattle.answers.specs.declared.Decided.{Decided}
 use Rattle.answers.specs.Says.{says_answer}
 use Rattle.model.specs.Basics.{member}
@@ -29,8 +29,7 @@ use Rattle.model.proofs.Benches.{at_goal_lem}
 use Rattle.model.proofs.Meaning.{window-inside, nine_not}
 use Rattle.model.proofs.Cases.{act-arrived, act_blind, act-learns, learn_over, learn-forward, learn-back, back-stays, back_lost, back-goes, decide-refused, decide_acts}
 use Rattle.lookahead.specs.declared.Ahead.{Ahead}
-use Rattle.lookahead.specs.declared.Around.{Around}
-use Rattle.lookahead.specs.declared.Around.TheVariants as R
+use Rattle.lookahead.specs.declared.Extent.{Extent}
 use Rattle.lookahead.specs.Contract.{Used, Asked, Near, Seen, Window, Looked, Aimed, Figures, moves_to}
 use Rattle.lookahead.proofs.Fresh.{spent-zeros}
 use Rattle.decision.specs.declared.Acted.{Acted}
@@ -112,11 +111,11 @@ shows_last {j} {bytes} {l} {x} is e a h = record { asked = a; seen = h; near = o
 
 -- ---- scratch before and after a lookahead
 
-module _ {j : Job} {bytes : List ℕ} {s base : ℕ} {mark cost list : List ℕ} {r : Around} where
-  pub looked-window : {last n : ℕ} → r ≡ R.Window last n → Looked j bytes s base mark cost list r → Window j bytes s base mark cost list n last
+module _ {j : Job} {bytes : List ℕ} {s base : ℕ} {mark cost list : List ℕ} {r : Option Extent} where
+  pub looked-window : {e : Extent} → r ≡ Some e → Looked j bytes s base mark cost list r → Window j bytes s base mark cost list e.n e.last
   looked-window e h = rw e at h
 
-pub looked-empty : (j : Job) (bytes : List ℕ) (s : ℕ) {base : ℕ} {mark cost list : List ℕ} {r : Around} → r ≡ R.Empty → Looked j bytes s base mark cost list r
+pub looked-empty : (j : Job) (bytes : List ℕ) (s : ℕ) {base : ℕ} {mark cost list : List ℕ} {r : Option Extent} → r ≡ None → Looked j bytes s base mark cost list r
     → Used base mark cost list × (empty_ring j bytes (seen j bytes s) (seen j bytes s).last ≡ true)
 looked-empty j bytes s e h = rw e at h
 

@@ -136,6 +136,7 @@ module _ (path place : List ℕ) (n c k : ℕ) (at : k ≡ get_or place c 0) whe
   noted_is x q h =
       sym (ap₂ ◌&&◌ (ap (λ i. ltb i n) (sym at) ∙ lt-ltb k n h) (ap (λ i. eqb (get_or path i 0) c) (sym at) ∙ ap (λ y. eqb y c) (sym q)))
 
-  pub noted_past : n ≤ k → false ≡ is_noted path place n c
+  pub noted_past : n ≤ k → ltb k n ≡ is_noted path place n c
   unfolding is_noted
-  noted_past h = sym (ap (λ b. b && eqb (get_or path (get_or place c 0) 0) c) (ap (λ i. ltb i n) (sym at) ∙ le-ltb k n h))
+  noted_past h =
+      le-ltb k n h ∙ sym (ap (λ b. b && eqb (get_or path (get_or place c 0) 0) c) (ap (λ i. ltb i n) (sym at) ∙ le-ltb k n h))

@@ -3,11 +3,13 @@ use Rattle.std.specs.Prelude.{ℕ, suc, ◌+◌, ◌<◌, ◌≡◌, Bool, true,
 use Rattle.learning.specs.Path.{before}
 use Rattle.answers.specs.declared.Job.{Job}
 use Rattle.answers.specs.declared.State.{State}
+use Rattle.answers.specs.declared.Refusal.{Refusal}
 use Rattle.answers.specs.declared.Place.TheVariants as P
 use Rattle.answers.specs.declared.Answer.TheVariants as A
 use Rattle.answers.specs.Outcomes.{Verdict}
-use Rattle.std.specs.Prelude.{Ok}
+use Rattle.std.specs.Prelude.{Result, Ok, Err}
 use Rattle.model.specs.Basics.{then}
+use Rattle.model.specs.Floor.{Floor}
 use Rattle.model.specs.Checks.{floor_of, sizes, path_room}
 use Rattle.model.specs.Lookahead.{seen, new_figure, target}
 use Rattle.model.specs.Decision.{Deed, moves_room, state_holds, learn}
@@ -18,6 +20,11 @@ use Rattle.decision.specs.Ready.{Places}
 -- the checks 1 and 2, on the lists' lengths
 unfoldable pub lists_fit : Job → List ℕ → (figures places room from : ℕ) → Verdict
 lists_fit j bytes figures places room from = then (sizes (floor_of j bytes) figures) (then (path_room (floor_of j bytes) places) (moves_room room from))
+
+-- and what they answer: the floor itself, or the model's refusal
+abbrev pub Fitted : Job → List ℕ → (figures places room from : ℕ) → Result Floor Refusal → Type 0
+Fitted j bytes figures places room from (Ok f) = (f ≡ floor_of j bytes) × (lists_fit j bytes figures places room from ≡ Ok tt)
+Fitted j bytes figures places room from (Err r) = Err r ≡ lists_fit j bytes figures places room from
 
 -- whether the cell c is noted among the path's first n: the place under its number is one of theirs, and c stands there
 unfoldable pub is_noted : (path place : List ℕ) → (n c : ℕ) → Bool

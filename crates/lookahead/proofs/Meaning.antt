@@ -156,7 +156,7 @@ module _ {j : Job} {bytes : List ℕ} {s : ℕ} (Q : Asked j bytes s) where
       {cost' list' : List ℕ} (R : Relaxed (floor_of j bytes) base mark n cost cost' list')
     where
       W : Window (net_of (fine_in j bytes)) (Goal G) d s last (ring_at base mark) (at cost')
-      W = array_window F Q.deep Q.sized Q.benches R
+      W = array_window F Q.deep Q.benches R
 
       spent : Spent base mark
       spent = record { size = F.marked.room.sizes.marks; room = room; below = λ x. omega (arith, F.marked.top x) }

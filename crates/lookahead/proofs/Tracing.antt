@@ -48,6 +48,7 @@ module _ {j : Job} {bytes : List ℕ} {s : ℕ} (Q : Asked j bytes s) {base : �
 
   pub costs_of : Costs (floor_of j bytes) base mark cost
   costs_of = record {
+    sized = Q.sized;
     marks = E.spent.size;
     costs = E.size;
     free = λ x i. near-free Q x (near x i);

@@ -1,13 +1,12 @@
 -- What the lookahead takes and what it promises, over the model's own functions.
-use Rattle.std.specs.Prelude.{ℕ, ◌+◌, ◌-◌, ◌*◌, ◌≤◌, ◌<◌, ◌≡◌, true, false, List, ◌++◌, length, get_or, drop}
+use Rattle.std.specs.Prelude.{ℕ, ◌+◌, ◌-◌, ◌*◌, ◌≤◌, ◌<◌, ◌≡◌, true, false, List, ◌++◌, length, get_or, drop, Option, Some, None}
 use Rattle.learning.specs.Ground.{leg_of}
 use Rattle.answers.specs.declared.Job.{Job}
 use Rattle.model.specs.Basics.{member}
 use Rattle.model.specs.Floor.{Sized, size, free}
 use Rattle.model.specs.Checks.{deepest, finest, ceiling, floor_of, goals, Benched}
 use Rattle.model.specs.Lookahead.{seen, ring, w, empty_ring, new_figure, target, fine_in, route, moves_along, most_moves, highest_new}
-use Rattle.lookahead.specs.declared.Around.{Around}
-use Rattle.lookahead.specs.declared.Around.TheVariants as A
+use Rattle.lookahead.specs.declared.Extent.{Extent}
 use Rattle.lookahead.specs.declared.Ahead.{Ahead}
 
 -- how far a lookahead's base is from the next one's: past its rings; and the last base that leaves the 32 bits of a mark room for one
@@ -77,9 +76,9 @@ pub record Window (j : Job) (bytes : List ℕ) (s base : ℕ) (mark cost list : 
   pub listed : (x : ℕ) → Near j bytes s x → (i : ℕ) × (i < n) × (get_or list i 0 ≡ x)
 
 -- The window, or number 9's case.
-abbrev pub Looked : Job → List ℕ → (s base : ℕ) → (mark cost list : List ℕ) → Around → Type 0
-Looked j bytes s base mark cost list (A.Window last n) = Window j bytes s base mark cost list n last
-Looked j bytes s base mark cost list A.Empty = Used base mark cost list × (empty_ring j bytes (seen j bytes s) (seen j bytes s).last ≡ true)
+abbrev pub Looked : Job → List ℕ → (s base : ℕ) → (mark cost list : List ℕ) → Option Extent → Type 0
+Looked j bytes s base mark cost list (Some e) = Window j bytes s base mark cost list e.n e.last
+Looked j bytes s base mark cost list None = Used base mark cost list × (empty_ring j bytes (seen j bytes s) (seen j bytes s).last ≡ true)
 
 -- The figures that a new one is worked out from.
 pub record Figures (j : Job) (bytes table : List ℕ) : Type 0 where

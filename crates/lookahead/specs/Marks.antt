@@ -1,18 +1,31 @@
 -- What holds while the rings around s are marked. A cell's mark is the base and its ring, or below the base; beside it stands the fine cost of
 -- a walk to it; and the marked cells stand in a list, ring by ring, each with the cost at which its moves were followed.
-use Rattle.std.specs.Prelude.{◌≡◌, List, [], ◌∷◌, true, cond, ◌⊎◌, ℕ, ◌+◌, ◌-◌, ◌*◌, ◌≤◌, ◌<◌, ltb, length, get_or, set}
+use Rattle.std.specs.Prelude.{◌≡◌, List, [], ◌∷◌, true, cond, ◌⊎◌, ℕ, ◌+◌, ◌-◌, ◌*◌, ◌≤◌, ◌<◌, ltb, length, get_or, set, Option, Some, None}
 use Rattle.learning.specs.Walk.{Network, Walk, Leads}
 use Rattle.learning.specs.Ground.{net_of}
-use Rattle.model.specs.Floor.{Floor, free, dearest_price}
+use Rattle.model.specs.Floor.{Floor, Sized, free, dearest_price}
 use Rattle.model.specs.Checks.{deepest}
 use Rattle.model.specs.Lookahead.{fine, fine_of}
 use Rattle.floor.specs.declared.Spot.{Spot}
+use Rattle.floor.specs.declared.Step.{Step}
 use Rattle.floor.specs.Moves.{to, Placed, step_of}
 use Rattle.lookahead.specs.Contract.{last_base}
 
 -- the moves of a floor at their fine prices
 abbrev pub net : Floor → Network
 net f = net_of (fine_of f [])
+
+-- the move m from c leads to the cell of s, whose cost is the fine price; or nothing may be moved into
+pub record Finely (f : Floor) (c m : ℕ) (s : Step) : Type 0 where
+  pub price : ℕ
+  pub step : step_of f c m ≡ to s.cell price
+  pub is : s.cost ≡ fine price
+  pub few : s.cell < 4096
+  pub most : s.cost ≤ fine dearest_price
+
+abbrev pub FineStep : Floor → (c m : ℕ) → Option Step → Type 0
+FineStep f c m (Some s) = Finely f c m s
+FineStep f c m None = step_of f c m ≡ None
 
 -- how many cells have no mark
 unfoldable pub blanks : ℕ → List ℕ → ℕ
@@ -52,9 +65,10 @@ pub record Sizes (base : ℕ) (S : State) : Type 0 where
   pub cells : length S.list ≡ 8192
   pub count : S.n + blanks base S.mark ≡ 4096
 
--- and the marked cells are free, at no more than the dearest fine price for each move of their ring; where a cell's moves were followed, they lead to marked cells,
+-- and the marked cells are free cells of a floor, at no more than the dearest fine price for each move of their ring; where a cell's moves were followed, they lead to marked cells,
 -- which cost no more than the move adds
 pub record Room (f : Floor) (base : ℕ) (S : State) : Type 0 where
+  pub sized : Sized f
   pub sizes : Sizes base S
   pub free : (x : ℕ) → In base S.mark x → free f x ≡ true
   pub cheap : (x : ℕ) → In base S.mark x → cost_at S x ≤ fine dearest_price * (mark_of S x - base)

@@ -25,14 +25,14 @@ fn weigh(
     c: usize,
     best: &mut [usize],
 )
-    requires fact_1 { Scores base mark.now cost.now table.now p }
-    requires fact_2 { In base mark.now c }
-    requires fact_3 { length best.old ≡ most_rings }
+    requires scores { Scores base mark.now cost.now table.now p }
+    requires inside { In base mark.now c }
+    requires rings { length best.old ≡ most_rings }
     ensures { best.new ≡ set best.old (ring_at base mark.now c)
         (min (key cost.now table.now p c) (get_or best.old (ring_at base mark.now c) 0)) }
 {
-    let k = notation::wide32(mark[c] - base);
-    let v = p * super::coarse(cost[c]) + notation::wide32(table[c]);
+    let k = (mark[c] - base) as usize;
+    let v = p * super::coarse(cost[c]) + table[c] as usize;
     enter(best, k, v * 4096 + c);
 }
 
@@ -47,30 +47,25 @@ pub(crate) fn weigh_all(
     n: usize,
     best: &mut [usize],
 )
-    requires fact_1 { Scores base mark.now cost.now table.now p }
-    requires fact_2 { Listing base mark.now list.now n }
-    requires fact_3 { Bests base mark.now cost.now table.now p list.now 0 best.old }
+    requires scores { Scores base mark.now cost.now table.now p }
+    requires listing { Listing base mark.now list.now n }
+    requires none { Bests base mark.now cost.now table.now p list.now 0 best.old }
     ensures { Bests base mark.now cost.now table.now p list.now n best.new }
 {
-    let mut i = 0;
-    while i < n {
-        let c = notation::wide16(list[i]);
-        weigh(table, p, base, mark, cost, c, best);
-        i += 1;
+    for i in 0..n {
+        weigh(table, p, base, mark, cost, usize::from(list[i]), best);
     }
 }
 
 // The greatest of the keys of rings 1 to last.
 pub(crate) fn greatest(best: &[usize], last: usize) -> usize
-    requires fact_1 { length best.now ≡ most_rings }
-    requires fact_2 { (1 ≤ last) × (last ≤ deepest) }
+    requires rings { length best.now ≡ most_rings }
+    requires last { (1 ≤ last) × (last ≤ deepest) }
     ensures { Topped best.now (last + 1) result }
 {
     let mut top = 0;
-    let mut k = 1;
-    while k <= last {
-        top = super::larger(top, best[k]);
-        k += 1;
+    for k in 1..last + 1 {
+        top = top.max(best[k]);
     }
     top
 }

@@ -4,14 +4,13 @@ ghost use Rattle.std.specs.Prelude.{◌≡◌, true, false, ◌<◌, ◌≤◌, 
 ghost use Rattle.model.specs.Basics.{any, member};
 ghost use Rattle.model.specs.Floor.{Sized, free, goals_of};
 ghost use Rattle.model.specs.Checks.{deepest};
-ghost use Rattle.floor.specs.Moves.{flat};
 ghost use Rattle.lookahead.specs.Contract.{Fresh};
 ghost use Rattle.lookahead.specs.Marks.{state, begun, Sizes, Room, Reached, Leaving, Extended, Open, Left, Segment, Swept};
 ghost use Rattle.lookahead.specs.Rings.{EachBelow, Rings};
 
-use super::{Around, fine};
+use super::{Extent, fine_step};
 use answers::Goals;
-use floor::{Spot, Step};
+use floor::{Floor, Spot, Step};
 
 // The cell d is reached at the cost v. With no mark yet it gets the mark k and goes into the list; with one its cost is lowered, if v is lower.
 fn reach(
@@ -24,8 +23,8 @@ fn reach(
     k: u32,
     v: u16,
 ) -> usize
-    requires fact_1 { Sizes base (state mark.old cost.old list.old n) }
-    requires fact_2 { d < 4096 }
+    requires sizes { Sizes base (state mark.old cost.old list.old n) }
+    requires cell { d < 4096 }
     ensures { Reached base d k v (state mark.old cost.old list.old n)
         (state mark.new cost.new list.new result) }
 {
@@ -44,9 +43,7 @@ fn reach(
 
 // The move m from the cell c of mark k and cost w: the cell moved into is reached.
 fn extend(
-    width: usize,
-    height: usize,
-    floor: &[u8],
+    floor: &Floor,
     base: u32,
     mark: &mut [u32],
     cost: &mut [u16],
@@ -58,27 +55,21 @@ fn extend(
     k: u32,
     w: u16,
 ) -> usize
-    requires fact_1 { Sized (flat width height floor.now) }
-    requires fact_2 { Room (flat width height floor.now) base (state mark.old cost.old list.old n) }
-    requires fact_3 { Leaving (flat width height floor.now) base c spot k w (state mark.old cost.old list.old n) }
-    requires fact_4 { m < 8 }
-    ensures { Extended (flat width height floor.now) base k c m w (state mark.old cost.old list.old n)
+    requires room { Room floor.now base (state mark.old cost.old list.old n) }
+    requires leaving { Leaving floor.now base c spot k w (state mark.old cost.old list.old n) }
+    requires eight { m < 8 }
+    ensures { Extended floor.now base k c m w (state mark.old cost.old list.old n)
         (state mark.new cost.new list.new result) }
 {
-    match floor::step_from(width, height, floor, c, spot, m) {
-        Step::To { cell, cost: v } => {
-            let sum = w + fine(v);
-            reach(base, mark, cost, list, n, cell, k + 1, sum)
-        }
-        Step::Wall => n,
-    }
+    let Some(Step { cell, cost: v }) = fine_step(floor, c, spot, m) else {
+        return n;
+    };
+    reach(base, mark, cost, list, n, cell, k + 1, w + v)
 }
 
 // Every move from the cell c of mark k and cost w.
 fn visit(
-    width: usize,
-    height: usize,
-    floor: &[u8],
+    floor: &Floor,
     base: u32,
     mark: &mut [u32],
     cost: &mut [u16],
@@ -88,29 +79,22 @@ fn visit(
     k: u32,
     w: u16,
 ) -> usize
-    requires fact_1 { Sized (flat width height floor.now) }
-    requires fact_2 { Room (flat width height floor.now) base (state mark.old cost.old list.old n) }
-    requires fact_3 { Open (flat width height floor.now) base c k w (state mark.old cost.old list.old n) }
-    ensures { Left (flat width height floor.now) base k c 8 w (state mark.old cost.old list.old n)
+    requires room { Room floor.now base (state mark.old cost.old list.old n) }
+    requires unvisited { Open floor.now base c k w (state mark.old cost.old list.old n) }
+    ensures { Left floor.now base k c 8 w (state mark.old cost.old list.old n)
         (state mark.new cost.new list.new result) }
 {
-    let spot = floor::spot_of(width, height, floor, c);
+    let spot = floor.spot(c);
     let mut end = n;
-    let mut m = 0;
-    while m < 8 {
-        end = extend(
-            width, height, floor, base, mark, cost, list, end, c, spot, m, k, w,
-        );
-        m += 1;
+    for m in 0..8 {
+        end = extend(floor, base, mark, cost, list, end, c, spot, m, k, w);
     }
     end
 }
 
 // Every move from each cell of mark k, which stand in the list from `from` to `to`, its end.
 fn spread(
-    width: usize,
-    height: usize,
-    floor: &[u8],
+    floor: &Floor,
     base: u32,
     mark: &mut [u32],
     cost: &mut [u16],
@@ -119,20 +103,17 @@ fn spread(
     to: usize,
     k: u32,
 ) -> usize
-    requires fact_1 { Sized (flat width height floor.now) }
-    requires fact_2 { Room (flat width height floor.now) base (state mark.old cost.old list.old to) }
-    requires fact_3 { Segment base from to k (state mark.old cost.old list.old to) }
-    ensures { Swept (flat width height floor.now) base k from to (state mark.old cost.old list.old to)
+    requires room { Room floor.now base (state mark.old cost.old list.old to) }
+    requires segment { Segment base from to k (state mark.old cost.old list.old to) }
+    ensures { Swept floor.now base k from to (state mark.old cost.old list.old to)
         (state mark.new cost.new list.new result) }
 {
     let mut end = to;
-    let mut i = from;
-    while i < to {
-        let c = notation::wide16(list[i]);
+    for i in from..to {
+        let c = usize::from(list[i]);
         let w = cost[c];
-        end = visit(width, height, floor, base, mark, cost, list, end, c, k, w);
+        end = visit(floor, base, mark, cost, list, end, c, k, w);
         list[i + 4096] = w;
-        i += 1;
     }
     end
 }
@@ -153,22 +134,17 @@ fn goal_marked(base: u32, mark: &[u32], goals: Goals) -> bool
     requires { EachBelow 4096 (goals_of goals) × (length mark.now ≡ 4096) }
     ensures { result ≡ any (λ g. leb base (get_or mark.now g 0)) (goals_of goals) }
 {
-    let n = floor::goals_in(goals);
-    let mut i = 0;
-    while i < n {
+    for i in 0..floor::goals_in(goals) {
         if base <= mark[floor::goal_at(goals, i)] {
             return true;
         }
-        i += 1;
     }
     false
 }
 
-// The rings around s are marked, up to the depth's or the nearest goal's.
+// The rings around s are marked, up to the depth's or the nearest goal's; None where one of them is empty.
 pub(crate) fn rings(
-    width: usize,
-    height: usize,
-    floor: &[u8],
+    floor: &Floor,
     s: usize,
     goals: Goals,
     depth: usize,
@@ -176,31 +152,27 @@ pub(crate) fn rings(
     mark: &mut [u32],
     cost: &mut [u16],
     list: &mut [u16],
-) -> Around
-    requires fact_1 { Sized (flat width height floor.now) }
-    requires fact_2 { free (flat width height floor.now) s ≡ true }
-    requires fact_3 { EachBelow 4096 (goals_of goals) × (member s (goals_of goals) ≡ false) }
-    requires fact_4 { (1 ≤ depth) × (depth ≤ deepest) }
-    requires fact_5 { Fresh base mark.old cost.old list.old }
-    ensures { Rings (flat width height floor.now) s (goals_of goals) depth base mark.new cost.new list.new result }
+) -> Option<Extent>
+    requires sized { Sized floor.now }
+    requires free { free floor.now s ≡ true }
+    requires goals { EachBelow 4096 (goals_of goals) × (member s (goals_of goals) ≡ false) }
+    requires depth { (1 ≤ depth) × (depth ≤ deepest) }
+    requires fresh { Fresh base mark.old cost.old list.old }
+    ensures { Rings floor.now s (goals_of goals) depth base mark.new cost.new list.new result }
 {
     begin(base, mark, cost, list, s);
     let mut from = 0;
     let mut to = 1;
-    let mut r = 0;
-    let mut k = base;
-    while r < depth {
-        let end = spread(width, height, floor, base, mark, cost, list, from, to, k);
-        r += 1;
-        k += 1;
+    for r in 0..depth {
+        let end = spread(floor, base, mark, cost, list, from, to, base + r as u32);
         if end == to {
-            return Around::Empty;
+            return None;
         }
         from = to;
         to = end;
         if goal_marked(base, mark, goals) {
-            return Around::Window { last: r, n: to };
+            return Some(Extent { last: r + 1, n: to });
         }
     }
-    Around::Window { last: r, n: to }
+    Some(Extent { last: depth, n: to })
 }

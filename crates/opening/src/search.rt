@@ -99,7 +99,8 @@ fn pass(
 }
 
 // Follows the moves of the k-th cost from a cell: what they reach first has the distance v. The queue's last.
-// Only a goal can be blocked, and then no move leads from it.
+// Only a goal can be blocked, and then no move leads from it. (A long function is made part of its caller only where it has but one: by K, the number of
+// costs, each search has its own.)
 fn follow<const K: usize>(
     floor: &Floor,
     cell: usize,

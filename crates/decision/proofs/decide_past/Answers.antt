@@ -2,6 +2,6 @@
 use Rattle.decision.proofs.Acting.{used-zeros}
 use Rattle.decision.proofs.decide_past.Goals as goal
 
-pub act-r-requires-clause-fact_2 : goal.act-r-requires-clause-fact_2
-act-r-requires-clause-fact_2 c =
+pub act-acted-requires-clause-used : goal.act-acted-requires-clause-used
+act-acted-requires-clause-used c =
     used-zeros

@@ -6,6 +6,6 @@ pub returns-then-k-n : goal.returns-then-k-n
 returns-then-k-n c =
     search noted_is
 
-pub returns : goal.returns
-returns c =
+pub returns-else-k-n : goal.returns-else-k-n
+returns-else-k-n c =
     search noted_past

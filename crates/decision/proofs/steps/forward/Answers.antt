@@ -3,12 +3,12 @@ use Rattle.learning.proofs.Words.{rules}
 use Rattle.decision.proofs.Acting.{aimed-near, near-place, opened, current_in, acts_forward}
 use Rattle.decision.proofs.steps.forward.Goals as goal
 
-pub extend-length-requires-clause-fact_1 : goal.extend-length-requires-clause-fact_1
-extend-length-requires-clause-fact_1 c =
+pub extend-length-requires-clause-open : goal.extend-length-requires-clause-open
+extend-length-requires-clause-open c =
     search opened
 
-pub extend-length-requires-clause-fact_2 : goal.extend-length-requires-clause-fact_2
-extend-length-requires-clause-fact_2 c =
+pub extend-length-requires-clause-cell : goal.extend-length-requires-clause-cell
+extend-length-requires-clause-cell c =
     search (near-place, aimed-near)
 
 pub store-requires : goal.store-requires
