@@ -34,22 +34,27 @@ impl<'a> Task<'a> {
         table: &mut [u32],
         path: &mut [u16],
     ) -> Result<Outcome, Refusal> {
-        // Four counts for each of the most trials that a run may have.
-        let mut counts: [u64; 4000] = lists::filled(0);
+        let none = Report {
+            decisions: 0,
+            learned: 0,
+            kept: 0,
+            travel: 0,
+        };
+        // A record for each of the most trials that a run may have.
+        let mut reports: [Report; 1000] = lists::filled(none);
         self.open(table)?;
-        let made = run::run_counts(
+        let made = learner::run(
             self.job,
             self.floor,
             self.start,
             trials,
             table,
             path,
-            &mut counts,
-            1000,
+            &mut reports,
         )?;
         Ok(Outcome {
-            first: run::report_at(&counts, 0),
-            last: run::report_at(&counts, made.trials.saturating_sub(1).min(999)),
+            first: reports[0],
+            last: reports[made.trials.saturating_sub(1).min(999)],
             made: made.trials,
             settled: made.settled,
         })
