@@ -5,6 +5,7 @@ use mathlib.Core.Path.{◌≡◌, sym, ap, ◌∙◌}
 use mathlib.Core.List.{List}
 use native.Mathlib.Decide.{dec_le}
 use native.Mathlib.Omega.{arith}
+use Rattle.std.proofs.Math.Nat.{le_trans}
 use lib.ListN.{length, get_or, get_or-eq_default}
 use Rattle.answers.specs.declared.Job.{Job}
 use Rattle.answers.specs.declared.State.{State}
@@ -73,7 +74,7 @@ module _ (j : Job) (bytes : List ℕ) (s : State) (table path : List ℕ) (room 
         here = p.0;
         benches = benched (floor_of j bytes) j.goals p.1 ((goals_judges j.goals).gives order);
         within = h.within;
-        short = sound-room j bytes s.current path s.length (omega (arith, h.short, wide)) h.sound p.0;
+        short = sound-room j bytes s.current path s.length (le_trans h.short wide) h.sound p.0;
         fair = h.sound.fair;
       }
 
