@@ -5,7 +5,7 @@ use Prim.Native.Nat.{ℕ, zero, suc, ◌+◌, ◌-◌, ◌*◌, ◌≤◌, ◌<�
 use native.Mathlib.Numerals.{add-one}
 use native.Mathlib.Omega.{arith}
 use lib.ListN.{length, take, get_or, length-append, length-map}
-use lib.Seq.{take-suc, take_all, take_at, drop_at, sets-eq, length-take-le}
+use lib.Seq.{take-suc, take_all, take_at, drop_at, length-take-le}
 use Rattle.std.proofs.lemmas.List.{map-append}
 use Rattle.answers.specs.declared.Refusal.{Refusal}
 use Rattle.std.specs.Prelude.{Ok, Err}
@@ -15,10 +15,9 @@ use Rattle.model.specs.FloorWritten.{letter_of, rows_of, size_line, text_of, tex
 use Rattle.model.specs.Writing.{Writes}
 use Rattle.model.proofs.FloorTexts.{text-gives}
 use Rattle.model.proofs.Writings.{writes_refused, writes_done}
-use Rattle.notation.specs.Printing.{Printed}
 use Rattle.notation.specs.Prints.{Prints, HasRoom}
 use Rattle.notation.specs.declared.print.Printer.{Printer}
-use Rattle.notation.proofs.Prints.{prints_then, room_left}
+use Rattle.notation.proofs.Prints.{prints_then, prints_whole, room_left}
 use Rattle.floor_text.specs.Heads.{head_of}
 
 -- letters of a row, put so far
@@ -122,9 +121,6 @@ module _ (f : Floor) (buffer : List ℕ) where
   pub write_done : text_verdict f (length buffer) ≡ Ok tt → {p m e : Printer} → Prints p (head_of f.width f.height) m → Prints m (rows_of f.width f.height f.bytes) e
       → p.out.now ≡ buffer → p.at ≡ 0 → {after : List ℕ} → after ≡ e.out.now → Writes (write_floor f buffer) (Ok e.at) after
   unfolding write_floor
-  write_done h {p} {e = e} P Q b z a =
-      let T : Printed p.out.now p.at (text_of f) e.out.now e.at = rw (head_then_rows f) at (prints_then P Q).printed in
-      let start : Printed buffer 0 (text_of f) e.out.now e.at = rw (b, z) at T in
-      let n : 0 + length (text_of f) ≡ length (text_of f) = omega arith in
-      let whole = rw n at (sets-eq (text_of f) buffer 0 (omega (arith, (text-gives f _ h).1))) in
-      writes_done (text_of f) buffer refl _ _ h (start.next ∙ n) (a ∙ start.written ∙ whole)
+  write_done h P Q b z a =
+      let whole = prints_whole (text_of f) (rw (head_then_rows f) at (prints_then P Q)) b z (text-gives f _ h).1 a in
+      writes_done (text_of f) buffer refl _ _ h whole.0 whole.1

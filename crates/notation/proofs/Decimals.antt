@@ -3,7 +3,7 @@
 use Prim.Native.Nat.{ℕ, zero, suc, ◌+◌, ◌*◌, ◌/◌, ◌%◌, ◌≤◌, ◌<◌}
 use mathlib.Core.Path.{◌≡◌, refl, sym, ap, ◌∙◌}
 use mathlib.Core.Bool.{Bool, true, false}
-use mathlib.Core.List.{List, [], ◌∷◌, ◌++◌}
+use mathlib.Core.List.{List, [], ◌∷◌, ◌++◌, append_assoc}
 use native.Mathlib.Nat.{add-suc, add-zero, suc-add}
 use native.Mathlib.Decide.{dec_le}
 use native.Mathlib.Omega.{arith}
@@ -14,7 +14,6 @@ use lib.Seq.{sets, sets-eq, take_at, drop-drop, length-take-le}
 use Rattle.model.specs.Line.{decimal_in, decimal, field}
 use Rattle.model.proofs.Digits.{one_digit, last_digit}
 use Rattle.notation.specs.Printing.{Printed}
-use Rattle.notation.proofs.Puts.{put-sets}
 
 unfoldable pub tens : ℕ → ℕ
 tens zero = 1
@@ -87,4 +86,4 @@ field_few n = omega (arith, digits_few n)
 
 -- bytes copied over a part of a list
 pub copied : (out s ys : List ℕ) (at k : ℕ) → ys ≡ s → k ≡ length s → at + length s ≤ length out → put_mid at k out ys ≡ sets out at s
-copied out s ys at k e f h = rw (e, f, drop-drop (length s) at out) (sym (put-sets at s out h))
+copied out s ys at k e f h = rw (e, f, drop-drop (length s) at out) (sym (sets-eq s out at h ∙ append_assoc (take at out) s (drop (at + length s) out)))

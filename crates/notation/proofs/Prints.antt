@@ -3,10 +3,11 @@ use Prim.Native.Nat.{ℕ, ◌+◌, ◌%◌, ◌/◌, ◌≤◌, ◌<◌}
 use mathlib.Core.Path.{◌≡◌, refl, sym, ap, ◌∙◌, subst}
 use mathlib.Core.List.{List, [], ◌∷◌, ◌++◌}
 use native.Mathlib.Omega.{arith}
-use lib.ListN.{length, length-append}
-use lib.Seq.{length-sets}
+use lib.ListN.{length, drop, length-append}
+use lib.Seq.{length-sets, sets-eq}
 use Rattle.model.specs.Line.{decimal}
 use Rattle.notation.specs.declared.print.Printer.{Printer}
+use Rattle.notation.specs.Printing.{Printed}
 use Rattle.notation.specs.Prints.{Prints, HasRoom}
 use Rattle.notation.proofs.Decimals.{printed_then, printed_none, digit_one, digit_last}
 
@@ -23,6 +24,14 @@ module _ {p m : Printer} {xs : List ℕ} (P : Prints p xs m) where
 
   pub room_left : (k n : ℕ) → HasRoom p k → length xs + n ≤ k → HasRoom m n
   room_left k n h l = omega (arith, h, l, same_length, P.printed.next)
+
+-- what is printed from the first byte of a list on stands at its front, and what is behind it stays
+pub prints_whole : {p e : Printer} (text : List ℕ) {list after : List ℕ} → Prints p text e → p.out.now ≡ list → p.at ≡ 0 → length text ≤ length list → after ≡ e.out.now
+    → (e.at ≡ length text) × (after ≡ text ++ drop (length text) list)
+prints_whole {p} {e} text {list} P b z h a =
+    let first : Printed list 0 text e.out.now e.at = rw (b, z) at P.printed in
+    let n : 0 + length text ≡ length text = omega arith in
+    (first.next ∙ n, a ∙ first.written ∙ (rw n at (sets-eq text list 0 (omega arith))))
 
 -- the digits of n but the last, of which a number of one digit has none
 pub record Front (n : ℕ) (p m : Printer) : Type 0 where

@@ -1,5 +1,5 @@
-// How numbers are held and written, whatever they count: the same number in more bits; `digits` reads them and `print` writes them in decimal, `bytes` does
-// both big-endian, and `lists` makes lists to hold them.
+// How numbers are held and written, whatever they count: the same number in more bits; `digits` reads them in decimal and `bytes` big-endian, `print` writes
+// them in both ways, and `lists` makes lists to hold them.
 
 #![tactic(auto)]
 

@@ -1,6 +1,7 @@
 // Numbers and words written into a lent list, one after another.
 ghost use Rattle.std.specs.Prelude.{◌≡◌, ◌+◌, ◌≤◌, length, [], ◌∷◌};
 ghost use Rattle.model.specs.Line.{decimal as decimal_of, field as field_of};
+ghost use Rattle.model.specs.TableFile.{half, word};
 ghost use Rattle.notation.specs.Prints.{Prints, HasRoom};
 
 // Bytes written into a lent list, one after another: those before `at` are written.
@@ -49,5 +50,21 @@ impl<'a> Printer<'a> {
     {
         self.byte(b' ');
         self.decimal(n);
+    }
+
+    // The number n in 2 bytes, big-endian, and in 4.
+    pub fn half(&mut self, n: usize)
+        requires { HasRoom self.old 2 }
+        ensures { Prints self.old (half n) self.new }
+    {
+        self.bytes(&[(n / 256 % 256) as u8, (n % 256) as u8]);
+    }
+
+    pub fn word(&mut self, n: usize)
+        requires { HasRoom self.old 4 }
+        ensures { Prints self.old (word n) self.new }
+    {
+        self.half(n / 65536);
+        self.half(n);
     }
 }
