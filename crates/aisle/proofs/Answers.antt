@@ -12,11 +12,10 @@ use Rattle.answers.specs.declared.Job.{Job}
 use Rattle.answers.specs.declared.Place.TheVariants as P
 use Rattle.answers.specs.declared.Refusal.{Refusal}
 use Rattle.answers.specs.declared.Settings.{Settings}
-use Rattle.answers.specs.declared.Sizes.{Sizes}
 use Rattle.answers.specs.Outcomes.{Verdict, FloorRead, read_sizes}
 use Rattle.std.specs.Prelude.{Ok, Err, IsErrAnd}
 use Rattle.std.proofs.lemmas.Result.{err_from_is_err_and}
-use Rattle.answers.proofs.One.{floor_one}
+use Rattle.answers.proofs.One.{floor_one, same_sizes}
 use Rattle.model.specs.Basics.{then}
 use Rattle.model.specs.Floor.{size, one_goal, opening, opening_table}
 use Rattle.model.specs.Checks.{floor_of, goals, sizes, settings, scale, benches, places, goals_hold}
@@ -142,9 +141,6 @@ pub record Read (text : List ℕ) (w h : ℕ) (bytes : List ℕ) : Type 0 where
   pub few : w * h ≤ 4096
   pub cells : bytes ≡ cells_of (width_in text) (height_in text) (rows_in text)
   pub long : length bytes ≡ w * h
-
-same_sizes : {s t : Sizes} → ◌≡◌ {A = FloorRead} (Ok s) (Ok t) → s ≡ t
-same_sizes e = cc
 
 module _ (text buffer after : List ℕ) (r : FloorRead) (room : length buffer ≡ 4096) (h : Reads (read_floor text buffer) r after) where
   answer_is : r ≡ (floor_from (floor_verdict text 4096) text buffer).answer
