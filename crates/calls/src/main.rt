@@ -53,8 +53,16 @@ fn answer(input: &[u8], out: &mut Printer) -> Option<()>
         9 => files::check_trailer(&mut reader, out),
         10 => jobs::fill_opening(&mut reader, out),
         11 => texts::write_floor(&mut reader, out),
-        12 => rewrites::rewrite(learner::renew_file, &mut reader, out),
-        16 => rewrites::rewrite(learner::with_depth, &mut reader, out),
+        12 => rewrites::rewrite(
+            |old, buffer| learner::renew_file(old, buffer),
+            &mut reader,
+            out,
+        ),
+        16 => rewrites::rewrite(
+            |old, buffer| learner::with_depth(old, buffer),
+            &mut reader,
+            out,
+        ),
         _ => None,
     }
 }
