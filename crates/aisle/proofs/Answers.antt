@@ -13,8 +13,9 @@ use Rattle.answers.specs.declared.Place.TheVariants as P
 use Rattle.answers.specs.declared.Refusal.{Refusal}
 use Rattle.answers.specs.declared.Settings.{Settings}
 use Rattle.answers.specs.Outcomes.{Verdict, FloorRead, read_sizes}
-use Rattle.std.specs.Prelude.{Ok, Err}
-use Rattle.answers.proofs.One.{floor_one}
+use Rattle.std.specs.Prelude.{Ok, Err, IsErrAnd}
+use Rattle.std.proofs.lemmas.Result.{err_from_is_err_and}
+use Rattle.answers.proofs.One.{floor_one, same_sizes}
 use Rattle.model.specs.Basics.{then}
 use Rattle.model.specs.Floor.{size, one_goal, opening, opening_table}
 use Rattle.model.specs.Checks.{floor_of, goals, sizes, settings, scale, benches, places, goals_hold}
@@ -30,21 +31,19 @@ use Rattle.model.proofs.FloorRoundTrip.{read-sized}
 use Rattle.model.proofs.Cut.{malformed_is, asked_is, aisle-cut}
 use Rattle.floor_text.specs.Reads.{Reads}
 use Rattle.opening.specs.Promise.{Fills, line_holds}
-use Rattle.line.specs.declared.Line.{Line}
-use Rattle.line.specs.declared.Line.TheVariants as Ln
-use Rattle.line.specs.Reading as reading
-use Rattle.line.specs.Printing.{Printed}
+use Rattle.notation.specs.declared.print.Printer.{Printer}
+use Rattle.notation.specs.Prints.{Prints}
 use Rattle.line.proofs.Decimals.{refusal_few}
-use Rattle.journey.specs.Telling.{Ended}
+use Rattle.journey.specs.Telling.{Room, Ended}
 use Rattle.journey.proofs.Telling.{ended}
-use Rattle.aisle.specs.Answers.{told_of, opened_lines, Readied, Answered}
+use Rattle.aisle.specs.Answers.{told_of, opened_lines, Readied, Says, Answered}
 
 -- ---- a refusal
 
-pub refused : {out out' : List ℕ} {n : ℕ} (r : Refusal) → Printed out 0 (refusal_line r) out' n → length out ≡ 65536 → Ended out 0 (refusal_line r) out' n
-refused r p size = ended p size (omega (arith, p.next, refusal_few r))
+pub refused : (r : Refusal) {p p' : Printer} {text : List ℕ} → Room p → text ≡ refusal_line r → Prints p (refusal_line r) p' → Ended p text p'
+refused r h e P = rw e (ended P h.size (omega (arith, h.left, P.printed.next, refusal_few r)))
 
-told_as : {out out' text text' : List ℕ} {n : ℕ} → text ≡ text' → Ended out 0 text out' n → Ended out 0 text' out' n
+told_as : {p p' : Printer} {text text' : List ℕ} → text ≡ text' → Ended p text p' → Ended p text' p'
 told_as e h = rw e at h
 
 -- ---- a job on a floor that is read
@@ -90,8 +89,8 @@ module _ (j : Job) (bytes : List ℕ) (start trials : ℕ) (path : List ℕ) (R 
       ∙ sym job_is
 
   module _ {lent after : List ℕ} {v : Verdict} (F : Fills (floor_of j bytes) j.q j.goals lent v after) (n : length lent ≡ size (floor_of j bytes)) where
-    pub fill-refused : {out out' : List ℕ} {at : ℕ} {f : Refusal} → v ≡ Err f → Ended out 0 (refusal_line f) out' at → Ended out 0 (opened_lines j bytes start trials path) out' at
-    fill-refused e h = told_as (ap (λ u. told_of u j bytes start trials (opening_table (floor_of j bytes) j.q (goals j)) path) (sym (fill-refuses n (sym F.answer.is ∙ e)))) h
+    pub fill-refused : {f : Refusal} → v ≡ Err f → opened_lines j bytes start trials path ≡ refusal_line f
+    fill-refused e = ap (λ u. told_of u j bytes start trials (opening_table (floor_of j bytes) j.q (goals j)) path) (fill-refuses n (sym F.answer.is ∙ e))
 
     -- the table is the opening one
     pub fill_is : v ≡ Ok tt → after ≡ opening_table (floor_of j bytes) j.q (goals j)
@@ -101,10 +100,10 @@ module _ (j : Job) (bytes : List ℕ) (start trials : ℕ) (path : List ℕ) (R 
       judged : open_job j bytes start (opening_table (floor_of j bytes) j.q (goals j)) ≡ w
       judged = sym (trial_is places) ∙ ap (λ t. open_trial j bytes start t path) (sym (fill_is done)) ∙ sym O
 
-      pub open-refused : {out out' : List ℕ} {at : ℕ} {f : Refusal} → w ≡ Err f → Ended out 0 (refusal_line f) out' at → Ended out 0 (opened_lines j bytes start trials path) out' at
-      open-refused e h = told_as (ap (λ u. told_of u j bytes start trials (opening_table (floor_of j bytes) j.q (goals j)) path) (sym (judged ∙ e))) h
+      pub open-refused : {f : Refusal} → w ≡ Err f → opened_lines j bytes start trials path ≡ refusal_line f
+      open-refused e = ap (λ u. told_of u j bytes start trials (opening_table (floor_of j bytes) j.q (goals j)) path) (judged ∙ e)
 
-      pub open_told : {out out' : List ℕ} {at : ℕ} → w ≡ Ok tt → Ended out 0 (told_of (Ok tt) j bytes start trials after path) out' at → Ended out 0 (opened_lines j bytes start trials path) out' at
+      pub open_told : {p p' : Printer} → w ≡ Ok tt → Ended p (told_of (Ok tt) j bytes start trials after path) p' → Ended p (opened_lines j bytes start trials path) p'
       open_told e h =
           told_as (ap (λ t. told_of (Ok tt) j bytes start trials t path) (fill_is done) ∙ ap (λ u. told_of u j bytes start trials (opening_table (floor_of j bytes) j.q (goals j)) path)
           (sym (judged ∙ e))) h
@@ -124,10 +123,9 @@ taken_zeros (suc n) (suc m) h = ap (λ l. 0 ∷ l) (taken_zeros n m (omega arith
 pub long-part : (n : ℕ) → n ≤ 4096 → length {A = ℕ} (take n (replicate 4096 0)) ≡ n
 long-part n h = length-take-le n (replicate 4096 0) (omega (arith, length-replicate {A = ℕ} 4096 0))
 
-pub part-told : (s : Settings) (w h : ℕ) (bytes : List ℕ) {out out' : List ℕ} {at : ℕ} → w * h ≤ 4096
-    → Ended out 0 (opened_lines (job_in s w h) bytes s.start s.trials (take (w * h) (replicate 4096 0))) out' at
-    → Ended out 0 (opened_lines (job_in s w h) bytes s.start s.trials (replicate (w * h) 0)) out' at
-part-told s w h bytes few t = told_as (ap (λ p. opened_lines (job_in s w h) bytes s.start s.trials p) (taken_zeros (w * h) 4096 few)) t
+pub part-is : (j : Job) (bytes : List ℕ) (start trials n : ℕ) → n ≤ 4096
+    → opened_lines j bytes start trials (take n (replicate 4096 0)) ≡ opened_lines j bytes start trials (replicate n 0)
+part-is j bytes start trials n few = ap (λ p. opened_lines j bytes start trials p) (taken_zeros n 4096 few)
 
 -- ---- the floor text
 
@@ -168,9 +166,9 @@ module _ (text buffer after : List ℕ) (r : FloorRead) (room : length buffer �
           let d : read_sizes w k ≡ Err g = sym e ∙ answer_is ∙ ap (λ v. (floor_from v text buffer).answer) z in
           let y : ◌≡◌ {A = ℕ} 0 1 = cc in absurd (omega arith)
       by (Ok _) z =
-          let d : read_sizes w k ≡ read_sizes (width_in text) (height_in text) = sym e ∙ answer_is ∙ ap (λ v. (floor_from v text buffer).answer) z in
-          let eq-w : w ≡ width_in text = cc in
-          let eq-h : k ≡ height_in text = cc in
+          let d = same_sizes (sym e ∙ answer_is ∙ ap (λ v. (floor_from v text buffer).answer) z) in
+          let eq-w : w ≡ width_in text = ap (λ s. s.width) d in
+          let eq-h : k ≡ height_in text = ap (λ s. s.height) d in
           let sized = read-sized text 4096 z in
           let room-there : width_in text * height_in text ≤ 4096 = cells-le (width_in text) (height_in text) sized.narrow sized.low in
           let same : w * k ≡ width_in text * height_in text = λ i. eq-w i * eq-h i in
@@ -208,8 +206,8 @@ module _ (s : Settings) (text : List ℕ) where
       by (Err g) z k = then_refused _ (sym (settings_same s (width_in text) (height_in text)) ∙ z) ∙ k
       by (Ok _) z k = then_next _ (sym (settings_same s (width_in text) (height_in text)) ∙ z) ∙ then_refused _ k
 
-  pub line-told : {out out' : List ℕ} {at : ℕ} (f : Refusal) → line_holds s ≡ Err f → Ended out 0 (refusal_line f) out' at → Ended out 0 (printed (judge_aisle s text) s text) out' at
-  line-told f e h = told_as (ap (λ u. printed u s text) (sym (line_refused f e))) h
+  pub line-told : (f : Refusal) → line_holds s ≡ Err f → printed (judge_aisle s text) s text ≡ refusal_line f
+  line-told f e = ap (λ u. printed u s text) (line_refused f e)
 
   module _ (holds : line_holds s ≡ Ok tt) where
     parts : (settings (job_in s (width_in text) (height_in text)) ≡ Ok tt) × (trials_hold s.trials ≡ Ok tt)
@@ -220,8 +218,8 @@ module _ (s : Settings) (text : List ℕ) where
     unfolding judge_aisle
     text_next = then_next _ parts.0 ∙ then_next _ parts.1
 
-    pub text-told : {out out' : List ℕ} {at : ℕ} (f : Refusal) → floor_verdict text 4096 ≡ Err f → Ended out 0 (refusal_line f) out' at → Ended out 0 (printed (judge_aisle s text) s text) out' at
-    text-told f e h = told_as (ap (λ u. printed u s text) (sym (text_next ∙ then_refused _ e))) h
+    pub text-told : (f : Refusal) → floor_verdict text 4096 ≡ Err f → printed (judge_aisle s text) s text ≡ refusal_line f
+    text-told f e = ap (λ u. printed u s text) (text_next ∙ then_refused _ e)
 
     module _ {w k : ℕ} {bytes : List ℕ} (R : Read text w k bytes) where
       pub readied : Readied (job_in s w k) bytes s.trials
@@ -242,38 +240,33 @@ module _ (s : Settings) (text : List ℕ) where
       printed_by (Ok _) = refl
       printed_by (Err f) = refl
 
-      pub floor-told : {out out' : List ℕ} {at : ℕ} → Ended out 0 (opened_lines (job_in s w k) bytes s.start s.trials (replicate (w * k) 0)) out' at
-          → Ended out 0 (printed (judge_aisle s text) s text) out' at
-      floor-told h =
-          told_as ((λ i. opened_lines (job_in s (R.width i) (R.height i)) (R.cells i) s.start s.trials (replicate (R.width i * R.height i) 0))
+      pub floor-told : opened_lines (job_in s w k) bytes s.start s.trials (replicate (w * k) 0) ≡ printed (judge_aisle s text) s text
+      floor-told =
+          (λ i. opened_lines (job_in s (R.width i) (R.height i)) (R.cells i) s.start s.trials (replicate (R.width i * R.height i) 0))
           ∙ sym (printed_by (open_job (job_in s (width_in text) (height_in text)) (cells_of (width_in text) (height_in text) (rows_in text)) s.start
           (opening_table (floor_of (job_in s (width_in text) (height_in text)) (cells_of (width_in text) (height_in text) (rows_in text))) s.q (goals (job_in s (width_in text) (height_in text))))))
-          ∙ ap (λ u. printed u s text) (sym (text_next ∙ then_next _ R.done))) h
+          ∙ ap (λ u. printed u s text) (sym (text_next ∙ then_next _ R.done))
+
+-- ---- the input
 
 -- the bytes that are read decide
-answered : {read out out' : List ℕ} {n : ℕ} → Ended out 0 (aisle read) out' n → Answered read out out' n
+pub answered : {read : List ℕ} {p p' : Printer} → Ended p (aisle read) p' → Answered read p p'
 answered h = record { read = h; whole = λ input e. told_as (ap aisle (sym e) ∙ aisle-cut 8192 input (omega arith)) h }
 
--- the input's line
-pub line_none : {input : List ℕ} {l : Line} → reading.Reads input l → l ≡ Ln.Malformed → none ≡ read_line input
-line_none r e = ap reading.asked (sym e) ∙ r.settings
+pub malformed : (input : List ℕ) → read_line input ≡ none → aisle input ≡ refusal_line (record { number = 3; place = P.Nowhere })
+malformed input e = malformed_is input e
 
-pub line_some : {input : List ℕ} {l : Line} {s : Settings} {t : ℕ} → reading.Reads input l → l ≡ Ln.Asked s t → some s ≡ read_line input
-line_some r e = ap reading.asked (sym e) ∙ r.settings
+pub asks : (input : List ℕ) (s : Settings) (text : List ℕ) → read_line input ≡ some s → text ≡ after_line input → aisle input ≡ printed (judge_aisle s text) s text
+asks input s text e f = asked_is input s e ∙ ap (λ t. printed (judge_aisle s t) s t) (sym f)
 
-pub line-text : {input : List ℕ} {l : Line} {s : Settings} {t : ℕ} → reading.Reads input l → l ≡ Ln.Asked s t → (drop t input ≡ after_line input) × (t ≤ length input)
-line-text {input} {l} {s} {t} r e =
-    let k : reading.text_of l ≡ t = ap reading.text_of e in
-    let h = r.text s (ap reading.asked e) in
-    (ap (λ (n : ℕ). drop n input) (sym k) ∙ h.0, omega (arith, h.1))
+-- what is said of a text is said of the text that it is
+pub says_as : {text text' : List ℕ} (r : Verdict) (p p' : Printer) → text ≡ text' → Says text r p p' → Says text' r p p'
+says_as (Ok _) p p' e h = told_as e h
+says_as (Err f) p p' e h = (sym e ∙ h.0, h.1)
 
-pub line-rest : {input : List ℕ} {l : Line} {s : Settings} {t : ℕ} → reading.Reads input l → l ≡ Ln.Asked s t → take (length input - t) (drop t input) ≡ after_line input
-line-rest {input} {l} {s} {t} r e = rest t input ∙ (line-text r e).0
-
-module _ (input : List ℕ) where
-  pub malformed : {out out' : List ℕ} {at : ℕ} → none ≡ read_line input → Ended out 0 (refusal_line (record { number = 3; place = P.Nowhere })) out' at → Answered input out out' at
-  malformed e h = answered (told_as (sym (malformed_is input (sym e))) h)
-
-  pub asked-told : {out out' : List ℕ} {at : ℕ} (text : List ℕ) (s : Settings) → some s ≡ read_line input → text ≡ after_line input
-      → Ended out 0 (printed (judge_aisle s text) s text) out' at → Answered input out out' at
-  asked-told text s e f h = answered (told_as (ap (λ t. printed (judge_aisle s t) s t) f ∙ sym (asked_is input s (sym e))) h)
+-- the exit of a `?`: nothing is told yet
+pub says_exit : {text : List ℕ} (r : Verdict) (f : Refusal) (p : Printer) → IsErrAnd r (λ q. q ≡ f) → text ≡ refusal_line f → Says text r p p
+says_exit {text} r f p h e =
+    let (q, is, same) = err_from_is_err_and r h in
+    let told : Says text (Err q) p p = (e ∙ ap refusal_line (sym same), refl) in
+    rw is told

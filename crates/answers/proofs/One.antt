@@ -7,6 +7,7 @@ use lib.ListN.{get_or}
 use Rattle.answers.specs.declared.Refusal.{Refusal}
 use Rattle.answers.specs.declared.Answer.{Answer}
 use Rattle.answers.specs.declared.Answer.TheVariants as A
+use Rattle.answers.specs.declared.Sizes.{Sizes}
 use Rattle.answers.specs.Outcomes.{Verdict, Tried, Ran, FloorRead, Written, made_run, read_sizes}
 use Rattle.std.specs.Prelude.{Ok, Err}
 use Rattle.answers.specs.Says.{Said, says_answer, says_verdict, says_tried, says_ran, says_floor_read, says_written, flag}
@@ -108,3 +109,7 @@ written_back (Err r) = refl
 
 pub written_one : (a b : Written) → says_written a ≡ says_written b → a ≡ b
 written_one = one says_written (λ s. written_as s.kind s) written_back
+
+-- and sizes that are read are the same where the answers are
+pub same_sizes : {s t : Sizes} → ◌≡◌ {A = FloorRead} (Ok s) (Ok t) → s ≡ t
+same_sizes e = cc

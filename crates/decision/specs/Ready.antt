@@ -11,6 +11,7 @@ use Rattle.model.specs.Checks.{ceiling, floor_of, goals, Benched}
 use Rattle.model.specs.Decision.{Deed, Outcome, judge}
 use Rattle.model.proofs.Accepted.{Settings}
 use Rattle.model.proofs.Held.{Fair}
+use Rattle.lookahead.specs.declared.Scratch.{Scratch}
 use Rattle.lookahead.specs.Contract.{Used}
 use Rattle.decision.specs.declared.Acted.{Acted}
 use Rattle.decision.specs.Laying.{way_of, counts, Shown}
@@ -50,11 +51,11 @@ pub record Acts (j : Job) (bytes : List ℕ) (s : State) (d : Deed) (r : Acted) 
   pub table : table' ≡ d.table
   pub path : path' ≡ d.path
 
--- The scratch lists after a decision serve the next one, and first to lay the moves of this one.
-pub record Serves (j : Job) (bytes : List ℕ) (s : State) (r : Acted) (mark cost list place path : List ℕ) : Type 0 where
-  pub used : Used r.base mark cost list
+-- The scratch after a decision serves the next one, and first to lay the moves of this one.
+pub record Serves (j : Job) (bytes : List ℕ) (s : State) (r : Acted) (scratch : Scratch) (place path : List ℕ) : Type 0 where
+  pub used : Used r.base scratch
   pub places : Places place path r.state.length
-  pub shown : Shown j bytes s.current r.answer r.base mark cost
+  pub shown : Shown j bytes s.current r.answer r.base scratch
 
 -- The public decision's answer and lists are those of the model's outcome.
 pub record Decides (o : Outcome) (r : Decided) (table' path' moves' : List ℕ) : Type 0 where

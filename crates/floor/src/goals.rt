@@ -1,9 +1,10 @@
 // The goals of a job: how many there are and which, whether a cell is one, and the opening figure of a cell, the least over them.
-ghost use Rattle.std.specs.Prelude.{◌≡◌, ◌<◌, ◌≤◌, length, get_or};
+ghost use Rattle.std.specs.Prelude.{◌≡◌, List, ℕ, ◌<◌, ◌≤◌, ◌*◌, length, get_or};
 ghost use Rattle.model.specs.Basics.{member};
 ghost use Rattle.model.specs.Checks.{finest, Benched};
 ghost use Rattle.model.specs.Floor.{size, octile, goals_of, one_goal};
 ghost use Rattle.model.specs.Floor as model;
+ghost use Rattle.floor.specs.Moves.{flat};
 
 use super::{DIAGONAL, Floor, STRAIGHT};
 use answers::Goals;
@@ -61,30 +62,45 @@ pub fn is_goal(goals: Goals, cell: usize) -> bool
     false
 }
 
-impl Floor<'_> {
-    // The figure of a cell to one goal, which does not depend on the floor's bytes.
-    fn octile(&self, goal: usize, q: usize, cell: usize) -> usize
-        requires fine { q ≤ finest }
-        requires cells { (cell < size self.now) × (goal < size self.now) }
-        ensures { result ≡ octile self.now q goal cell }
-    {
-        let dx = (cell % self.width).abs_diff(goal % self.width);
-        let dy = (cell / self.width).abs_diff(goal / self.width);
-        q * (DIAGONALS * dx.min(dy) + STRAIGHTS * dx.abs_diff(dy))
-    }
+// The figure of a cell to one goal, which does not depend on the floor's bytes.
+fn octile(width: usize, height: usize, goal: usize, q: usize, cell: usize) -> usize
+    requires wide { 1 ≤ width }
+    requires narrow { width ≤ 64 }
+    requires low { height ≤ 64 }
+    requires fine { q ≤ finest }
+    requires cells { (cell < width * height) × (goal < width * height) }
+    ensures { (bytes : List ℕ) → result ≡ octile (flat width height bytes) q goal cell }
+{
+    let dx = (cell % width).abs_diff(goal % width);
+    let dy = (cell / width).abs_diff(goal / width);
+    q * (DIAGONALS * dx.min(dy) + STRAIGHTS * dx.abs_diff(dy))
+}
 
-    // The opening figure of a cell, goal by goal. (The loop goes up to a number that is known to be small, and so is laid out without one.)
+// The opening figure of a cell, goal by goal. (The loop goes up to a number that is known to be small, and so is laid out without one.)
+pub fn opening(width: usize, height: usize, goals: Goals, q: usize, cell: usize) -> usize
+    requires wide { 1 ≤ width }
+    requires narrow { width ≤ 64 }
+    requires low { height ≤ 64 }
+    requires fine { q ≤ finest }
+    requires cells { (cell < width * height) × Benched (width * height) (goals_of goals) }
+    ensures { (bytes : List ℕ) → result ≡ model.opening (flat width height bytes) q (goals_of goals) cell }
+{
+    let mut least = octile(width, height, goal_at(goals, 0), q, cell);
+    for i in 1..goals_in(goals) {
+        let figure = octile(width, height, goal_at(goals, i), q, cell);
+        least = least.min(figure);
+    }
+    least
+}
+
+impl Floor<'_> {
+    // The opening figure of a cell of this floor.
     pub fn opening(&self, goals: Goals, q: usize, cell: usize) -> usize
         requires fine { q ≤ finest }
         requires cell { cell < size self.now }
         requires benched { Benched (size self.now) (goals_of goals) }
         ensures { result ≡ model.opening self.now q (goals_of goals) cell }
     {
-        let mut least = self.octile(goal_at(goals, 0), q, cell);
-        for i in 1..goals_in(goals) {
-            let figure = self.octile(goal_at(goals, i), q, cell);
-            least = least.min(figure);
-        }
-        least
+        opening(self.width, self.height, goals, q, cell)
     }
 }

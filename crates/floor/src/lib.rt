@@ -11,7 +11,7 @@ ghost use Rattle.model.specs.Floor as model;
 ghost use Rattle.model.proofs.Moves.{toll};
 ghost use Rattle.floor.specs.Moves.{all_kinds, kinds, cost, can_cost, north_byte, west_byte, east_byte, south_byte, Placed, RowClear, ColumnClear, Unless, ahead_byte, step_of};
 
-pub use goals::{MOST_GOALS, goal_at, goals_in, is_goal, one_goal};
+pub use goals::{MOST_GOALS, goal_at, goals_in, is_goal, one_goal, opening};
 use std::marker::Model;
 
 // A floor of 1 to 64 cells each way, whose bytes are lent: one a cell, row by row from the top left.

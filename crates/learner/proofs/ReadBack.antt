@@ -11,7 +11,7 @@ use lib.Seq.{take_at}
 use Rattle.answers.specs.Outcomes.{FloorRead, Verdict, Written, read_sizes}
 use Rattle.std.specs.Prelude.{Ok, Err}
 use Rattle.answers.specs.declared.Goals.{Goals}
-use Rattle.answers.proofs.One.{verdict_one, floor_one, written_one}
+use Rattle.answers.proofs.One.{verdict_one, floor_one, written_one, same_sizes}
 use Rattle.model.specs.Basics.{every}
 use Rattle.model.specs.Floor.{Floor, size, goals_of}
 use Rattle.model.specs.TableFile.{second_long, edition_in, count_in, find_records, read_verdict, read_table, write_verdict, file_of, write_table}
@@ -89,9 +89,9 @@ floor_writes_again bytes lent {width} {height} {c} h alone buffer room {r} {b} w
     by : (u : Verdict) → floor_verdict bytes (length lent) ≡ u → text.Reads (floor_from u bytes lent) (read_sizes width height) c → (r ≡ Ok (length bytes)) × (take (length bytes) b ≡ bytes)
     by (Err x) e k = absurd (omega (arith, ap (λ s. s.kind) k.answer))
     by (Ok _) e k =
-        let same = floor_one (read_sizes width height) (read_sizes (width_in bytes) (height_in bytes)) k.answer in
-        let wide : width ≡ width_in bytes = cc in
-        let high : height ≡ height_in bytes = cc in
+        let same = same_sizes (floor_one (read_sizes width height) (read_sizes (width_in bytes) (height_in bytes)) k.answer) in
+        let wide : width ≡ width_in bytes = ap (λ s. s.width) same in
+        let high : height ≡ height_in bytes = ap (λ s. s.height) same in
         let sized = read-sized bytes (length lent) e in
         let cells : take (width * height) c ≡ cells_of (width_in bytes) (height_in bytes) (rows_in bytes) =
         ap₂ take (ap₂ (λ (x y : ℕ). x * y) wide high) k.buffer ∙ take_at (floor_in bytes).bytes (drop (width_in bytes * height_in bytes) lent) (width_in bytes * height_in bytes) sized.cells in

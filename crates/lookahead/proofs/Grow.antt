@@ -22,7 +22,7 @@ use Rattle.floor.specs.declared.Spot.{Spot}
 use Rattle.floor.specs.declared.Step.{Step}
 use Rattle.floor.specs.Moves.{to, step_of}
 use Rattle.floor.proofs.Steps.{Stepped, stepped, wall≢to, same_to}
-use Rattle.lookahead.specs.Marks.{net, State, state, entered, mark_of, cost_at, cell_of, note_at, In, Sizes, Room, Spread, Kept, Grew, Reached, Leaving, Extended, Left, Open, Segment, Swept, Out}
+use Rattle.lookahead.specs.Marks.{net, Finely, State, state, entered, mark_of, cost_at, cell_of, note_at, In, Sizes, Room, Spread, Kept, Grew, Reached, Leaving, Extended, Left, Open, Segment, Swept, Out}
 use Rattle.lookahead.proofs.Blanks.{blanks-pos, blanks-set}
 use Rattle.lookahead.proofs.Stores.{by_store}
 
@@ -32,8 +32,8 @@ pub record Moved (f : Floor) (x m d v : ℕ) : Type 0 where
   pub at : Stepped f x m d v
 
 -- as the code is told it
-pub moved : {f : Floor} {x m d v : ℕ} {told : Step} → Sized f → told ≡ step_of f x m → told ≡ to d v → Moved f x m d v
-moved {f} {x} {m} {d} {v} z e t = record { step = sym e ∙ t; at = stepped f z x m d v (sym e ∙ t) }
+pub moved : {f : Floor} {x m : ℕ} {s : Step} → Sized f → (F : Finely f x m s) → Moved f x m s.cell F.price
+moved {f} {x} {m} {s} z F = record { step = F.step; at = stepped f z x m s.cell F.price F.step }
 
 -- the move back, its price, and as a fine one
 pub price-back : {f : Floor} {c m d v : ℕ} → Moved f c m d v → (1 ≤ v) × (price f d c ≡ v)
@@ -172,7 +172,7 @@ module _
           by (no p) = let q : i ≡ S.n = omega arith in inl (rw q (entered-blank S.list S.n d R.sizes.cells space))
 
       grown-room : Room f base (grown k d u S)
-      grown-room = record { sizes = grown-sizes; free = grown-free; cheap = grown-cheap; notes = grown-notes }
+      grown-room = record { sized = R.sized; sizes = grown-sizes; free = grown-free; cheap = grown-cheap; notes = grown-notes }
 
       -- for each s and each start of the ring
       module _ (s to : ℕ) (G : Spread f s base (k + 1) to S) where
@@ -238,6 +238,7 @@ module _
 
       lower-room : Room f base L
       lower-room = record {
+        sized = R.sized;
         sizes = record { marks = R.sizes.marks; costs = simp length-set R.sizes.costs; cells = R.sizes.cells; count = R.sizes.count };
         free = R.free;
         cheap = λ x p. omega (arith, falls x, R.cheap x p);
@@ -292,9 +293,8 @@ module _
       extended_to = by_mark (dec_le base (mark_of S d))
 
 -- no cell is moved into
-pub extended_wall : {f : Floor} {base k c m w : ℕ} {S : State} {told : Step} → Room f base S → cost_at S c ≡ w → told ≡ step_of f c m → told ≡ None
-    → Extended f base k c m w S S
-extended_wall R own e t = record { grew = grew_refl R; out = λ d v q. absurd (wall≢to d v (sym t ∙ e ∙ q)); stays = own }
+pub extended_wall : {f : Floor} {base k c m w : ℕ} {S : State} → Room f base S → cost_at S c ≡ w → step_of f c m ≡ None → Extended f base k c m w S S
+extended_wall R own e = record { grew = grew_refl R; out = λ d v q. absurd (wall≢to d v (sym e ∙ q)); stays = own }
 
 -- no move yet, and one move more
 pub left_none : {f : Floor} {base k c w : ℕ} {S : State} → Room f base S → cost_at S c ≡ w → Left f base k c 0 w S S
@@ -332,6 +332,7 @@ module _ {f : Floor} {base k c w : ℕ} (i : ℕ) {A B : State} (L : Left f base
   noted-grew : Grew f base k B N
   noted-grew = record {
     room = record {
+      sized = R.sized;
       sizes = record { marks = R.sizes.marks; costs = R.sizes.costs; cells = simp length-set R.sizes.cells; count = R.sizes.count };
       free = R.free;
       cheap = R.cheap;

@@ -1,7 +1,7 @@
 -- The fine costs in a window: lowered along its moves until none can be lowered.
 use Rattle.std.specs.Prelude.{◌≡◌, List, [], ◌∷◌, ◌⊎◌, Bool, true, false, ℕ, ◌+◌, ◌*◌, ◌≤◌, ◌<◌, length, get_or, set}
 use Rattle.learning.specs.Walk.{Least, Leads}
-use Rattle.model.specs.Floor.{Floor, free, dearest_price}
+use Rattle.model.specs.Floor.{Floor, Sized, free, dearest_price}
 use Rattle.model.specs.Checks.{deepest}
 use Rattle.model.specs.Lookahead.{fine}
 use Rattle.floor.specs.declared.Spot.{Spot}
@@ -20,8 +20,9 @@ at cost x = get_or cost x 0
 abbrev pub dearest_fine : ℕ
 dearest_fine = fine dearest_price * deepest
 
--- the window's cells are free, and their costs small
+-- the window's cells are free cells of a floor, and their costs small
 pub record Costs (f : Floor) (base : ℕ) (mark cost : List ℕ) : Type 0 where
+  pub sized : Sized f
   pub marks : length mark ≡ 4096
   pub costs : length cost ≡ 4096
   pub free : (x : ℕ) → In base mark x → free f x ≡ true

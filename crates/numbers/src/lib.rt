@@ -92,6 +92,22 @@ impl Entry for u64 {
     }
 }
 
+impl Entry for usize {
+    ghost number = { λ x. x };
+
+    ghost MOST = { 4294967295 };
+
+    const MOST: usize = GREATEST;
+
+    fn from_number(n: usize) -> usize {
+        n
+    }
+
+    fn number(self) -> usize {
+        self
+    }
+}
+
 // An input, read up to a place.
 #[derive(Clone, Copy)]
 pub struct Reader<'a> {

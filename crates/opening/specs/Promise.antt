@@ -1,9 +1,8 @@
 -- What the public calls promise: the model's answer, so its number and place, and one value for every lent list.
-use Rattle.std.specs.Prelude.{ℕ, ◌≡◌, List, length, Result, Ok, Err}
+use Rattle.std.specs.Prelude.{ℕ, ◌≡◌, List, length}
 use Rattle.answers.specs.Says.{says_verdict}
 use Rattle.answers.specs.declared.Goals.{Goals}
 use Rattle.answers.specs.declared.Job.{Job}
-use Rattle.answers.specs.declared.Refusal.{Refusal}
 use Rattle.answers.specs.declared.Settings.{Settings}
 use Rattle.answers.specs.Outcomes.{Verdict}
 use Rattle.model.specs.Basics.{then}
@@ -15,11 +14,6 @@ use Rattle.model.specs.Line.{job_in}
 pub record Answers (r v : Verdict) : Type 0 where
   pub is : r ≡ v
   pub says : says_verdict r ≡ says_verdict v
-
--- an opening that answers the floor f itself where the model's verdict v lets it through, and else the refusal
-abbrev pub Opens : Floor → Verdict → Result Floor Refusal → Type 0
-Opens f v (Ok g) = (g ≡ f) × (v ≡ Ok tt)
-Opens f v (Err r) = v ≡ Err r
 
 -- filling a table with opening figures
 pub record Fills (f : Floor) (q : ℕ) (g : Goals) (table : List ℕ) (r : Verdict) (after : List ℕ) : Type 0 where

@@ -4,7 +4,7 @@
 
 mod search;
 
-ghost use Rattle.std.specs.Prelude.{◌≡◌, List, ℕ, ◌≤◌, ◌<◌, length, get_or};
+ghost use Rattle.std.specs.Prelude.{◌≡◌, List, ℕ, ◌*◌, ◌≤◌, ◌<◌, length, get_or};
 ghost use Rattle.model.specs.Basics.{naming};
 ghost use Rattle.model.specs.Floor.{size, opening_table, goals_of};
 ghost use Rattle.model.specs.Checks.{finest, floor_of, Benched};
@@ -12,7 +12,8 @@ ghost use Rattle.model.specs.Opening.{soundness, accepts, open_job, open_trial, 
 ghost use Rattle.model.specs.Line.{job_in};
 ghost use Rattle.floor.specs.Moves.{flat};
 ghost use Rattle.opening.specs.Distances.{above, judged, Openable};
-ghost use Rattle.opening.specs.Promise.{Answers, Opens, Fills, run_settings, line_holds};
+ghost use Rattle.floor.specs.Let.{LetsThrough};
+ghost use Rattle.opening.specs.Promise.{Answers, Fills, run_settings, line_holds};
 
 use answers::{Goals, Job, Place, Refusal, Settings};
 use floor::Floor;
@@ -176,7 +177,7 @@ pub fn open_table<'a>(
     floor: &'a [u8],
     figures: usize,
 ) -> Result<Floor<'a>, Refusal>
-    ensures { Opens (flat width height floor.now) (open_table (flat width height floor.now) q goals figures) result }
+    ensures { LetsThrough (flat width height floor.now) (open_table (flat width height floor.now) q goals figures) result }
 {
     let floor = checks::sizes(width, height, floor, figures)?;
     checks::scale(q)?;
@@ -186,14 +187,12 @@ pub fn open_table<'a>(
 }
 
 // Fills a table with opening figures.
-pub fn fill_figures(floor: &Floor, goals: Goals, q: usize, table: &mut [u32])
-    requires fine { q ≤ finest }
-    requires benched { Benched (size floor.now) (goals_of goals) }
-    requires long { length table.old ≡ size floor.now }
-    ensures { table.new ≡ opening_table floor.now q (goals_of goals) }
+pub fn fill_figures(width: usize, height: usize, goals: Goals, q: usize, table: &mut [u32])
+    requires { (1 ≤ width) × (width ≤ 64) × (height ≤ 64) × (q ≤ finest) × Benched (width * height) (goals_of goals) × (length table.old ≡ width * height) }
+    ensures { (bytes : List ℕ) → table.new ≡ opening_table (flat width height bytes) q (goals_of goals) }
 {
-    for x in 0..floor.cells() {
-        table[x] = floor.opening(goals, q, x) as u32;
+    for x in 0..table.len() {
+        table[x] = floor::opening(width, height, goals, q, x) as u32;
     }
 }
 
@@ -208,7 +207,7 @@ pub fn fill_opening(
 ) -> Result<(), Refusal>
     ensures { Fills (flat width height floor.now) q goals table.old result table.new }
 {
-    let floor = open_table(width, height, goals, q, floor, table.len())?;
-    fill_figures(&floor, goals, q, table);
+    open_table(width, height, goals, q, floor, table.len())?;
+    fill_figures(width, height, goals, q, table);
     Ok(())
 }

@@ -172,7 +172,7 @@ pub fn read_table(
 {
     let site = Site::open(width, height, goals, q, floor, table.len())?;
     let records = judge_file(&site, file)?;
-    opening::fill_figures(&site.floor, goals, q, table);
+    opening::fill_figures(width, height, goals, q, table);
     apply_records(records, table);
     Ok(())
 }
