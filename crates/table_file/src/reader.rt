@@ -15,6 +15,9 @@ use answers::{Goals, Place, Refusal};
 use floor::{CEILING, MOST_GOALS};
 use notation::bytes::{half_at, word_at};
 
+// How many goals a trailer of edition 1 names.
+const FIRST_GOALS: usize = 1;
+
 // Whether the site that a trailer names is this one: of edition 1, which names one goal,
 fn first_names(site: &Site, t: &[u8]) -> bool
     requires { length t.now ≡ first_long }
@@ -23,7 +26,7 @@ fn first_names(site: &Site, t: &[u8]) -> bool
     let goals = site.goals;
     if usize::from(t[0]) != site.floor.width
         || usize::from(t[1]) != site.floor.height
-        || floor::goals_in(goals) != 1
+        || floor::goals_in(goals) != FIRST_GOALS
     {
         return false;
     }

@@ -46,7 +46,8 @@ impl<'a> Site<'a> {
         Ok(Site { floor, goals, q })
     }
 
-    // The opening figure of a cell.
+    // The opening figure of a cell. (Laid out where it is called: a call for each record takes an eighth of reading.)
+    #[inline]
     pub fn opening(&self, cell: usize) -> usize
         requires { cell < size self.now.floor }
         ensures { (result ≡ model.opening self.now.floor self.now.q (goals_of self.now.goals) cell) × (result < 4294967296) }

@@ -93,7 +93,7 @@ fn second_holds(file: &[u8]) -> bool
 }
 
 // Whether a trailer is sound: not faulty by 13.
-pub fn trailer_holds(file: &[u8]) -> bool
+fn trailer_holds(file: &[u8]) -> bool
     ensures { result ≡ trailer_holds file.now }
 {
     holds_as(1, FIRST_LONG, file) || second_holds(file)

@@ -1,8 +1,8 @@
 // The writer of a table file: it judges everything before it stores.
-ghost use Rattle.std.specs.Prelude.{◌≡◌, ◌+◌, ◌*◌, ◌≤◌, ◌<◌, length};
+ghost use Rattle.std.specs.Prelude.{◌≡◌, ◌*◌, ◌≤◌, ◌<◌, length};
 ghost use Rattle.model.specs.Basics.{naming};
 ghost use Rattle.model.specs.Floor.{size, goals_of};
-ghost use Rattle.model.specs.TableFile.{second_long, half, word, records_of, unlike, write_table};
+ghost use Rattle.model.specs.TableFile.{second_long, records_of, unlike, write_table};
 ghost use Rattle.model.specs.Writing.{Writes};
 ghost use Rattle.floor.specs.Moves.{flat};
 ghost use Rattle.notation.specs.Prints.{Prints, HasRoom};
