@@ -1,11 +1,11 @@
 -- What the program tells is what the model's `aisle` prints: by what the line, the floor text and the opening say.
 -- Assumes nothing.
-use Prim.Native.Nat.{ℕ, zero, suc, ◌-◌, ◌*◌, ◌≤◌}
+use Prim.Native.Nat.{ℕ, zero, suc, ◌*◌, ◌≤◌}
 use mathlib.Core.Path.{◌≡◌, refl, sym, ap, ◌∙◌}
 use mathlib.Core.Option.{none, some}
 use mathlib.Core.List.{List, ◌∷◌}
 use native.Mathlib.Omega.{arith}
-use lib.ListN.{length, take, drop, replicate, length-replicate}
+use lib.ListN.{length, take, replicate, length-replicate}
 use lib.Seq.{take_at, length-take-le}
 use Rattle.learning.proofs.Spread.{list_length}
 use Rattle.answers.specs.declared.Job.{Job}
@@ -25,7 +25,6 @@ use Rattle.model.specs.Line.{refusal_line, job_in, read_line, after_line, judge_
 use Rattle.model.proofs.Accepted.{not_refused, then_next, then_refused, then_done, sizes_judges, path_judges, settings_judges, trials_judges}
 use Rattle.model.proofs.Accepted.{scale_judges}
 use Rattle.model.proofs.Benches.{AllFree, bench_judges, places_judges, goals_judges, one_in_order}
-use Rattle.model.proofs.Parts.{rest}
 use Rattle.model.proofs.Cells.{cells-le}
 use Rattle.model.proofs.FloorRoundTrip.{read-sized}
 use Rattle.model.proofs.Cut.{malformed_is, asked_is, aisle-cut}

@@ -5,6 +5,7 @@
 ghost use Rattle.std.specs.Prelude.{◌≡◌};
 
 // The goals of a job, where a trip may end: how many are named, and the first four of them. A place past the count is not looked at.
+// (Four fields and a count, and no list: the definitions of the rules read them by their names.)
 #[derive(Clone, Copy)]
 pub struct Goals {
     pub count: usize,
@@ -14,7 +15,8 @@ pub struct Goals {
     pub fourth: usize,
 }
 
-// What stays the same through a run: the floor's sizes, the goals and the settings. The floor's bytes are lent beside it.
+// What stays the same through a run: the floor's sizes, the goals and the settings. The floor's bytes are lent beside it,
+// as the public calls take them and the definitions of the rules read them.
 #[derive(Clone, Copy)]
 pub struct Job {
     pub width: usize,
@@ -43,7 +45,7 @@ pub enum Place {
     Record(usize),
 }
 
-// A refusal's number in document 01's table, and its place.
+// A refusal's number in document 01's table, and its place. (A number and no enum: stores, programs and the definitions of the rules call a refusal by it.)
 #[derive(Clone, Copy)]
 pub struct Refusal {
     pub number: usize,

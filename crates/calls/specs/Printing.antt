@@ -7,6 +7,7 @@ use Rattle.calls.specs.declared.rooms.TheConstants.{LONGEST}
 pub record PrintsFew (n : ℕ) (p p' : Printer) : Type 0 where
   pub lent : p'.out.ghost_name ≡ p.out.ghost_name
   pub same : length p'.out.now ≡ length p.out.now
+  pub onward : p.at ≤ p'.at
   pub short : p'.at ≤ p.at + n
 
 -- what a call prints is a line but for its LF; nothing is printed where it is malformed

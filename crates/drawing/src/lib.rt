@@ -20,7 +20,9 @@ pub struct Page {
 }
 
 impl Page {
-    pub fn new() -> Self {
+    pub fn new() -> Self
+        ensures { result.at ≡ 0 }
+    {
         Page {
             bytes: io::large_buffer(),
             at: 0,

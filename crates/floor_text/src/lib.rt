@@ -62,7 +62,7 @@ fn row_holds(width: usize, text: &[u8]) -> bool
     width < text.len() && text[width] == b'\n' && text[..width].iter().all(|b| is_letter(*b))
 }
 
-// n rows and nothing after them: names the first faulty line.
+// n rows and nothing after them: names the first faulty line. (What is left is passed on: a text that ends within a row is named by that line.)
 fn judge_rows(width: usize, height: usize, text: &[u8]) -> Result<(), Refusal>
     requires { (width ≤ 64) × (height ≤ 64) }
     ensures { result ≡ rows width height 5 text.now }
@@ -96,7 +96,7 @@ fn store_row(letters: &[u8], part: &mut [u8])
     }
 }
 
-// The bytes of n rows that were judged.
+// The bytes of n rows that were judged. (What is left is passed on, each row to its own part of the buffer.)
 fn store_rows(width: usize, height: usize, text: &[u8], buffer: &mut [u8])
     requires small { (width ≤ 64) × (height ≤ 64) }
     requires room { width * height ≤ length buffer.old }

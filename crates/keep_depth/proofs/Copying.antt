@@ -137,7 +137,7 @@ module _ {bytes : List ℕ} {first : ℕ} {out : List ℕ} {p : Printer} {line d
       by false e = record {
         room = omega (arith, g.few, g.within, g.same, F.room);
         counted = omega (arith, g.counted, g.within);
-        goes = record { within = g.within; unended = e.1 refl; told = g.told };
+        goes = record { within = g.within; counted = g.counted; unended = e.1 refl; told = g.told };
         stopped = tt;
       }
 

@@ -13,6 +13,7 @@ pub record Fits (bytes : List ℕ) (first : ℕ) (out : List ℕ) : Type 0 where
 -- so much of a part is done with, up to a line that has no LF yet: whatever follows, what is told of the whole is what is written and then what is told of that line on
 pub record Goes (bytes : List ℕ) (first : ℕ) (c : Reach) (out : List ℕ) (done : ℕ) : Type 0 where
   pub within : done ≤ length bytes
+  pub counted : c.line ≤ first + done
   pub unended : Unended (drop done bytes)
   pub told : (rest : List ℕ) → copy_lines first (lines_of (bytes ++ rest)) ≡ ahead (take c.wrote out) (copy_lines c.line (lines_of (drop done bytes ++ rest)))
 

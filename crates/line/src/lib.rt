@@ -51,7 +51,7 @@ fn word_at(input: &[u8], from: usize) -> Option<Word>
     })
 }
 
-// A line being read: the numbers so far, and the place after the byte that ended the last.
+// A line being read: the numbers so far, and the place after the byte that ended the last. (No heap, and there are seven at the most: an array and a count.)
 #[derive(Clone, Copy)]
 struct Reading {
     pub numbers: [usize; 7],

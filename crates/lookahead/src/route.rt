@@ -83,6 +83,7 @@ pub(crate) fn collect(
         bytes: floor,
     };
     let mut cell = x;
+    // The last move is found first, so the place counts down.
     let mut k = MOST_MOVES;
     while cell != s {
         let link = back(&floor, base, scratch, cell);

@@ -6,7 +6,7 @@ use mathlib.Core.Bool.{true, false}
 use mathlib.Core.List.{List, [], ◌∷◌, ◌++◌}
 use native.Mathlib.Omega.{arith}
 use lib.Dec.{T}
-use lib.ListN.{length, get_or, replicate, length-replicate, get_or-replicate}
+use lib.ListN.{length, get_or}
 use lib.Seq.{length-take-le, get_or-set_same}
 use Rattle.learning.specs.Path.{legs}
 use Rattle.learning.specs.Trial as learning
@@ -33,7 +33,6 @@ use Rattle.model.proofs.Rides.{Riding, yet, rest, riding_begun, riding_next, doe
 use Rattle.model.proofs.Rides.{kept_low, counts_fit, most_learned, most_decisions, dearest_kept}
 use Rattle.decision.specs.Ready.{Ready, Places}
 use Rattle.decision.proofs.Judging.{ready}
-use Rattle.lookahead.specs.declared.Scratch.{Scratch}
 use Rattle.lookahead.specs.Contract.{Used}
 use Rattle.run.specs.declared.Stand.{Stand}
 use Rattle.run.specs.declared.Workspace.{Workspace}

@@ -1,4 +1,4 @@
-// A run for programs that hold no list of records: its records are numbers, four for each.
+// A run for callers that can lend no list of records, as one in another language cannot: its records are numbers, four for each.
 ghost use Rattle.std.specs.Prelude.{◌≡◌, ◌<◌, ◌≤◌, ◌+◌, ◌*◌, ◌++◌, length, take, drop};
 ghost use Rattle.model.specs.Ride.{run};
 ghost use Rattle.run.specs.Numbers.{record_at, records, put, numbers, Counted, IsCounted};

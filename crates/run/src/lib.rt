@@ -4,7 +4,7 @@
 
 mod counts;
 
-ghost use Rattle.std.specs.Prelude.{◌≡◌, ◌<◌, length, Ok};
+ghost use Rattle.std.specs.Prelude.{◌≡◌, ◌<◌, length, set, Ok};
 ghost use Rattle.model.specs.Opening.{open_trial};
 ghost use Rattle.model.specs.Ride.{ride, trial, run};
 ghost use Rattle.model.specs.Basics.{member};
@@ -18,6 +18,14 @@ ghost use Rattle.run.specs.Trials.{Fits, noted, Cleared, Rode, IsTrial, IsRun};
 use answers::{Answer, Job, Made, Refusal, Report, State};
 pub use counts::{report_at, run_counts};
 use lookahead::Scratch;
+
+// One record is stored.
+pub fn store_report(reports: &mut [Report], at: usize, r: Report)
+    requires { at < length reports.old }
+    ensures { reports.new ≡ set reports.old at r }
+{
+    reports[at] = r;
+}
 
 // The costs of the legs up to the places of the path: where a decision adds a cell, what they come to there is noted.
 fn note_leg(along: &mut [u32], before: usize, after: usize, leg: usize)
@@ -182,7 +190,7 @@ pub fn run(
     opening::open_run(job, floor, start, table, path.len(), trials, reports.len())?;
     for i in 0..trials {
         let report = ride(job, floor, start, table, path);
-        reports[i] = report;
+        store_report(reports, i, report);
         if report.learned == 0 {
             return Ok(Made {
                 trials: i + 1,

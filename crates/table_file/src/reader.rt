@@ -107,12 +107,14 @@ fn record_fault(site: &Site, low: usize, part: &[u8]) -> Option<usize>
     None
 }
 
-// The records, one after another: names the first faulty one.
+// The records, one after another: names the first faulty one. The remaining part is passed on at each record.
 fn judge_records(site: &Site, records: &[u8]) -> Result<(), Refusal>
     ensures { result ≡ judge_records site.now.floor site.now.q (goals_at site.now) (length records.now / 6) 0 0 records.now }
 {
+    let mut left = records;
     let mut low = 0;
-    for (i, record) in records.chunks_exact(6).enumerate() {
+    for i in 0..records.len() / 6 {
+        let (record, rest) = left.split_at(6);
         if let Some(number) = record_fault(site, low, record) {
             return Err(Refusal {
                 number,
@@ -120,6 +122,7 @@ fn judge_records(site: &Site, records: &[u8]) -> Result<(), Refusal>
             });
         }
         low = half_at(record, 0) + 1;
+        left = rest;
     }
     Ok(())
 }
@@ -134,12 +137,15 @@ fn put_figure(table: &mut [u32], cell: usize, figure: usize)
     }
 }
 
-// The records' figures, put into a table.
+// The records' figures, put into a table. The remaining part is passed on at each record.
 fn apply_records(records: &[u8], table: &mut [u32])
     ensures { table.new ≡ applied (length records.now / 6) records.now table.old }
 {
-    for record in records.chunks_exact(6) {
+    let mut left = records;
+    while 6 <= left.len() {
+        let (record, rest) = left.split_at(6);
         put_figure(table, half_at(record, 0), word_at(record, 2));
+        left = rest;
     }
 }
 

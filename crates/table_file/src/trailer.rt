@@ -18,7 +18,7 @@ const ENDING: usize = 12;
 // What a trailer ends with.
 pub const LETTERS: &[u8] = b"PDLT";
 
-// What stands at a goal place that is not used.
+// What stands in a file at a goal place that is not used.
 const UNUSED: usize = 65535;
 
 // The last bytes, so many.

@@ -1,5 +1,5 @@
 -- `aisle::asked` meets its contract: the settings are refused, or the text is read.
-use Rattle.learning.proofs.Words.{refl, sym}
+use Rattle.learning.proofs.Words.{sym}
 use Rattle.aisle.proofs.Answers.{line-told, says_exit}
 use Rattle.aisle.proofs.asked.Goals as goal
 

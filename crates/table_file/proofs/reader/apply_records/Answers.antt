@@ -1,15 +1,14 @@
 -- `table_file::reader::apply_records` meets its contract: the invariant: the records left do what all of them do.
-use Rattle.std.proofs.Common.{◌∙◌, arith}
+use Rattle.std.proofs.Common.{sym, ◌∙◌, ap₂, ◌++◌, arith}
+use Rattle.std.proofs.lemmas.List.{take-append-drop}
 use Rattle.table_file.proofs.Reading.{applied_more, applied_all}
 use Rattle.table_file.proofs.reader.apply_records.Goals as goal
 
-pub loop-record-preserved : goal.loop-record-preserved
-loop-record-preserved c =
-    let s = c.in-Some.ensures.steps in
-    record {
-      six = s.0 ∙ c.loop-record.invariant.six;
-      left = applied_more _ _ s.1.0 (s.1.1 ∙ c.loop-record.invariant.six) _ c.put_figure.ensures c.half_at.ensures.0 c.word_at.ensures.0 c.loop-record.invariant.left;
-    }
+pub loop-left-preserved : goal.loop-left-preserved
+loop-left-preserved c =
+    let s = c.split_at.ensures in
+    let parts = sym (take-append-drop 6 _) ∙ ap₂ ◌++◌ (sym s.front) (sym s.back) in
+    applied_more _ _ parts s.front_len _ c.put_figure.ensures c.half_at.ensures.0 c.word_at.ensures.0 c.loop-left.invariant
 
 pub returns : goal.returns
-returns c = applied_all _ _ (omega (arith, c.in-None.ensures.steps.1.0, c.loop-record.invariant.six)) c.loop-record.invariant.left
+returns c = applied_all _ _ (omega arith) c.loop-left.invariant
