@@ -34,15 +34,15 @@ pub fn read(text: &[u8], at: usize, most: usize) -> Run
     ensures { result ≡ run_at most text.now at }
 {
     let mut value = 0;
-    let mut i = at;
-    // A `for` over the places takes a fifth longer in `keep_depth`.
-    while i < text.len() {
+    for i in at..text.len() {
         let b = text[i];
         if !is_digit(b) {
             return Run { value, after: i };
         }
         value = with_digit(most, value, b);
-        i += 1;
     }
-    Run { value, after: i }
+    Run {
+        value,
+        after: at.max(text.len()),
+    }
 }
