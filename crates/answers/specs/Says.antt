@@ -5,16 +5,8 @@ use Rattle.answers.specs.declared.Place.TheVariants as P
 use Rattle.answers.specs.declared.Refusal.{Refusal}
 use Rattle.answers.specs.declared.Answer.{Answer}
 use Rattle.answers.specs.declared.Answer.TheVariants as A
-use Rattle.answers.specs.declared.Verdict.{Verdict}
-use Rattle.answers.specs.declared.Verdict.TheVariants as Vd
-use Rattle.answers.specs.declared.Tried.{Tried}
-use Rattle.answers.specs.declared.Tried.TheVariants as Td
-use Rattle.answers.specs.declared.Ran.{Ran}
-use Rattle.answers.specs.declared.Ran.TheVariants as Rn
-use Rattle.answers.specs.declared.FloorRead.{FloorRead}
-use Rattle.answers.specs.declared.FloorRead.TheVariants as Fr
-use Rattle.answers.specs.declared.Written.{Written}
-use Rattle.answers.specs.declared.Written.TheVariants as Wr
+use Rattle.answers.specs.Outcomes.{Verdict, Tried, Ran, FloorRead, Written}
+use Rattle.std.specs.Prelude.{Ok, Err}
 
 -- An answer in document 01's number and values. The kind tells apart the answers of a decision that all say 0.
 -- Every case of an answer says as many values; 0 stands where a case has none.
@@ -41,13 +33,13 @@ says_answer (A.Refused r) = refuses 4 r (0 ∷ 0 ∷ 0 ∷ [])
 
 -- a number alone
 abbrev pub says_verdict : Verdict → Said
-says_verdict Vd.Done = done 0 []
-says_verdict (Vd.Refused r) = refuses 1 r []
+says_verdict (Ok _) = done 0 []
+says_verdict (Err r) = refuses 1 r []
 
 -- a trial: its four counts
 abbrev pub says_tried : Tried → Said
-says_tried (Td.Made r) = done 0 (r.decisions ∷ r.learned ∷ r.kept ∷ r.travel ∷ [])
-says_tried (Td.Refused r) = refuses 1 r (0 ∷ 0 ∷ 0 ∷ 0 ∷ [])
+says_tried (Ok r) = done 0 (r.decisions ∷ r.learned ∷ r.kept ∷ r.travel ∷ [])
+says_tried (Err r) = refuses 1 r (0 ∷ 0 ∷ 0 ∷ 0 ∷ [])
 
 -- a run: the trials made, and 1 where it is settled
 abbrev pub flag : Bool → ℕ
@@ -55,15 +47,15 @@ flag true = 1
 flag false = 0
 
 abbrev pub says_ran : Ran → Said
-says_ran (Rn.Made trials settled) = done 0 (trials ∷ flag settled ∷ [])
-says_ran (Rn.Refused r) = refuses 1 r (0 ∷ 0 ∷ [])
+says_ran (Ok m) = done 0 (m.trials ∷ flag m.settled ∷ [])
+says_ran (Err r) = refuses 1 r (0 ∷ 0 ∷ [])
 
 -- a floor text: width and height
 abbrev pub says_floor_read : FloorRead → Said
-says_floor_read (Fr.Sizes width height) = done 0 (width ∷ height ∷ [])
-says_floor_read (Fr.Refused r) = refuses 1 r (0 ∷ 0 ∷ [])
+says_floor_read (Ok z) = done 0 (z.width ∷ z.height ∷ [])
+says_floor_read (Err r) = refuses 1 r (0 ∷ 0 ∷ [])
 
 -- a written table or floor text: its length
 abbrev pub says_written : Written → Said
-says_written (Wr.Length n) = done 0 (n ∷ [])
-says_written (Wr.Refused r) = refuses 1 r (0 ∷ [])
+says_written (Ok n) = done 0 (n ∷ [])
+says_written (Err r) = refuses 1 r (0 ∷ [])

@@ -1,8 +1,11 @@
-// The types that calls take and give: a job and a state, and for each kind of call an answer by its cases.
+// The types that calls take and give: a job and a state, what a decision answers, and the refusal that any call may answer in place of its result.
 
 #![tactic(auto)]
 
+ghost use Rattle.std.specs.Prelude.{◌≡◌};
+
 // The goals of a job, where a trip may end: how many are named, and the first four of them. A place past the count is not looked at.
+// (Four fields and a count, and no list: the definitions of the rules read them by their names.)
 #[derive(Clone, Copy)]
 pub struct Goals {
     pub count: usize,
@@ -12,7 +15,8 @@ pub struct Goals {
     pub fourth: usize,
 }
 
-// What stays the same through a run: the floor's sizes, the goals and the settings. The floor's bytes are lent beside it.
+// What stays the same through a run: the floor's sizes, the goals and the settings. The floor's bytes are lent beside it,
+// as the public calls take them and the definitions of the rules read them.
 #[derive(Clone, Copy)]
 pub struct Job {
     pub width: usize,
@@ -41,18 +45,23 @@ pub enum Place {
     Record(usize),
 }
 
-// A refusal's number in document 01's table, and its place.
+// A refusal's number in document 01's table, and its place. (A number and no enum: stores, programs and the definitions of the rules call a refusal by it.)
 #[derive(Clone, Copy)]
 pub struct Refusal {
     pub number: usize,
     pub place: Place,
 }
 
-// What a call answers that gives back nothing but its number.
-#[derive(Clone, Copy)]
-pub enum Verdict {
-    Done,
-    Refused(Refusal),
+impl Refusal {
+    // A refusal that names no place.
+    pub fn numbered(number: usize) -> Refusal
+        ensures { result ≡ record { number = number; place = Place.Nowhere } }
+    {
+        Refusal {
+            number,
+            place: Place::Nowhere,
+        }
+    }
 }
 
 // What a decision answers.
@@ -91,32 +100,18 @@ pub struct Report {
     pub travel: u64,
 }
 
-// What a trial answers.
+// A run that was made: how many trials it made, and whether the last of them learned nothing.
 #[derive(Clone, Copy)]
-pub enum Tried {
-    Made(Report),
-    Refused(Refusal),
+pub struct Made {
+    pub trials: usize,
+    pub settled: bool,
 }
 
-// What a run answers: how many trials it made, and whether the last of them learned nothing.
+// The sizes of a floor whose text was read.
 #[derive(Clone, Copy)]
-pub enum Ran {
-    Made { trials: usize, settled: bool },
-    Refused(Refusal),
-}
-
-// What reading a floor text answers: the floor's sizes.
-#[derive(Clone, Copy)]
-pub enum FloorRead {
-    Sizes { width: usize, height: usize },
-    Refused(Refusal),
-}
-
-// What writing a table file or a floor text answers: how many bytes it has.
-#[derive(Clone, Copy)]
-pub enum Written {
-    Length(usize),
-    Refused(Refusal),
+pub struct Sizes {
+    pub width: usize,
+    pub height: usize,
 }
 
 // What a line of the program `aisle` asks for.

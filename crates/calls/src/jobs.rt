@@ -1,134 +1,118 @@
 // Calls 1 and 10: opening a job, and its table of opening figures; and what a call tells of its job, or of the site of a table.
-ghost use Rattle.std.specs.Prelude.{◌≤◌, length};
+ghost use Rattle.notation.specs.Prints.{HasRoom};
+ghost use Rattle.calls.specs.Printing.{Answers};
 
-use crate::rooms::Line;
-use crate::{rooms, show};
-use learner::{Goals, Job};
-use line::print;
-use numbers::Cursor;
+use crate::rooms::{CELLS, LONGEST};
+use crate::show;
+use learner::{Goals, Job, Sizes};
+use notation::lists::filled;
+use notation::print::Printer;
+use numbers::Reader;
 
-// Of the goals as told, so many: how many, and the first four.
-fn goals_of(count: usize, g: &[u32; 8]) -> Goals {
-    Goals {
-        count: count,
-        first: notation::wide32(g[0]),
-        second: notation::wide32(g[1]),
-        third: notation::wide32(g[2]),
-        fourth: notation::wide32(g[3]),
-    }
+// Width height.
+pub fn sizes_told(reader: &mut Reader) -> Option<Sizes> {
+    let width = reader.length()?;
+    let height = reader.length()?;
+    Some(Sizes { width, height })
 }
 
-// What a call tells of its job: the job, where it stands (of a decision also u and the path's length), the number after the quota, and how far the input is read.
-#[derive(Clone, Copy)]
-pub struct Told {
-    pub job: Job,
-    pub start: usize,
-    pub learned: usize,
-    pub length: usize,
-    pub last: usize,
-    pub after: Cursor,
+// Goals: eight can be told, twice as many as a job may name; the first four are kept.
+fn goals_told(reader: &mut Reader) -> Option<Goals> {
+    let mut told = [0usize; 8];
+    let count = reader.list(&mut told)?;
+    let [first, second, third, fourth, ..] = told;
+    Some(Goals {
+        count,
+        first,
+        second,
+        third,
+        fourth,
+    })
 }
 
-fn job_of(n: &[u64; 5], goals: Goals, m: &[u64; 5]) -> Job {
-    Job {
-        width: n[0] as usize,
-        height: n[1] as usize,
-        goals: goals,
-        depth: m[0] as usize,
-        p: m[1] as usize,
-        q: m[2] as usize,
-        quota: m[3] as usize,
-    }
-}
-
-// Width height start, goals, depth p q quota: so many numbers ahead of the goals, and so many after them.
-pub fn job_told(input: &[u8], c: Cursor, ahead: usize, behind: usize) -> Told {
-    let mut n = [0u64; 5];
-    let mut goals = rooms::goals();
-    let mut m = [0u64; 5];
-    let a = numbers::several(input, c, ahead, &mut n);
-    let g = numbers::list32(input, a, &mut goals);
-    let b = numbers::several(input, g, behind, &mut m);
-    let job = job_of(&n, goals_of(g.value, &goals), &m);
-    Told {
-        job: job,
-        start: n[2] as usize,
-        learned: n[3] as usize,
-        length: n[4] as usize,
-        last: m[4] as usize,
-        after: b,
-    }
+// The rest of a job, after its sizes and where it stands: goals, depth p q quota.
+pub fn job_told(reader: &mut Reader, sizes: Sizes) -> Option<Job> {
+    let goals = goals_told(reader)?;
+    let depth = reader.length()?;
+    let p = reader.length()?;
+    let q = reader.length()?;
+    let quota = reader.length()?;
+    Some(Job {
+        width: sizes.width,
+        height: sizes.height,
+        goals,
+        depth,
+        p,
+        q,
+        quota,
+    })
 }
 
 // Call 1: width height start, goals, depth p q quota, floor, table. Prints the refusal.
-pub fn open(input: &[u8], c: Cursor, out: &mut Line) -> usize
-    ensures { (1 ≤ result) × (result ≤ 688256) }
+pub fn open(reader: &mut Reader, out: &mut Printer) -> Option<()>
+    requires { HasRoom out.old LONGEST }
+    ensures { Answers result out.old out.new }
 {
-    let mut floor = rooms::floor();
-    let mut table = rooms::table();
-    let j = job_told(input, c, 3, 4);
-    let f = numbers::list8(input, j.after, &mut floor);
-    let t = numbers::list32(input, f, &mut table);
-    if !numbers::ended(input, t) {
-        return show::malformed(out);
+    let mut floor = filled::<u8, CELLS>(0);
+    let mut table = filled::<u32, CELLS>(0);
+    let sizes = sizes_told(reader)?;
+    let start = reader.length()?;
+    let job = job_told(reader, sizes)?;
+    let cells = reader.list(&mut floor)?;
+    let figures = reader.list(&mut table)?;
+    if !reader.ended() {
+        return None;
     }
-    let cells = f.value;
-    let figures = t.value;
-    let v = learner::open(j.job, &floor[..cells], j.start, &table[..figures]);
-    let end = show::verdict(out, 0, v);
-    print::byte(out, end, 10)
+    let verdict = learner::open(job, &floor[..cells], start, &table[..figures]);
+    show::verdict(out, verdict);
+    Some(())
 }
 
-// What a call on a table alone tells: the floor's sizes, the goals, q, and how far the input is read.
+// What a call on a table alone tells: the floor's sizes, the goals and q.
 #[derive(Clone, Copy)]
 pub struct Site {
     pub width: usize,
     pub height: usize,
     pub goals: Goals,
     pub q: usize,
-    pub after: Cursor,
 }
 
 // Width height, goals, q.
-pub fn site_told(input: &[u8], c: Cursor) -> Site {
-    let mut n = [0u64; 2];
-    let mut goals = rooms::goals();
-    let a = numbers::several(input, c, 2, &mut n);
-    let g = numbers::list32(input, a, &mut goals);
-    let q = numbers::length(input, g);
-    Site {
-        width: n[0] as usize,
-        height: n[1] as usize,
-        goals: goals_of(g.value, &goals),
-        q: q.value,
-        after: q,
-    }
-}
-
-// The refusal and the table.
-fn filled(s: Site, floor: &[u8], table: &mut [u32], out: &mut [u8]) -> usize
-    requires { (length table.old ≤ 4160) × (688256 ≤ length out.old) }
-    ensures { (1 ≤ result) × (result ≤ 688256) }
-{
-    let v = learner::fill_opening(s.width, s.height, s.goals, s.q, floor, table);
-    let at = show::verdict(out, 0, v);
-    let end = show::list32(out, at, &table[..]);
-    print::byte(out, end, 10)
+pub fn site_told(reader: &mut Reader) -> Option<Site> {
+    let Sizes { width, height } = sizes_told(reader)?;
+    let goals = goals_told(reader)?;
+    let q = reader.length()?;
+    Some(Site {
+        width,
+        height,
+        goals,
+        q,
+    })
 }
 
 // Call 10: width height, goals, q, floor, table. Prints the refusal, then the table.
-pub fn fill_opening(input: &[u8], c: Cursor, out: &mut Line) -> usize
-    ensures { (1 ≤ result) × (result ≤ 688256) }
+pub fn fill_opening(reader: &mut Reader, out: &mut Printer) -> Option<()>
+    requires { HasRoom out.old LONGEST }
+    ensures { Answers result out.old out.new }
 {
-    let mut floor = rooms::floor();
-    let mut table = rooms::table();
-    let s = site_told(input, c);
-    let f = numbers::list8(input, s.after, &mut floor);
-    let t = numbers::list32(input, f, &mut table);
-    if !numbers::ended(input, t) {
-        return show::malformed(out);
+    let mut floor = filled::<u8, CELLS>(0);
+    let mut table = filled::<u32, CELLS>(0);
+    let site = site_told(reader)?;
+    let cells = reader.list(&mut floor)?;
+    let figures = reader.list(&mut table)?;
+    if !reader.ended() {
+        return None;
     }
-    let cells = f.value;
-    let figures = t.value;
-    filled(s, &floor[..cells], &mut table[..figures], out)
+    let table = &mut table[..figures];
+    let verdict = learner::fill_opening(
+        site.width,
+        site.height,
+        site.goals,
+        site.q,
+        &floor[..cells],
+        table,
+    );
+    show::verdict(out, verdict);
+    show::list(out, table);
+    Some(())
 }

@@ -12,57 +12,74 @@ mod show;
 mod texts;
 mod trials;
 
-ghost use Rattle.std.specs.Prelude.{◌≤◌, length};
+ghost use Rattle.notation.specs.Prints.{HasRoom};
+ghost use Rattle.calls.specs.Printing.{Answers};
 
-use rooms::Line;
+use notation::lists::filled;
+use notation::print::Printer;
+use numbers::Reader;
+use rooms::LONGEST;
 
-// Standard output.
+const STDIN_FILENO: i32 = 0;
+
 const STDOUT_FILENO: i32 = 1;
 
-// Writes the line that answers an input, and says where it ends. A number that is not there is 0, which is no call's.
-fn answer(input: &[u8], out: &mut Line) -> usize
-    ensures { (1 ≤ result) × (result ≤ 688256) }
-{
-    if 262144 < input.len() {
-        return show::malformed(out);
-    }
-    let c = numbers::length(input, numbers::start());
-    let call = c.value;
-    match call {
-        1 => jobs::open(input, c, out),
-        2 => decisions::decide(input, c, out),
-        3 => trials::trial(input, c, out),
-        4 => runs::run(input, c, out),
-        5 => texts::read_floor(input, c, out),
-        6 => files::write_table(input, c, out),
-        7 => files::read_table(input, c, out),
-        8 => files::find_records(input, c, out),
-        9 => files::check_trailer(input, c, out),
-        10 => jobs::fill_opening(input, c, out),
-        11 => texts::write_floor(input, c, out),
-        12 => rewrites::written(12, input, c, out),
-        16 => rewrites::written(16, input, c, out),
-        _ => show::malformed(out),
-    }
-}
+// The most bytes that are read of an input, and one more.
+const MOST_INPUT: usize = 262144;
 
-// Writes what stands before `end`, but for the first byte, which is a space.
-fn write(out: &[u8], end: usize)
-    requires { (1 ≤ end) × (end ≤ length out.now) }
-{
-    io::write_all(STDOUT_FILENO, &out[1..end]);
-}
+const INPUT: usize = MOST_INPUT + 1;
 
-fn print(out: &Line, end: usize)
-    requires { (1 ≤ end) × (end ≤ 688256) }
+// The longest line, with its LF.
+const LINE: usize = LONGEST + 1;
+
+// Prints what answers an input, but for its LF; nothing where the input is none of a call.
+fn answer(input: &[u8], out: &mut Printer) -> Option<()>
+    requires { HasRoom out.old LONGEST }
+    ensures { Answers result out.old out.new }
 {
-    write(out, end);
+    if MOST_INPUT < input.len() {
+        return None;
+    }
+    let mut reader = Reader::new(input);
+    match reader.length()? {
+        1 => jobs::open(&mut reader, out),
+        2 => decisions::decide(&mut reader, out),
+        3 => trials::trial(&mut reader, out),
+        4 => runs::run(&mut reader, out),
+        5 => texts::read_floor(&mut reader, out),
+        6 => files::write_table(&mut reader, out),
+        7 => files::read_table(&mut reader, out),
+        8 => files::find_records(&mut reader, out),
+        9 => files::check_trailer(&mut reader, out),
+        10 => jobs::fill_opening(&mut reader, out),
+        11 => texts::write_floor(&mut reader, out),
+        12 => rewrites::rewrite(
+            |old, buffer| learner::renew_file(old, buffer),
+            &mut reader,
+            out,
+        ),
+        16 => rewrites::rewrite(
+            |old, buffer| learner::with_depth(old, buffer),
+            &mut reader,
+            out,
+        ),
+        _ => None,
+    }
 }
 
 fn main() {
-    let mut input = rooms::input();
-    let got = io::read_full(0, &mut input);
-    let mut out = rooms::line();
-    let end = answer(&input[..got], &mut out);
-    print(&out, end);
+    let mut input = filled::<u8, INPUT>(0);
+    let got = io::read_full(STDIN_FILENO, &mut input);
+    let mut line = filled::<u8, LINE>(0);
+    let mut out = Printer {
+        out: &mut line,
+        at: 0,
+    };
+    if answer(&input[..got], &mut out).is_none() {
+        out.bytes(b" malformed");
+    }
+    out.byte(b'\n');
+    let end = out.at;
+    // Each number comes after a space, and the first one's is left out.
+    io::write_all(STDOUT_FILENO, &line[1..end]);
 }

@@ -1,90 +1,85 @@
-// The parts of the printed line, one after another from a place of a lent list on. Each number is a space and its digits.
-ghost use Rattle.std.specs.Prelude.{◌+◌, ◌*◌, ◌≤◌, length};
+// What calls print of their answers.
+#![tactic(auto, using(notation::proofs::Prints::same_length))]
 
-use crate::rooms::Line;
-use learner::{Place, Refusal, Verdict, Written};
-use line::print;
+ghost use Rattle.std.specs.Prelude.{◌+◌, ◌*◌, length};
+ghost use Rattle.notation.specs.Prints.{HasRoom};
+ghost use Rattle.calls.specs.Printing.{PrintsFew};
 
-// The whole line of an input that is none of a call.
-pub fn malformed(out: &mut Line) -> usize
-    ensures { (1 ≤ result) × (result ≤ 688256) }
+use learner::{Place, Refusal};
+use notation::print::Printer;
+use numbers::Entry;
+use numbers::print::fields;
+
+// So many numbers.
+pub fn row<T: Entry, const N: usize>(out: &mut Printer, numbers: &[T; N])
+    requires { HasRoom out.old (21 * N) }
+    ensures { PrintsFew (21 * N) out.old out.new }
 {
-    let end = print::bytes(out, 0, b" malformed");
-    print::byte(out, end, 10)
-}
-
-// Three numbers.
-pub fn three(out: &mut [u8], at: usize, a: usize, b: usize, c: usize) -> usize
-    requires { at + 63 ≤ length out.old }
-    ensures { result ≤ at + 63 }
-{
-    let first = print::field(out, at, a);
-    let second = print::field(out, first, b);
-    print::field(out, second, c)
+    fields(out, numbers);
 }
 
 // A refusal: its number, the kind of its place and the place.
-pub fn refusal(out: &mut [u8], at: usize, r: Refusal) -> usize
-    requires { at + 63 ≤ length out.old }
-    ensures { result ≤ at + 63 }
+fn refusal(out: &mut Printer, r: Refusal)
+    requires { HasRoom out.old 63 }
+    ensures { PrintsFew 63 out.old out.new }
 {
-    let p = r.place;
-    match p {
-        Place::Nowhere => three(out, at, r.number, 0, 0),
-        Place::Cell(x) => three(out, at, r.number, 1, x),
-        Place::Line(x) => three(out, at, r.number, 2, x),
-        Place::Record(x) => three(out, at, r.number, 3, x),
+    let (kind, place) = match r.place {
+        Place::Nowhere => (0, 0),
+        Place::Cell(x) => (1, x),
+        Place::Line(x) => (2, x),
+        Place::Record(x) => (3, x),
+    };
+    row(out, &[r.number, kind, place]);
+}
+
+// The refusal, or three zeros where there is none; and the numbers that a call came to, or as many zeros.
+pub fn answer<T: Entry, const N: usize>(out: &mut Printer, answer: Result<[T; N], Refusal>)
+    requires { HasRoom out.old (63 + 21 * N) }
+    ensures { PrintsFew (63 + 21 * N) out.old out.new }
+{
+    match answer {
+        Ok(numbers) => {
+            row(out, &[0usize; 3]);
+            row(out, &numbers);
+        }
+        Err(r) => {
+            refusal(out, r);
+            row(out, &[T::from_number(0); N]);
+        }
     }
 }
 
-pub fn verdict(out: &mut [u8], at: usize, v: Verdict) -> usize
-    requires { at + 63 ≤ length out.old }
-    ensures { result ≤ at + 63 }
+// The refusal of a call that comes to no number.
+pub fn verdict(out: &mut Printer, verdict: Result<(), Refusal>)
+    requires { HasRoom out.old 63 }
+    ensures { PrintsFew 63 out.old out.new }
 {
-    match v {
-        Verdict::Done => three(out, at, 0, 0, 0),
-        Verdict::Refused(r) => refusal(out, at, r),
-    }
-}
-
-// What a writer answers: the refusal and the length.
-pub fn written(out: &mut [u8], at: usize, w: Written) -> usize
-    requires { at + 84 ≤ length out.old }
-    ensures { result ≤ at + 84 }
-{
-    match w {
-        Written::Length(n) => {
-            let end = three(out, at, 0, 0, 0);
-            print::field(out, end, n)
-        }
-        Written::Refused(r) => {
-            let end = refusal(out, at, r);
-            print::field(out, end, 0)
-        }
-    }
+    answer(out, verdict.map(|_| [0usize; 0]));
 }
 
 // A list: its length and its entries.
-pub fn list8(out: &mut [u8], at: usize, list: &[u8]) -> usize
-    requires { at + 21 * length list.now + 21 ≤ length out.old }
-    ensures { result ≤ at + 21 * length list.now + 21 }
+pub fn list<T: Entry>(out: &mut Printer, list: &[T])
+    requires { HasRoom out.old (21 * length list.now + 21) }
+    ensures { PrintsFew (21 * length list.now + 21) out.old out.new }
 {
-    let entries = print::field(out, at, list.len());
-    numbers::print::fields8(out, entries, list)
+    row(out, &[list.len()]);
+    fields(out, list);
 }
 
-pub fn list16(out: &mut [u8], at: usize, list: &[u16]) -> usize
-    requires { at + 21 * length list.now + 21 ≤ length out.old }
-    ensures { result ≤ at + 21 * length list.now + 21 }
+// What a writer answers: the refusal and the length, then its buffer.
+pub fn written(out: &mut Printer, written: Result<usize, Refusal>, buffer: &[u8])
+    requires { HasRoom out.old (21 * length buffer.now + 105) }
+    ensures { PrintsFew (21 * length buffer.now + 105) out.old out.new }
 {
-    let entries = print::field(out, at, list.len());
-    numbers::print::fields16(out, entries, list)
+    answer(out, written.map(|length| [length]));
+    list(out, buffer);
 }
 
-pub fn list32(out: &mut [u8], at: usize, list: &[u32]) -> usize
-    requires { at + 21 * length list.now + 21 ≤ length out.old }
-    ensures { result ≤ at + 21 * length list.now + 21 }
+// Reports: how many, and four counts of each.
+pub fn reports(out: &mut Printer, counts: &[u64])
+    requires { HasRoom out.old (21 * length counts.now + 21) }
+    ensures { PrintsFew (21 * length counts.now + 21) out.old out.new }
 {
-    let entries = print::field(out, at, list.len());
-    numbers::print::fields32(out, entries, list)
+    row(out, &[counts.len() / 4]);
+    fields(out, counts);
 }

@@ -1,83 +1,47 @@
 // Calls 5 and 11: floor text, read and written.
-ghost use Rattle.std.specs.Prelude.{◌≤◌, length};
+ghost use Rattle.notation.specs.Prints.{HasRoom};
+ghost use Rattle.calls.specs.Printing.{Answers};
 
-use crate::rooms::Line;
-use crate::{rooms, show};
-use learner::FloorRead;
-use line::print;
-use numbers::Cursor;
-
-// The refusal, width and height.
-fn answer(out: &mut [u8], f: FloorRead) -> usize
-    requires { 688256 ≤ length out.old }
-    ensures { result ≤ 105 }
-{
-    match f {
-        FloorRead::Sizes { width, height } => {
-            let at = show::three(out, 0, 0, 0, 0);
-            let at = print::field(out, at, width);
-            print::field(out, at, height)
-        }
-        FloorRead::Refused(r) => {
-            let at = show::refusal(out, 0, r);
-            let at = print::field(out, at, 0);
-            print::field(out, at, 0)
-        }
-    }
-}
-
-// The answer and the buffer.
-fn read(text: &[u8], buffer: &mut [u8], out: &mut [u8]) -> usize
-    requires { (length buffer.old ≤ 32768) × (688256 ≤ length out.old) }
-    ensures { (1 ≤ result) × (result ≤ 688256) }
-{
-    let f = learner::read_floor(text, buffer);
-    let at = answer(out, f);
-    let end = show::list8(out, at, &buffer[..]);
-    print::byte(out, end, 10)
-}
+use crate::rooms::{BYTES, CELLS, LONGEST};
+use crate::{jobs, show};
+use notation::lists::filled;
+use notation::print::Printer;
+use numbers::Reader;
 
 // Call 5: text, buffer. Prints the refusal, width, height, then the buffer.
-pub fn read_floor(input: &[u8], c: Cursor, out: &mut Line) -> usize
-    ensures { (1 ≤ result) × (result ≤ 688256) }
+pub fn read_floor(reader: &mut Reader, out: &mut Printer) -> Option<()>
+    requires { HasRoom out.old LONGEST }
+    ensures { Answers result out.old out.new }
 {
-    let mut text = rooms::bytes();
-    let mut buffer = rooms::bytes();
-    let t = numbers::list8(input, c, &mut text);
-    let b = numbers::list8(input, t, &mut buffer);
-    if !numbers::ended(input, b) {
-        return show::malformed(out);
+    let mut text = filled::<u8, BYTES>(0);
+    let mut buffer = filled::<u8, BYTES>(0);
+    let bytes = reader.list(&mut text)?;
+    let room = reader.list(&mut buffer)?;
+    if !reader.ended() {
+        return None;
     }
-    let bytes = t.value;
-    let room = b.value;
-    read(&text[..bytes], &mut buffer[..room], out)
-}
-
-// The answer and the buffer.
-fn written(n: &[u64; 2], floor: &[u8], buffer: &mut [u8], out: &mut [u8]) -> usize
-    requires { (length buffer.old ≤ 32768) × (688256 ≤ length out.old) }
-    ensures { (1 ≤ result) × (result ≤ 688256) }
-{
-    let w = learner::write_floor(n[0] as usize, n[1] as usize, floor, buffer);
-    let at = show::written(out, 0, w);
-    let end = show::list8(out, at, &buffer[..]);
-    print::byte(out, end, 10)
+    let buffer = &mut buffer[..room];
+    let read = learner::read_floor(&text[..bytes], buffer);
+    show::answer(out, read.map(|sizes| [sizes.width, sizes.height]));
+    show::list(out, buffer);
+    Some(())
 }
 
 // Call 11: width height, floor, buffer. Prints the refusal, the length, then the buffer.
-pub fn write_floor(input: &[u8], c: Cursor, out: &mut Line) -> usize
-    ensures { (1 ≤ result) × (result ≤ 688256) }
+pub fn write_floor(reader: &mut Reader, out: &mut Printer) -> Option<()>
+    requires { HasRoom out.old LONGEST }
+    ensures { Answers result out.old out.new }
 {
-    let mut n = [0u64; 2];
-    let mut floor = rooms::floor();
-    let mut buffer = rooms::bytes();
-    let a = numbers::several(input, c, 2, &mut n);
-    let f = numbers::list8(input, a, &mut floor);
-    let b = numbers::list8(input, f, &mut buffer);
-    if !numbers::ended(input, b) {
-        return show::malformed(out);
+    let mut floor = filled::<u8, CELLS>(0);
+    let mut buffer = filled::<u8, BYTES>(0);
+    let sizes = jobs::sizes_told(reader)?;
+    let cells = reader.list(&mut floor)?;
+    let room = reader.list(&mut buffer)?;
+    if !reader.ended() {
+        return None;
     }
-    let cells = f.value;
-    let room = b.value;
-    written(&n, &floor[..cells], &mut buffer[..room], out)
+    let buffer = &mut buffer[..room];
+    let written = learner::write_floor(sizes.width, sizes.height, &floor[..cells], buffer);
+    show::written(out, written, buffer);
+    Some(())
 }

@@ -1,80 +1,39 @@
 // Call 3: a trial.
-ghost use Rattle.std.specs.Prelude.{◌≤◌, length};
+ghost use Rattle.notation.specs.Prints.{HasRoom};
+ghost use Rattle.calls.specs.Printing.{Answers};
 
-use crate::rooms::Line;
-use crate::{jobs, rooms, show};
-use learner::{Job, Tried};
-use line::print;
-use numbers::Cursor;
-
-// The refusal, and the four counts.
-fn answer(out: &mut [u8], t: Tried) -> usize
-    requires { 688256 ≤ length out.old }
-    ensures { result ≤ 147 }
-{
-    match t {
-        Tried::Made(r) => {
-            let at = show::three(out, 0, 0, 0, 0);
-            let at = print::field(out, at, r.decisions as usize);
-            show::three(
-                out,
-                at,
-                r.learned as usize,
-                r.kept as usize,
-                r.travel as usize,
-            )
-        }
-        Tried::Refused(r) => {
-            let at = show::refusal(out, 0, r);
-            let at = print::field(out, at, 0);
-            show::three(out, at, 0, 0, 0)
-        }
-    }
-}
-
-// The answer and the lists.
-fn tried(
-    job: Job,
-    start: usize,
-    floor: &[u8],
-    table: &mut [u32],
-    path: &mut [u16],
-    out: &mut [u8],
-) -> usize
-    requires { (length table.old ≤ 4160) × (length path.old ≤ 4160) × (688256 ≤ length out.old) }
-    ensures { (1 ≤ result) × (result ≤ 688256) }
-{
-    let t = learner::trial(job, floor, start, table, path);
-    let at = answer(out, t);
-    let at = show::list32(out, at, &table[..]);
-    let end = show::list16(out, at, &path[..]);
-    print::byte(out, end, 10)
-}
+use crate::rooms::{CELLS, LONGEST};
+use crate::{jobs, show};
+use notation::lists::filled;
+use notation::print::Printer;
+use numbers::Reader;
 
 // Call 3: width height start, goals, depth p q quota, floor, table, path.
 // Prints the refusal, decisions, learned, kept, travel, then table and path.
-pub fn trial(input: &[u8], c: Cursor, out: &mut Line) -> usize
-    ensures { (1 ≤ result) × (result ≤ 688256) }
+pub fn trial(reader: &mut Reader, out: &mut Printer) -> Option<()>
+    requires { HasRoom out.old LONGEST }
+    ensures { Answers result out.old out.new }
 {
-    let mut floor = rooms::floor();
-    let mut table = rooms::table();
-    let mut path = rooms::path();
-    let j = jobs::job_told(input, c, 3, 4);
-    let f = numbers::list8(input, j.after, &mut floor);
-    let t = numbers::list32(input, f, &mut table);
-    let p = numbers::list16(input, t, &mut path);
-    if !numbers::ended(input, p) {
-        return show::malformed(out);
+    let mut floor = filled::<u8, CELLS>(0);
+    let mut table = filled::<u32, CELLS>(0);
+    let mut path = filled::<u16, CELLS>(0);
+    let sizes = jobs::sizes_told(reader)?;
+    let start = reader.length()?;
+    let job = jobs::job_told(reader, sizes)?;
+    let cells = reader.list(&mut floor)?;
+    let figures = reader.list(&mut table)?;
+    let places = reader.list(&mut path)?;
+    if !reader.ended() {
+        return None;
     }
-    let cells = f.value;
-    let figures = t.value;
-    let places = p.value;
-    tried(
-        j.job,
-        j.start,
-        &floor[..cells],
-        &mut table[..figures],
-        &mut path[..places],
+    let table = &mut table[..figures];
+    let path = &mut path[..places];
+    let made = learner::trial(job, &floor[..cells], start, table, path);
+    show::answer(
         out,
-    )
+        made.map(|r| [r.decisions, r.learned, r.kept, r.travel]),
+    );
+    show::list(out, table);
+    show::list(out, path);
+    Some(())
 }

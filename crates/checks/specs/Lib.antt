@@ -1,1 +1,2 @@
--- Nothing: the checks promise the definitions of `model` themselves.
+-- What a check promises that answers more than a verdict.
+pub mod Sizes

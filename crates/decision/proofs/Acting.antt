@@ -8,14 +8,14 @@ use native.Mathlib.Nat.{mul-le-mul}
 use native.Mathlib.Omega.{arith}
 use borrow.Author.Tests.{eq-eqb, ne_eqb, eqb-true, le-leb, lt-leb}
 use lib.Dec.{ltb, eqb}
-use lib.ListN.{length, get_or, replicate, length-replicate}
+use lib.ListN.{length, get_or}
 use Rattle.answers.specs.declared.Job.{Job}
 use Rattle.answers.specs.declared.State.{State}
 use Rattle.answers.specs.declared.Refusal.{Refusal}
 use Rattle.answers.specs.declared.Answer.{Answer}
 use Rattle.answers.specs.declared.Answer.TheVariants as A
-use Rattle.answers.specs.declared.Verdict.{Verdict}
-use Rattle.answers.specs.declared.Verdict.TheVariants as Vd
+use Rattle.answers.specs.Outcomes.{Verdict}
+use Rattle.std.specs.Prelude.{Ok, Err}
 use Rattle.answers.specs.declared.Decided.{Decided}
 use Rattle.answers.specs.Says.{says_answer}
 use Rattle.model.specs.Basics.{member}
@@ -29,10 +29,9 @@ use Rattle.model.proofs.Benches.{at_goal_lem}
 use Rattle.model.proofs.Meaning.{window-inside, nine_not}
 use Rattle.model.proofs.Cases.{act-arrived, act_blind, act-learns, learn_over, learn-forward, learn-back, back-stays, back_lost, back-goes, decide-refused, decide_acts}
 use Rattle.lookahead.specs.declared.Ahead.{Ahead}
-use Rattle.lookahead.specs.declared.Around.{Around}
-use Rattle.lookahead.specs.declared.Around.TheVariants as R
-use Rattle.lookahead.specs.Contract.{Used, Asked, Near, Seen, Window, Looked, Aimed, Figures, moves_to}
-use Rattle.lookahead.proofs.Fresh.{spent-zeros}
+use Rattle.lookahead.specs.declared.Extent.{Extent}
+use Rattle.lookahead.specs.declared.Scratch.{Scratch}
+use Rattle.lookahead.specs.Contract.{Used, Asked, Near, Seen, Window, Aimed, Figures, moves_to}
 use Rattle.decision.specs.declared.Acted.{Acted}
 use Rattle.decision.specs.Laying.{way_back, way_of, counts, Shows, Lays}
 use Rattle.decision.specs.Ready.{Places, Ready, Judged, Acts, Serves, Decides}
@@ -106,26 +105,9 @@ lost {j} {bytes} {l} x a e = by (eqb (ring j bytes (seen j bytes l) x) (seen j b
     by false q = refl
 
 -- a cell on the last ring is in the window
-pub shows_last : {j : Job} {bytes : List ℕ} {l x base : ℕ} {mark cost : List ℕ} {on : Bool} → on ≡ eqb (ring j bytes (seen j bytes l) x) (seen j bytes l).last → on ≡ true → Asked j bytes l
-    → Seen j bytes l base mark cost → Shows j bytes l x base mark cost
+pub shows_last : {j : Job} {bytes : List ℕ} {l x base : ℕ} {scratch : Scratch} {on : Bool} → on ≡ eqb (ring j bytes (seen j bytes l) x) (seen j bytes l).last → on ≡ true → Asked j bytes l
+    → Seen j bytes l base scratch → Shows j bytes l x base scratch
 shows_last {j} {bytes} {l} {x} is e a h = record { asked = a; seen = h; near = omega (arith, eqb-true (ring j bytes (seen j bytes l) x) (seen j bytes l).last (sym is ∙ e)) }
-
--- ---- scratch before and after a lookahead
-
-module _ {j : Job} {bytes : List ℕ} {s base : ℕ} {mark cost list : List ℕ} {r : Around} where
-  pub looked-window : {last n : ℕ} → r ≡ R.Window last n → Looked j bytes s base mark cost list r → Window j bytes s base mark cost list n last
-  looked-window e h = rw e at h
-
-pub looked-empty : (j : Job) (bytes : List ℕ) (s : ℕ) {base : ℕ} {mark cost list : List ℕ} {r : Around} → r ≡ R.Empty → Looked j bytes s base mark cost list r
-    → Used base mark cost list × (empty_ring j bytes (seen j bytes s) (seen j bytes s).last ≡ true)
-looked-empty j bytes s e h = rw e at h
-
--- m and n are variables so that the lists are not written out
-zeros-used : (m n : ℕ) → m ≡ 4096 → n ≡ 8192 → Used 1 (replicate m 0) (replicate m 0) (replicate n 0)
-zeros-used m n d e = record { marks = spent-zeros m d; costs = length-replicate {A = ℕ} m 0 ∙ d; cells = length-replicate {A = ℕ} n 0 ∙ e }
-
-pub used-zeros : Used 1 (replicate 4096 0) (replicate 4096 0) (replicate 8192 0)
-used-zeros = zeros-used 4096 8192 refl refl
 
 -- ---- the ways through
 
@@ -136,8 +118,8 @@ module _ {j : Job} {bytes : List ℕ} {s : State} where
   pub acts_refused : {r : Acted} {number base : ℕ} (table path : List ℕ) → r ≡ refusing s number base → Acts j bytes s (refused s table path number) r table path
   acts_refused table path q = rw q (record { answer = refl; way = refl; state = refl; rise = refl; cost = refl; table = refl; path = refl })
 
-  pub serves_refused : {r : Acted} {number base : ℕ} {mark cost list place path : List ℕ} → r ≡ refusing s number base → Used base mark cost list
-      → Places place path s.length → Serves j bytes s r mark cost list place path
+  pub serves_refused : {r : Acted} {number base : ℕ} {scratch : Scratch} {place path : List ℕ} → r ≡ refusing s number base → Used base scratch
+      → Places place path s.length → Serves j bytes s r scratch place path
   serves_refused q u p = rw q (record { used = u; places = p; shown = record { window = tt } })
 
   pub acts_arrived : {table path : List ℕ} {base : ℕ} {there : Bool} → free (floor_of j bytes) s.current ≡ true → there ≡ member s.current (goals j) → there ≡ true
@@ -204,7 +186,7 @@ module _ {j : Job} {bytes : List ℕ} {s : State} where
 -- ---- from the tests to the deed
 
 module _ (j : Job) (bytes : List ℕ) (s : State) (table path : List ℕ) where
-  pub act-full : {base n last : ℕ} {mark cost list : List ℕ} → Asked j bytes s.current → Window j bytes s.current base mark cost list n last
+  pub act-full : {base : ℕ} {scratch : Scratch} {e : Extent} → Asked j bytes s.current → Window j bytes s.current base scratch e
       → act j bytes s table path ≡ learns j bytes s table path
   unfolding learns
   act-full a h = act-learns j bytes s table path (aside a) (rw h.last_is at h.full)
@@ -238,7 +220,7 @@ module _ {j : Job} {bytes : List ℕ} {s : State} {table : List ℕ} (path : Lis
 module _ (j : Job) (bytes : List ℕ) (s : State) (table path moves : List ℕ) (from : ℕ) where
   pub decides_acts : {r : Acted} {n : ℕ} {a : Answer} {table' path' moves' : List ℕ} → Acts j bytes s (act j bytes s table path) r table' path'
       → Lays moves from (way_of j bytes s.current r.answer) moves' n → a ≡ counts r.answer n
-      → Decides (outcome_of Vd.Done (act j bytes s table path) s table path moves from) (record { answer = a; state = r.state }) table' path' moves'
+      → Decides (outcome_of (Ok tt) (act j bytes s table path) s table path moves from) (record { answer = a; state = r.state }) table' path' moves'
   decides_acts {r} h y e = record {
     answer = ap says_answer (e ∙ ap (counts r.answer) (y.count ∙ ap length (sym h.way)) ∙ sym h.answer);
     state = h.state;
@@ -247,11 +229,11 @@ module _ (j : Job) (bytes : List ℕ) (s : State) (table path moves : List ℕ) 
     moves = y.moves ∙ ap (laid moves from) (sym h.way);
   }
 
-  pub decides_refused : {v : Verdict} {place : List ℕ} (q : Refusal) → Judged j bytes s table path (length moves) from place v → v ≡ Vd.Refused q
+  pub decides_refused : {v : Verdict} {place : List ℕ} (q : Refusal) → Judged j bytes s table path (length moves) from place v → v ≡ Err q
       → Decides (decide j bytes s table path moves from) (record { answer = A.Refused q; state = s }) table path moves
   decides_refused q h e =
       rw (decide-refused j bytes s table path moves from q (sym h.verdict ∙ e)) (record { answer = refl; state = refl; table = refl; path = refl; moves = refl })
 
-  pub decides_past : {v : Verdict} {place : List ℕ} {r : Decided} {table' path' moves' : List ℕ} → Judged j bytes s table path (length moves) from place v → v ≡ Vd.Done
-      → Decides (outcome_of Vd.Done (act j bytes s table path) s table path moves from) r table' path' moves' → Decides (decide j bytes s table path moves from) r table' path' moves'
+  pub decides_past : {v : Verdict} {place : List ℕ} {r : Decided} {table' path' moves' : List ℕ} → Judged j bytes s table path (length moves) from place v → v ≡ Ok tt
+      → Decides (outcome_of (Ok tt) (act j bytes s table path) s table path moves from) r table' path' moves' → Decides (decide j bytes s table path moves from) r table' path' moves'
   decides_past g e h = rw (decide_acts j bytes s table path moves from (sym g.verdict ∙ e)) h

@@ -1,15 +1,14 @@
 -- A path's places noted under its cells' numbers. A note counts only where the place holds the cell, so scratch that was never cleared does no harm:
 -- a cell of the path is always noted, and so a cell that is not noted is new. Assumes nothing.
 use Prim.Native.Nat.{ℕ, suc, ◌+◌, ◌≤◌, ◌<◌}
-use mathlib.Core.Path.{◌≡◌, refl, sym, ap, ap₂, ◌∙◌}
+use mathlib.Core.Path.{◌≡◌, refl, sym, ap, ◌∙◌}
 use mathlib.Core.Logic.{◌⊎◌, inl, inr, ◌≢◌}
-use mathlib.Core.Bool.{Bool, true, false, ◌&&◌}
+use mathlib.Core.Bool.{Bool, true, false}
 use mathlib.Core.List.{List, [], ◌∷◌, ◌++◌, append-nil}
 use native.Mathlib.Nat.{eq-or-lt_of_le}
 use native.Mathlib.Numerals.{add-one}
 use native.Mathlib.Omega.{arith}
-use borrow.Author.Tests.{ltb-true, eqb-true, lt-ltb, le-ltb, eq-eqb}
-use lib.Dec.{ltb, eqb}
+use borrow.Author.Tests.{ltb-true, eqb-true, lt-ltb, eq-eqb}
 use lib.ListN.{length, get_or, set, take, length-set}
 use lib.Seq.{length-take-le, get_or-take, get_or-set_same, get_or-set_other, take-suc-set}
 use Rattle.learning.specs.Path.{before}
@@ -127,15 +126,3 @@ module _ {path place : List ℕ} {n current : ℕ} (o : Open path place n curren
         length = sym (ap (λ l. length (before target l)) split ∙ ap length cut ∙ ap length (sym split) ∙ long ∙ sym (add-one n));
         places = now-noted;
       }
-
--- ---- as code reads a note
-
-module _ (path place : List ℕ) (n c k : ℕ) (at : k ≡ get_or place c 0) where
-  pub noted_is : (x : ℕ) → x ≡ get_or path k 0 → k < n → eqb x c ≡ is_noted path place n c
-  unfolding is_noted
-  noted_is x q h =
-      sym (ap₂ ◌&&◌ (ap (λ i. ltb i n) (sym at) ∙ lt-ltb k n h) (ap (λ i. eqb (get_or path i 0) c) (sym at) ∙ ap (λ y. eqb y c) (sym q)))
-
-  pub noted_past : n ≤ k → false ≡ is_noted path place n c
-  unfolding is_noted
-  noted_past h = sym (ap (λ b. b && eqb (get_or path (get_or place c 0) 0) c) (ap (λ i. ltb i n) (sym at) ∙ le-ltb k n h))

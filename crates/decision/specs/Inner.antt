@@ -5,19 +5,13 @@ use Rattle.answers.specs.declared.Job.{Job}
 use Rattle.answers.specs.declared.State.{State}
 use Rattle.answers.specs.declared.Place.TheVariants as P
 use Rattle.answers.specs.declared.Answer.TheVariants as A
-use Rattle.answers.specs.declared.Verdict.{Verdict}
-use Rattle.answers.specs.declared.Verdict.TheVariants as Vd
-use Rattle.model.specs.Basics.{then}
-use Rattle.model.specs.Checks.{floor_of, sizes, path_room}
+use Rattle.answers.specs.Outcomes.{Verdict}
+use Rattle.std.specs.Prelude.{Ok}
 use Rattle.model.specs.Lookahead.{seen, new_figure, target}
-use Rattle.model.specs.Decision.{Deed, moves_room, state_holds, learn}
+use Rattle.model.specs.Decision.{Deed, state_holds, learn}
 use Rattle.decision.specs.declared.Acted.{Acted}
 use Rattle.model.proofs.Held.{Fair, Sound}
 use Rattle.decision.specs.Ready.{Places}
-
--- the checks 1 and 2, on the lists' lengths
-unfoldable pub lists_fit : Job → List ℕ → (figures places room from : ℕ) → Verdict
-lists_fit j bytes figures places room from = then (sizes (floor_of j bytes) figures) (then (path_room (floor_of j bytes) places) (moves_room room from))
 
 -- whether the cell c is noted among the path's first n: the place under its number is one of theirs, and c stands there
 unfoldable pub is_noted : (path place : List ℕ) → (n c : ℕ) → Bool
@@ -38,7 +32,7 @@ pub record Walked (j : Job) (bytes : List ℕ) (current : ℕ) (path : List ℕ)
 -- the state's check: its verdict, and where it is done the noted places
 pub record Checked (j : Job) (bytes : List ℕ) (s : State) (path place : List ℕ) (v : Verdict) : Type 0 where
   pub verdict : v ≡ state_holds j bytes s path
-  pub places : v ≡ Vd.Done → Places place path s.length
+  pub places : v ≡ Ok tt → Places place path s.length
 
 -- a path that the current cell can be written to
 pub record Open (path place : List ℕ) (n current : ℕ) : Type 0 where

@@ -3,14 +3,15 @@ use Rattle.std.specs.Prelude.{ℕ, ◌*◌, ◌≤◌, ◌<◌, ◌≡◌, true,
 use Rattle.answers.specs.declared.Job.{Job}
 use Rattle.answers.specs.declared.State.{State}
 use Rattle.answers.specs.declared.Decided.{Decided}
-use Rattle.answers.specs.declared.Verdict.{Verdict}
-use Rattle.answers.specs.declared.Verdict.TheVariants as Vd
+use Rattle.answers.specs.Outcomes.{Verdict}
+use Rattle.std.specs.Prelude.{Ok}
 use Rattle.answers.specs.Says.{says_answer}
 use Rattle.model.specs.Floor.{Sized, size, free}
 use Rattle.model.specs.Checks.{ceiling, floor_of, goals, Benched}
 use Rattle.model.specs.Decision.{Deed, Outcome, judge}
 use Rattle.model.proofs.Accepted.{Settings}
 use Rattle.model.proofs.Held.{Fair}
+use Rattle.lookahead.specs.declared.Scratch.{Scratch}
 use Rattle.lookahead.specs.Contract.{Used}
 use Rattle.decision.specs.declared.Acted.{Acted}
 use Rattle.decision.specs.Laying.{way_of, counts, Shown}
@@ -37,7 +38,7 @@ pub record Ready (j : Job) (bytes : List ℕ) (s : State) (table path : List ℕ
 -- A judged call: its verdict, and where it is done the noted places.
 pub record Judged (j : Job) (bytes : List ℕ) (s : State) (table path : List ℕ) (room from : ℕ) (place : List ℕ) (v : Verdict) : Type 0 where
   pub verdict : v ≡ judge j bytes s table path room from
-  pub places : v ≡ Vd.Done → Places place path s.length
+  pub places : v ≡ Ok tt → Places place path s.length
 
 -- The answer, the state, the rise, the cost and the lent lists are those of the model's deed. The moves are not laid nor counted yet, and the answer tells which
 -- they are.
@@ -50,11 +51,11 @@ pub record Acts (j : Job) (bytes : List ℕ) (s : State) (d : Deed) (r : Acted) 
   pub table : table' ≡ d.table
   pub path : path' ≡ d.path
 
--- The scratch lists after a decision serve the next one, and first to lay the moves of this one.
-pub record Serves (j : Job) (bytes : List ℕ) (s : State) (r : Acted) (mark cost list place path : List ℕ) : Type 0 where
-  pub used : Used r.base mark cost list
+-- The scratch after a decision serves the next one, and first to lay the moves of this one.
+pub record Serves (j : Job) (bytes : List ℕ) (s : State) (r : Acted) (scratch : Scratch) (place path : List ℕ) : Type 0 where
+  pub used : Used r.base scratch
   pub places : Places place path r.state.length
-  pub shown : Shown j bytes s.current r.answer r.base mark cost
+  pub shown : Shown j bytes s.current r.answer r.base scratch
 
 -- The public decision's answer and lists are those of the model's outcome.
 pub record Decides (o : Outcome) (r : Decided) (table' path' moves' : List ℕ) : Type 0 where

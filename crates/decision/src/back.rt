@@ -9,7 +9,7 @@ ghost use Rattle.decision.specs.Ready.{Ready, Acts};
 
 use super::Acted;
 use answers::{Answer, Job, State};
-use lookahead::Around;
+use lookahead::Scratch;
 
 // Back to the path's last cell l, in the window that is seen from there. 8: the current cell is not on its last ring.
 fn back_to(
@@ -22,27 +22,28 @@ fn back_to(
     last: usize,
     table: &mut [u32],
     base: u32,
-    mark: &[u32],
-    cost: &[u16],
+    scratch: &Scratch,
 ) -> Acted
-    requires fact_1 { Asked job floor.now l }
-    requires fact_2 { Seen job floor.now l base mark.now cost.now }
-    requires fact_3 { last ≡ (seen job floor.now l).last }
-    requires fact_4 { (last ≤ deepest) × (1 ≤ state.length) × (state.current < length table.old) × (length table.old ≤ 4096) × (figure ≤ highest_new) × (rise ≡ figure - get_or table.old state.current 0) }
-    ensures by_index { (path : List ℕ) → l ≡ get_or path (state.length - 1) 0 → Acts job floor.now state
+    requires asked { Asked job floor.now l }
+    requires seen { Seen job floor.now l base scratch.now }
+    requires last { (last ≡ (seen job floor.now l).last) × (last ≤ deepest) }
+    requires path { 1 ≤ state.length }
+    requires table { (state.current < length table.old) × (length table.old ≤ 4096) }
+    requires risen { (figure ≤ highest_new) × (rise ≡ figure - get_or table.old state.current 0) }
+    ensures acts { (path : List ℕ) → l ≡ get_or path (state.length - 1) 0 → Acts job floor.now state
         (model.go_back job floor.now state table.old path figure) result table.new path }
-    ensures base_value { (result.base ≡ base) × (result.state.length ≤ state.length) × Shown job floor.now state.current result.answer base mark.now cost.now }
+    ensures shown { (result.base ≡ base) × (result.state.length ≤ state.length) × Shown job floor.now state.current result.answer base scratch.now }
 {
     let x = state.current;
-    if !lookahead::on_last(job, floor, l, base, mark, cost, last, x) {
+    if !lookahead::on_last(job, floor, l, base, scratch, last, x) {
         return super::refuse(state, 8, base);
     }
-    let leg = lookahead::leg(job, floor, l, base, mark, cost, x);
+    let leg = lookahead::leg(job, floor, l, base, scratch, x);
     super::steps::store(table, x, figure);
     Acted {
         answer: Answer::BackedOut {
             target: l,
-            rise: rise,
+            rise,
             moves: 0,
         },
         state: State {
@@ -50,9 +51,9 @@ fn back_to(
             learned: state.learned,
             length: state.length - 1,
         },
-        rise: rise,
+        rise,
         cost: leg,
-        base: base,
+        base,
     }
 }
 
@@ -66,36 +67,42 @@ pub(crate) fn go_back(
     table: &mut [u32],
     path: &[u16],
     base: u32,
-    mark: &mut [u32],
-    cost: &mut [u16],
-    list: &mut [u16],
+    scratch: &mut Scratch,
 ) -> Acted
-    requires fact_1 { Ready job floor.now state table.old path.now }
-    requires fact_2 { Used base mark.old cost.old list.old }
-    requires fact_3 { (figure ≤ highest_new) × (rise ≡ figure - get_or table.old state.current 0) }
+    requires ready { Ready job floor.now state table.old path.now }
+    requires used { Used base scratch.old }
+    requires risen { (figure ≤ highest_new) × (rise ≡ figure - get_or table.old state.current 0) }
     ensures acts { Acts job floor.now state (model.go_back job floor.now state table.old path.now figure)
         result table.new path.now }
-    ensures used { Used result.base mark.new cost.new list.new × (result.state.length ≤ state.length)
-        × Shown job floor.now state.current result.answer result.base mark.new cost.new }
+    ensures used { Used result.base scratch.new × (result.state.length ≤ state.length)
+        × Shown job floor.now state.current result.answer result.base scratch.new }
 {
     let length = state.length;
     if length == 0 {
-        let x = state.current;
-        super::steps::store(table, x, figure);
+        super::steps::store(table, state.current, figure);
         return Acted {
-            answer: Answer::Stayed { rise: rise },
-            state: state,
-            rise: rise,
+            answer: Answer::Stayed { rise },
+            state,
+            rise,
             cost: 0,
-            base: base,
+            base,
         };
     }
-    let l = notation::wide16(path[length - 1]);
-    let next = lookahead::renew(base, mark);
-    match lookahead::look(job, floor, l, next, mark, cost, list) {
-        Around::Window { last, n: _ } => back_to(
-            job, floor, state, l, figure, rise, last, table, next, mark, cost,
-        ),
-        Around::Empty => super::refuse(state, 8, next),
-    }
+    let l = usize::from(path[length - 1]);
+    let next = lookahead::renew(base, &mut scratch.mark);
+    let Some(extent) = lookahead::look(job, floor, l, next, scratch) else {
+        return super::refuse(state, 8, next);
+    };
+    back_to(
+        job,
+        floor,
+        state,
+        l,
+        figure,
+        rise,
+        extent.last,
+        table,
+        next,
+        scratch,
+    )
 }

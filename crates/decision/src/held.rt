@@ -7,36 +7,37 @@ ghost use Rattle.model.proofs.Accepted.{Settings};
 ghost use Rattle.decision.specs.Ready.{Places};
 ghost use Rattle.decision.specs.Inner.{is_noted, Stands, Walked, Checked};
 
-use answers::{Job, State, Verdict};
+use answers::{Job, Refusal, State};
+use floor::Floor;
 
 // Whether the cell c is noted among the path's first n.
+#[tactic(auto, unfolding(crate::specs::Inner::is_noted))]
 pub(crate) fn noted(path: &[u16], place: &[u16], n: usize, c: usize) -> bool
-    requires fact_1 { n ≤ length path.now }
-    requires fact_2 { c < length place.now }
+    requires on_path { n ≤ length path.now }
+    requires cell { c < length place.now }
     ensures { result ≡ is_noted path.now place.now n c }
 {
-    let k = notation::wide16(place[c]);
-    if k < n {
-        return notation::wide16(path[k]) == c;
-    }
-    false
+    let k = usize::from(place[c]);
+    k < n && usize::from(path[k]) == c
 }
 
 // Whether the path's cell at i is free, no goal, not the current one and not noted yet; then its place is noted.
-fn stands(job: Job, floor: &[u8], current: usize, path: &[u16], i: usize, place: &mut [u16]) -> bool
-    requires fact_1 { Sized (floor_of job floor.now) }
-    requires fact_2 { (i < length path.now) × (i < 4096) }
-    requires fact_3 { Places place.old path.now i }
-    ensures { Stands job floor.now current path.now i place.new result }
+fn stands(
+    job: Job,
+    floor: &Floor,
+    current: usize,
+    path: &[u16],
+    i: usize,
+    place: &mut [u16],
+) -> bool
+    requires sized { Sized floor.now }
+    requires measured { floor.now ≡ floor_of job floor.now.bytes }
+    requires on_path { (i < length path.now) × (i < 4096) }
+    requires places { Places place.old path.now i }
+    ensures { Stands job floor.now.bytes current path.now i place.new result }
 {
-    let c = notation::wide16(path[i]);
-    if !floor::is_free(job.width, job.height, floor, c) {
-        return false;
-    }
-    if floor::is_goal(job.goals, c) {
-        return false;
-    }
-    if c == current {
+    let c = usize::from(path[i]);
+    if !floor.is_free(c) || floor::is_goal(job.goals, c) || c == current {
         return false;
     }
     if noted(path, place, i, c) {
@@ -49,23 +50,22 @@ fn stands(job: Job, floor: &[u8], current: usize, path: &[u16], i: usize, place:
 // Whether the path's first n cells can be a path that leads to the current cell; then their places are noted.
 fn path_holds(
     job: Job,
-    floor: &[u8],
+    floor: &Floor,
     current: usize,
     path: &[u16],
     n: usize,
     place: &mut [u16],
 ) -> bool
-    requires fact_1 { Sized (floor_of job floor.now) }
-    requires fact_2 { (n ≤ length path.now) × (n ≤ 4096) }
-    requires fact_3 { length place.old ≡ 4096 }
-    ensures { Walked job floor.now current path.now n place.new result }
+    requires sized { Sized floor.now }
+    requires measured { floor.now ≡ floor_of job floor.now.bytes }
+    requires on_path { (n ≤ length path.now) × (n ≤ 4096) }
+    requires room { length place.old ≡ 4096 }
+    ensures { Walked job floor.now.bytes current path.now n place.new result }
 {
-    let mut i = 0;
-    while i < n {
+    for i in 0..n {
         if !stands(job, floor, current, path, i, place) {
             return false;
         }
-        i += 1;
     }
     true
 }
@@ -73,27 +73,23 @@ fn path_holds(
 // 8: u above q × T; path longer than width × height; a path cell off the floor, blocked, a goal, repeated or equal to the current one.
 pub(crate) fn state_holds(
     job: Job,
-    floor: &[u8],
+    floor: &Floor,
     state: State,
     path: &[u16],
     place: &mut [u16],
-) -> Verdict
-    requires fact_1 { Sized (floor_of job floor.now) }
-    requires fact_2 { Settings job }
-    requires fact_3 { size (floor_of job floor.now) ≤ length path.now }
-    requires fact_4 { length place.old ≡ 4096 }
-    ensures { Checked job floor.now state path.now place.new result }
+) -> Result<(), Refusal>
+    requires measured { floor.now ≡ floor_of job floor.now.bytes }
+    requires settings { Settings job }
+    requires wide { size floor.now ≤ length path.now }
+    requires room { length place.old ≡ 4096 }
+    ensures { Checked job floor.now.bytes state path.now place.new result }
 {
-    if job.q * job.quota < state.learned {
-        return checks::refuse(8);
-    }
     let n = state.length;
-    if floor.len() < n {
-        return checks::refuse(8);
+    if job.q * job.quota < state.learned || floor.cells() < n {
+        return Err(Refusal::numbered(8));
     }
-    let current = state.current;
-    if !path_holds(job, floor, current, path, n, place) {
-        return checks::refuse(8);
+    if !path_holds(job, floor, state.current, path, n, place) {
+        return Err(Refusal::numbered(8));
     }
-    Verdict::Done
+    Ok(())
 }

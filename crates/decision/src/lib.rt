@@ -7,17 +7,17 @@ mod held;
 mod moves;
 mod steps;
 
-ghost use Rattle.std.specs.Prelude.{◌≡◌, ◌&&◌, ◌+◌, ◌-◌, ◌≤◌, ltb, length};
+ghost use Rattle.std.specs.Prelude.{◌≡◌, ◌&&◌, ◌+◌, ◌≤◌, ltb, length, Ok};
 ghost use Rattle.model.specs.Checks.{ceiling};
 ghost use Rattle.model.specs.Decision as model;
 ghost use Rattle.model.specs.Decision.{least_room};
 ghost use Rattle.lookahead.specs.Contract.{Fresh, Used, Asked, Window};
 ghost use Rattle.decision.specs.Ready.{Ready, Places, Judged, Acts, Serves, Decides};
-ghost use Rattle.decision.specs.Inner.{lists_fit, refusing, learns};
+ghost use Rattle.decision.specs.Inner.{refusing, learns};
 
-use answers::{Answer, Decided, Job, Place, Refusal, State, Verdict};
+use answers::{Answer, Decided, Job, Refusal, State};
 use floor::CEILING;
-use lookahead::Around;
+use lookahead::{Extent, Scratch};
 pub use moves::lay;
 
 // How many places a decision needs for its moves.
@@ -35,38 +35,13 @@ pub struct Acted {
 }
 
 // 2: fewer than 288 places left for moves.
-fn moves_room(room: usize, from: usize) -> Verdict
+fn moves_room(room: usize, from: usize) -> Result<(), Refusal>
     ensures { result ≡ model.moves_room room from }
 {
-    if room < LEAST_ROOM {
-        return checks::refuse(2);
+    if room < LEAST_ROOM || room - LEAST_ROOM < from {
+        return Err(Refusal::numbered(2));
     }
-    if room - LEAST_ROOM < from {
-        return checks::refuse(2);
-    }
-    Verdict::Done
-}
-
-// The checks 1 and 2, on the lists' lengths.
-fn lists_fit(
-    job: Job,
-    floor: &[u8],
-    figures: usize,
-    places: usize,
-    room: usize,
-    from: usize,
-) -> Verdict
-    ensures { result ≡ lists_fit job floor.now figures places room from }
-{
-    let v = checks::sizes(job.width, job.height, floor, figures);
-    let Verdict::Done = v else {
-        return v;
-    };
-    let v = checks::path_room(figures, places);
-    let Verdict::Done = v else {
-        return v;
-    };
-    moves_room(room, from)
+    Ok(())
 }
 
 // The checks ahead of the lookahead, in their order; where they all pass, the path's places are noted.
@@ -79,32 +54,18 @@ fn judge(
     room: usize,
     from: usize,
     place: &mut [u16],
-) -> Verdict
+) -> Result<(), Refusal>
     requires { length place.old ≡ 4096 }
     ensures { Judged job floor.now state table.now path.now room from place.new result }
 {
-    let v = lists_fit(job, floor, table.len(), path.len(), room, from);
-    let Verdict::Done = v else {
-        return v;
-    };
-    let v = checks::settings(job);
-    let Verdict::Done = v else {
-        return v;
-    };
-    let current = state.current;
-    let v = checks::places(job.width, job.height, floor, current, job.goals);
-    let Verdict::Done = v else {
-        return v;
-    };
-    let v = checks::goals_hold(job.goals);
-    let Verdict::Done = v else {
-        return v;
-    };
-    let v = checks::figures(table);
-    let Verdict::Done = v else {
-        return v;
-    };
-    held::state_holds(job, floor, state, path, place)
+    let floor = checks::sizes(job.width, job.height, floor, table.len())?;
+    checks::path_room(table.len(), path.len())?;
+    moves_room(room, from)?;
+    checks::settings(job)?;
+    checks::places(&floor, state.current, job.goals)?;
+    checks::goals_hold(job.goals)?;
+    checks::figures(table)?;
+    held::state_holds(job, &floor, state, path, place)
 }
 
 // A decision past the checks that is refused after all: nothing changes.
@@ -112,14 +73,11 @@ fn refuse(state: State, number: usize, base: u32) -> Acted
     ensures { result ≡ refusing state number base }
 {
     Acted {
-        answer: Answer::Refused(Refusal {
-            number: number,
-            place: Place::Nowhere,
-        }),
-        state: state,
+        answer: Answer::Refused(Refusal::numbered(number)),
+        state,
         rise: 0,
         cost: 0,
-        base: base,
+        base,
     }
 }
 
@@ -127,19 +85,7 @@ fn refuse(state: State, number: usize, base: u32) -> Acted
 fn too_high(old: usize, figure: usize) -> bool
     ensures { result ≡ (ltb old figure && ltb ceiling figure) }
 {
-    if figure <= old {
-        return false;
-    }
-    CEILING < figure
-}
-
-fn rise_of(old: usize, figure: usize) -> usize
-    ensures { result ≡ figure - old }
-{
-    if figure <= old {
-        return 0;
-    }
-    figure - old
+    old < figure && CEILING < figure
 }
 
 // In a window that is worked out: the new figure and the target, and by the quota forward or back.
@@ -147,36 +93,33 @@ fn learn(
     job: Job,
     floor: &[u8],
     state: State,
-    n: usize,
-    last: usize,
+    extent: Extent,
     table: &mut [u32],
     path: &mut [u16],
     base: u32,
-    mark: &mut [u32],
-    cost: &mut [u16],
-    list: &mut [u16],
+    scratch: &mut Scratch,
     place: &mut [u16],
 ) -> Acted
-    requires fact_1 { Ready job floor.now state table.old path.old }
-    requires fact_2 { Asked job floor.now state.current }
-    requires fact_3 { Window job floor.now state.current base mark.old cost.old list.old n last }
-    requires fact_4 { Places place.old path.old state.length }
+    requires ready { Ready job floor.now state table.old path.old }
+    requires asked { Asked job floor.now state.current }
+    requires window { Window job floor.now state.current base scratch.old extent }
+    requires places { Places place.old path.old state.length }
     ensures acts { Acts job floor.now state (learns job floor.now state table.old path.old)
         result table.new path.new }
-    ensures serves { Serves job floor.now state result mark.new cost.new list.new place.new path.new }
+    ensures serves { Serves job floor.now state result scratch.new place.new path.new }
 {
     let s = state.current;
-    let aim = lookahead::aim(job, floor, s, table, base, mark, cost, list, n, last);
-    let old = notation::wide32(table[s]);
+    let aim = lookahead::aim(job, floor, s, table, base, scratch, extent);
+    let old = table[s] as usize;
     if too_high(old, aim.figure) {
         return refuse(state, 10, base);
     }
-    let rise = rise_of(old, aim.figure);
+    let rise = aim.figure.saturating_sub(old);
     if state.learned + rise <= job.q * job.quota {
         return steps::forward(job, floor, state, aim, rise, table, path, base, place);
     }
     back::go_back(
-        job, floor, state, aim.figure, rise, table, path, base, mark, cost, list,
+        job, floor, state, aim.figure, rise, table, path, base, scratch,
     )
 }
 
@@ -188,29 +131,24 @@ fn go(
     table: &mut [u32],
     path: &mut [u16],
     base: u32,
-    mark: &mut [u32],
-    cost: &mut [u16],
-    list: &mut [u16],
+    scratch: &mut Scratch,
     place: &mut [u16],
 ) -> Acted
-    requires fact_1 { Ready job floor.now state table.old path.old }
-    requires fact_2 { Asked job floor.now state.current }
-    requires fact_3 { Fresh base mark.old cost.old list.old }
-    requires fact_4 { Places place.old path.old state.length }
+    requires ready { Ready job floor.now state table.old path.old }
+    requires asked { Asked job floor.now state.current }
+    requires fresh { Fresh base scratch.old }
+    requires places { Places place.old path.old state.length }
     ensures acts { Acts job floor.now state (model.act job floor.now state table.old path.old)
         result table.new path.new }
-    ensures serves { Serves job floor.now state result mark.new cost.new list.new place.new path.new }
+    ensures serves { Serves job floor.now state result scratch.new place.new path.new }
 {
-    let s = state.current;
-    match lookahead::look(job, floor, s, base, mark, cost, list) {
-        Around::Window { last, n } => learn(
-            job, floor, state, n, last, table, path, base, mark, cost, list, place,
-        ),
-        Around::Empty => refuse(state, 9, base),
-    }
+    let Some(extent) = lookahead::look(job, floor, state.current, base, scratch) else {
+        return refuse(state, 9, base);
+    };
+    learn(job, floor, state, extent, table, path, base, scratch, place)
 }
 
-// A decision past the checks. Scratch is lent: `mark`, `cost` and `list` are the lookahead's, and `place` has the path's places.
+// A decision past the checks. Scratch is lent: `scratch` is the lookahead's, and `place` has the path's places.
 // Its moves can be laid after it, by `lay`, from what it leaves there.
 pub fn act(
     job: Job,
@@ -219,31 +157,27 @@ pub fn act(
     table: &mut [u32],
     path: &mut [u16],
     base: u32,
-    mark: &mut [u32],
-    cost: &mut [u16],
-    list: &mut [u16],
+    scratch: &mut Scratch,
     place: &mut [u16],
 ) -> Acted
-    requires fact_1 { Ready job floor.now state table.old path.old }
-    requires fact_2 { Used base mark.old cost.old list.old }
-    requires fact_3 { Places place.old path.old state.length }
+    requires ready { Ready job floor.now state table.old path.old }
+    requires used { Used base scratch.old }
+    requires places { Places place.old path.old state.length }
     ensures acts { Acts job floor.now state (model.act job floor.now state table.old path.old)
         result table.new path.new }
-    ensures serves { Serves job floor.now state result mark.new cost.new list.new place.new path.new }
+    ensures serves { Serves job floor.now state result scratch.new place.new path.new }
 {
     if floor::is_goal(job.goals, state.current) {
         return Acted {
             answer: Answer::Arrived,
-            state: state,
+            state,
             rise: 0,
             cost: 0,
-            base: base,
+            base,
         };
     }
-    let next = lookahead::renew(base, mark);
-    go(
-        job, floor, state, table, path, next, mark, cost, list, place,
-    )
+    let next = lookahead::renew(base, &mut scratch.mark);
+    go(job, floor, state, table, path, next, scratch, place)
 }
 
 // A decision that was let through and its moves, with the lookahead's scratch in its frame.
@@ -257,34 +191,27 @@ fn decide_past(
     from: usize,
     place: &mut [u16],
 ) -> Decided
-    requires fact_1 { Ready job floor.now state table.old path.old }
-    requires fact_2 { from + least_room ≤ length moves.old }
-    requires fact_3 { Places place.old path.old state.length }
-    ensures { Decides (model.outcome_of Verdict.Done (model.act job floor.now state table.old path.old) state
+    requires ready { Ready job floor.now state table.old path.old }
+    requires room { from + least_room ≤ length moves.old }
+    requires places { Places place.old path.old state.length }
+    ensures { Decides (model.outcome_of (Ok tt) (model.act job floor.now state table.old path.old) state
         table.old path.old moves.old from) result table.new path.new moves.new }
 {
-    let mut mark = [0u32; 4096];
-    let mut cost = [0u16; 4096];
-    let mut list = [0u16; 8192];
-    let r = act(
-        job, floor, state, table, path, 1, &mut mark, &mut cost, &mut list, place,
-    );
-    let answer = r.answer;
+    let mut scratch = Scratch::new();
+    let acted = act(job, floor, state, table, path, 1, &mut scratch, place);
     let n = lay(
         job,
         floor,
         state.current,
-        answer,
-        r.base,
-        &mark,
-        &cost,
+        acted.answer,
+        acted.base,
+        &scratch,
         moves,
         from,
     );
-    let after = r.state;
     Decided {
-        answer: moves::count(answer, n),
-        state: after,
+        answer: moves::count(acted.answer, n),
+        state: acted.state,
     }
 }
 
@@ -304,10 +231,10 @@ pub fn decide(
     let mut place = [0u16; 4096];
     let room = moves.len();
     match judge(job, floor, state, table, path, room, from, &mut place) {
-        Verdict::Refused(r) => Decided {
+        Ok(()) => decide_past(job, floor, state, table, path, moves, from, &mut place),
+        Err(r) => Decided {
             answer: Answer::Refused(r),
-            state: state,
+            state,
         },
-        Verdict::Done => decide_past(job, floor, state, table, path, moves, from, &mut place),
     }
 }

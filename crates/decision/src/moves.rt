@@ -7,6 +7,7 @@ ghost use Rattle.decision.specs.Laying.{way_back, way_of, counts, Shown, Lays};
 
 use super::LEAST_ROOM;
 use answers::{Answer, Job};
+use lookahead::Scratch;
 
 // The moves of the route from s to the cell x of the window go into the lent list from the place named; their number.
 fn lay_there(
@@ -14,20 +15,19 @@ fn lay_there(
     floor: &[u8],
     s: usize,
     base: u32,
-    mark: &[u32],
-    cost: &[u16],
+    scratch: &Scratch,
     x: usize,
     moves: &mut [u8],
     from: usize,
 ) -> usize
-    requires fact_1 { Asked job floor.now s }
-    requires fact_2 { Seen job floor.now s base mark.now cost.now }
-    requires fact_3 { Near job floor.now s x }
-    requires fact_4 { from + least_room ≤ length moves.old }
+    requires asked { Asked job floor.now s }
+    requires seen { Seen job floor.now s base scratch.now }
+    requires near { Near job floor.now s x }
+    requires room { from + least_room ≤ length moves.old }
     ensures { Lays moves.old from (moves_to job floor.now s x) moves.new result }
 {
     let end = from + LEAST_ROOM;
-    lookahead::trace(job, floor, s, base, mark, cost, x, &mut moves[from..end])
+    lookahead::trace(job, floor, s, base, scratch, x, &mut moves[from..end])
 }
 
 // The move that goes back.
@@ -40,14 +40,12 @@ fn opposed(m: u8) -> u8
 
 // Writes the first n moves of there, the last one first and each turned round, over the first n places of part.
 fn turn(there: &[u8], n: usize, part: &mut [u8])
-    requires fact_1 { (n ≤ length there.now) × (n ≤ length part.old) }
-    requires fact_2 { ((i : ℕ) → i < n → get_or there.now i 0 < 8) }
+    requires room { (n ≤ length there.now) × (n ≤ length part.old) }
+    requires moves { ((i : ℕ) → i < n → get_or there.now i 0 < 8) }
     ensures { part.new ≡ map opposite (reverse (take n there.now)) ++ drop n part.old }
 {
-    let mut k = 0;
-    while k < n {
+    for k in 0..n {
         part[k] = opposed(there[n - 1 - k]);
-        k += 1;
     }
 }
 
@@ -57,20 +55,19 @@ fn lay_back(
     floor: &[u8],
     l: usize,
     base: u32,
-    mark: &[u32],
-    cost: &[u16],
+    scratch: &Scratch,
     x: usize,
     moves: &mut [u8],
     from: usize,
 ) -> usize
-    requires fact_1 { Asked job floor.now l }
-    requires fact_2 { Seen job floor.now l base mark.now cost.now }
-    requires fact_3 { Near job floor.now l x }
-    requires fact_4 { from + least_room ≤ length moves.old }
+    requires asked { Asked job floor.now l }
+    requires seen { Seen job floor.now l base scratch.now }
+    requires near { Near job floor.now l x }
+    requires room { from + least_room ≤ length moves.old }
     ensures { Lays moves.old from (way_back job floor.now l x) moves.new result }
 {
     let mut there = [0u8; LEAST_ROOM];
-    let n = lookahead::trace(job, floor, l, base, mark, cost, x, &mut there);
+    let n = lookahead::trace(job, floor, l, base, scratch, x, &mut there);
     let end = from + LEAST_ROOM;
     turn(&there, n, &mut moves[from..end]);
     n
@@ -83,29 +80,22 @@ pub fn lay(
     s: usize,
     answer: Answer,
     base: u32,
-    mark: &[u32],
-    cost: &[u16],
+    scratch: &Scratch,
     moves: &mut [u8],
     from: usize,
 ) -> usize
-    requires fact_1 { Shown job floor.now s answer base mark.now cost.now }
-    requires fact_2 { from + least_room ≤ length moves.old }
+    requires shown { Shown job floor.now s answer base scratch.now }
+    requires room { from + least_room ≤ length moves.old }
     ensures { Lays moves.old from (way_of job floor.now s answer) moves.new result }
 {
     match answer {
-        Answer::Forward {
-            target,
-            rise: _,
-            moves: _,
-        } => lay_there(job, floor, s, base, mark, cost, target, moves, from),
-        Answer::BackedOut {
-            target,
-            rise: _,
-            moves: _,
-        } => lay_back(job, floor, target, base, mark, cost, s, moves, from),
-        Answer::Arrived => 0,
-        Answer::Stayed { rise: _ } => 0,
-        Answer::Refused(_) => 0,
+        Answer::Forward { target, .. } => {
+            lay_there(job, floor, s, base, scratch, target, moves, from)
+        }
+        Answer::BackedOut { target, .. } => {
+            lay_back(job, floor, target, base, scratch, s, moves, from)
+        }
+        Answer::Arrived | Answer::Stayed { .. } | Answer::Refused(_) => 0,
     }
 }
 
@@ -114,26 +104,16 @@ pub(crate) fn count(answer: Answer, n: usize) -> Answer
     ensures { result ≡ counts answer n }
 {
     match answer {
-        Answer::Forward {
+        Answer::Forward { target, rise, .. } => Answer::Forward {
             target,
             rise,
-            moves: _,
-        } => Answer::Forward {
-            target: target,
-            rise: rise,
             moves: n,
         },
-        Answer::BackedOut {
+        Answer::BackedOut { target, rise, .. } => Answer::BackedOut {
             target,
             rise,
-            moves: _,
-        } => Answer::BackedOut {
-            target: target,
-            rise: rise,
             moves: n,
         },
-        Answer::Arrived => Answer::Arrived,
-        Answer::Stayed { rise } => Answer::Stayed { rise: rise },
-        Answer::Refused(r) => Answer::Refused(r),
+        _ => answer,
     }
 }

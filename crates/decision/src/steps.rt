@@ -15,22 +15,21 @@ pub(crate) fn store(table: &mut [u32], cell: usize, figure: usize)
     requires { (cell < length table.old) × (figure ≤ highest_new) }
     ensures { table.new ≡ model.stored table.old cell figure }
 {
-    if figure <= notation::wide32(table[cell]) {
-        return;
+    if (table[cell] as usize) < figure {
+        table[cell] = figure as u32;
     }
-    table[cell] = figure as u32;
 }
 
 // The current cell is written after the path's last, and its place noted. Where the target is on the path, the path is cut there. The new length.
 fn extend(path: &mut [u16], place: &mut [u16], n: usize, current: usize, target: usize) -> usize
-    requires fact_1 { Open path.old place.old n current }
-    requires fact_2 { target < 4096 }
+    requires writable { Open path.old place.old n current }
+    requires target { target < 4096 }
     ensures { Extended path.old n current target path.new place.new result }
 {
     path[n] = current as u16;
     place[current] = n as u16;
     if super::held::noted(path, place, n + 1, target) {
-        return notation::wide16(place[target]);
+        return usize::from(place[target]);
     }
     n + 1
 }
@@ -47,14 +46,15 @@ pub(crate) fn forward(
     base: u32,
     place: &mut [u16],
 ) -> Acted
-    requires fact_1 { Ready job floor.now state table.old path.old }
-    requires fact_2 { Asked job floor.now state.current }
-    requires fact_3 { Aimed job floor.now state.current table.old aim }
-    requires fact_4 { (rise ≡ aim.figure - get_or table.old state.current 0) × Places place.old path.old state.length }
+    requires ready { Ready job floor.now state table.old path.old }
+    requires asked { Asked job floor.now state.current }
+    requires aimed { Aimed job floor.now state.current table.old aim }
+    requires risen { rise ≡ aim.figure - get_or table.old state.current 0 }
+    requires places { Places place.old path.old state.length }
     ensures acts { Acts job floor.now state
         (model.forward job floor.now state (seen job floor.now state.current) table.old path.old aim.figure aim.target)
         result table.new path.new }
-    ensures base_value { (result.base ≡ base) × (result.answer ≡ Answer.Forward aim.target rise 0) × Places place.new path.new result.state.length }
+    ensures places { (result.base ≡ base) × (result.answer ≡ Answer.Forward aim.target rise 0) × Places place.new path.new result.state.length }
 {
     let s = state.current;
     let n = state.length;
@@ -63,17 +63,17 @@ pub(crate) fn forward(
     store(table, s, aim.figure);
     Acted {
         answer: Answer::Forward {
-            target: target,
-            rise: rise,
+            target,
+            rise,
             moves: 0,
         },
         state: State {
             current: target,
             learned: state.learned + rise,
-            length: length,
+            length,
         },
-        rise: rise,
+        rise,
         cost: aim.leg,
-        base: base,
+        base,
     }
 }

@@ -9,6 +9,7 @@ use native.Mathlib.Nat.{add-mul, suc-mul, mul-le-mul_right, mul_comm, mod-lt}
 use borrow.Author.Tests.{lt-ltb, le-ltb, ltb-true, not-true, not-false}
 use lib.Dec.{eqb, ltb, lit≤}
 use lib.ListN.{length, get_or}
+use Rattle.std.specs.Prelude.{None}
 use Rattle.model.specs.Basics.{choose}
 use Rattle.model.specs.Floor.{Floor, Sized, size, column, row, blocked_byte, slow_byte, free_byte, free, slow, straight, diagonal, doubled, slowly, corner, clear, price, ahead, allowed, east, south}
 use Rattle.model.specs.Grounds.{clear-true}
@@ -16,8 +17,7 @@ use Rattle.model.proofs.Cells.{cell-lt, row_lt, cell_at}
 use Rattle.model.proofs.Moves.{all8, toll, east-le, south-le, Inside, free-below, sized-cells, ahead-lt, corner-beside, corner-across}
 use Rattle.model.proofs.Moves.{allowed-inside, allowed-free, allowed_corners, allowed-true, price-ahead}
 use Rattle.floor.specs.declared.Spot.{Spot}
-use Rattle.floor.specs.declared.Step.TheVariants.{To, Wall}
-use Rattle.floor.specs.Moves.{step_of, north_byte, west_byte, east_byte, south_byte, Placed, Clear, RowClear, ColumnClear, Unless, ahead_byte}
+use Rattle.floor.specs.Moves.{to, step_of, north_byte, west_byte, east_byte, south_byte, Placed, Clear, RowClear, ColumnClear, Unless, ahead_byte}
 
 -- the eight moves by tests: how far each goes, which byte it leads to, and what it costs
 pub east_by : (m : ℕ) → m < 8 → cond (eqb (m % 4) 0) 1 (cond (ltb m 4) 2 0) ≡ east m
@@ -230,11 +230,11 @@ module _ {f : Floor} {x : ℕ} {at : Spot} (z : Sized f) (P : Placed f x at) (m 
     ahead-sum = omega (arith, moved f.width (column f x) (row f x) (east m) (south m) i.west i.north, cell_at f.width x)
 
   -- a move that is not allowed is a wall
-  wall : (allowed f x m ≡ true → ⊥) → Wall ≡ step_of f x m
+  wall : (allowed f x m ≡ true → ⊥) → None ≡ step_of f x m
   unfolding step_of
   wall n = go (allowed f x m) n
     where
-      go : (t : Bool) → (t ≡ true → ⊥) → Wall ≡ choose t (To (ahead f x m) (price f x (ahead f x m))) Wall
+      go : (t : Bool) → (t ≡ true → ⊥) → None ≡ choose t (to (ahead f x m) (price f x (ahead f x m))) None
       go true n = absurd (n refl)
       go false n = refl
 
@@ -270,10 +270,10 @@ module _ {f : Floor} {x : ℕ} {at : Spot} (z : Sized f) (P : Placed f x at) (m 
     allowed-byte : (d : ℕ) → y ≡ d → free_byte (get_or f.bytes d 0) ≡ true
     allowed-byte d q = byte-free y d q (allowed-free f z x m e)
 
-  pub wall_row : (RowClear at m → ⊥) → Wall ≡ step_of f x m
+  pub wall_row : (RowClear at m → ⊥) → None ≡ step_of f x m
   wall_row n = wall (λ e. n (allowed-row e))
 
-  pub wall_column : (ColumnClear at m → ⊥) → Wall ≡ step_of f x m
+  pub wall_column : (ColumnClear at m → ⊥) → None ≡ step_of f x m
   wall_column n = wall (λ e. n (allowed-column e))
 
   -- with them the straight cells beside the move are free
@@ -321,7 +321,7 @@ module _ {f : Floor} {x : ℕ} {at : Spot} (z : Sized f) (P : Placed f x at) (m 
           same q = ap (λ c. get_or f.bytes c 0) q
 
       -- where that is blocked there is a wall
-      pub wall_ahead : (b : ℕ) → b ≡ ahead_byte at m (get_or f.bytes d 0) → free_byte b ≡ false → Wall ≡ step_of f x m
+      pub wall_ahead : (b : ℕ) → b ≡ ahead_byte at m (get_or f.bytes d 0) → free_byte b ≡ false → None ≡ step_of f x m
       wall_ahead b q n = wall (λ h. true≢false (sym (allowed-byte h d ahead_is) ∙ ap free_byte (sym (q ∙ byte-ahead)) ∙ n))
 
       -- with all that it needs free the move leads there, at its toll, doubled where a byte is slow
@@ -336,9 +336,9 @@ module _ {f : Floor} {x : ℕ} {at : Spot} (z : Sized f) (P : Placed f x at) (m 
         unfolding slow
         pays = ap₂ (λ h t. doubled (eqb h slow_byte || eqb t slow_byte) (toll m)) P.here (is ∙ ap (λ c. get_or f.bytes c 0) (sym ahead_is))
 
-        pub step_to : (v : ℕ) → v ≡ doubled (eqb at.here slow_byte || eqb b slow_byte) (toll m) → To d v ≡ step_of f x m
+        pub step_to : (v : ℕ) → v ≡ doubled (eqb at.here slow_byte || eqb b slow_byte) (toll m) → to d v ≡ step_of f x m
         unfolding step_of
         step_to v q =
             let o : clear f x y ≡ true = clear-true f x y P.free ahead-free beside-free across-free in
-            ap (To d) (q ∙ pays)
-            ∙ sym (ap (λ t. choose t (To (ahead f x m) (price f x (ahead f x m))) Wall) (allowed-true f z x m l inside o) ∙ ap₂ To ahead_is (price-ahead f z x m l inside o))
+            ap (to d) (q ∙ pays)
+            ∙ sym (ap (λ t. choose t (to (ahead f x m) (price f x (ahead f x m))) None) (allowed-true f z x m l inside o) ∙ ap₂ to ahead_is (price-ahead f z x m l inside o))

@@ -10,6 +10,7 @@ use borrow.Author.Count.{below_more}
 use borrow.Author.Tests.{eq-eqb, ne_eqb, eqb-true, not-true, not-false}
 use lib.Dec.{eqb}
 use lib.ListN.{length, get_or, get_or-eq_default}
+use Rattle.std.specs.Prelude.{Option, Some, None}
 use Rattle.model.specs.Basics.{choose, member}
 use Rattle.model.specs.Floor as model
 use Rattle.model.specs.Floor.{Floor, Sized, slow_byte, free, doubled, slowly, least_price, dearest_price, price, ahead, allowed, heading, opposite}
@@ -17,8 +18,8 @@ use Rattle.model.specs.Grounds.{price-low, price-high}
 use Rattle.model.proofs.Lists.{member_at, no_member}
 use Rattle.model.proofs.Meaning.{price_means}
 use Rattle.model.proofs.Moves.{toll, all8, price-toll, allowed-inside, allowed_some, allowed-free, free_few, opposite-ahead, opposite-allowed, opposite-lt, price-move, heading_is}
-use Rattle.floor.specs.declared.Step.TheVariants.{To, Wall}
-use Rattle.floor.specs.Moves.{all_kinds, kinds, cost, can_cost, Counted, plain, slow, step_of}
+use Rattle.floor.specs.declared.Step.{Step}
+use Rattle.floor.specs.Moves.{all_kinds, kinds, cost, can_cost, Counted, plain, slow, to, step_of}
 
 -- a negated test that the code made, of what the model says
 pub not_so : {r b : Bool} → r ≡ b → not r ≡ true → b ≡ false
@@ -27,14 +28,17 @@ not_so e t = sym e ∙ not-true _ t
 pub is_so : {r b : Bool} → r ≡ b → not r ≡ false → b ≡ true
 is_so e t = sym e ∙ not-false _ t
 
-pub wall≢to : (d v : ℕ) → Wall ≡ To d v → ⊥
+pub wall≢to : (d v : ℕ) → ◌≡◌ {A = Option Step} None (to d v) → ⊥
 wall≢to d v e = let z : ◌≡◌ {A = ℕ} 0 1 = cc in omega arith
 
-pub same_to : {a b v u : ℕ} → To a v ≡ To b u → (a ≡ b) × (v ≡ u)
-same_to e = (cc, cc)
+same_step : {r s : Step} → ◌≡◌ {A = Option Step} (Some r) (Some s) → r ≡ s
+same_step e = cc
 
-chosen : (t : Bool) (a v d u : ℕ) → choose t (To a v) Wall ≡ To d u → (t ≡ true) × (a ≡ d) × (v ≡ u)
-chosen true a v d u e = (refl, cc, cc)
+pub same_to : {a b v u : ℕ} → to a v ≡ to b u → (a ≡ b) × (v ≡ u)
+same_to e = let s = same_step e in (ap (λ k. k.cell) s, ap (λ k. k.cost) s)
+
+chosen : (t : Bool) (a v d u : ℕ) → choose t (to a v) None ≡ to d u → (t ≡ true) × (a ≡ d) × (v ≡ u)
+chosen true a v d u e = let s = same_to e in (refl, s.0, s.1)
 chosen false a v d u e = absurd (wall≢to d u e)
 
 -- what a step to d at cost v says
@@ -48,7 +52,7 @@ pub record Stepped (f : Floor) (x m d v : ℕ) : Type 0 where
   pub few : d < 4096
 
 module _ (f : Floor) (z : Sized f) (x m d v : ℕ) where
-  pub stepped : step_of f x m ≡ To d v → Stepped f x m d v
+  pub stepped : step_of f x m ≡ to d v → Stepped f x m d v
   unfolding step_of
   stepped e =
       let (t, a, p) = chosen (allowed f x m) (ahead f x m) (price f x (ahead f x m)) d v e in
@@ -64,18 +68,18 @@ module _ (f : Floor) (z : Sized f) (x m d v : ℕ) where
       }
 
   -- the move from d that goes back is the heading
-  pub step-heading : m < 8 → step_of f x m ≡ To d v → opposite m ≡ heading f d x
+  pub step-heading : m < 8 → step_of f x m ≡ to d v → opposite m ≡ heading f d x
   step-heading l e =
       let s = stepped e in
       let t = sym (heading_is f z (ahead f x m) (opposite m) (opposite-lt m l) (opposite-allowed f z x m l s.allowed)) in
       t ∙ ap (heading f (ahead f x m)) (opposite-ahead f z x m l s.allowed) ∙ ap (λ k. heading f k x) s.cell
 
 -- each price is a step's
-pub price-step : (f : Floor) → Sized f → (x d : ℕ) → 1 ≤ price f x d → (m : ℕ) × (m < 8) × (step_of f x m ≡ To d (price f x d))
+pub price-step : (f : Floor) → Sized f → (x d : ℕ) → 1 ≤ price f x d → (m : ℕ) × (m < 8) × (step_of f x m ≡ to d (price f x d))
 unfolding step_of
 price-step f z x d h =
     let (m, l, t, a) = price-move f z x d h in
-    (m, l, ap (λ k. choose k (To (ahead f x m) (price f x (ahead f x m))) Wall) t ∙ ap (λ k. To k (price f x k)) a)
+    (m, l, ap (λ k. choose k (to (ahead f x m) (price f x (ahead f x m))) None) t ∙ ap (λ k. to k (price f x k)) a)
 
 -- ---- the costs
 
@@ -172,7 +176,7 @@ price-cost f z a b h =
     (kind_of (slowly f a b) m, kind-lt f a b m, p ∙ toll-cost (slowly f a b) m l)
 
 -- and a move has none that it cannot have
-pub step_can : {f : Floor} → Sized f → (x m b k : ℕ) → m < 8 → k < all_kinds → step_of f x m ≡ To b (cost k) → can_cost m k ≡ true
+pub step_can : {f : Floor} → Sized f → (x m b k : ℕ) → m < 8 → k < all_kinds → step_of f x m ≡ to b (cost k) → can_cost m k ≡ true
 step_can {f} z x m b k l h e =
     let u = stepped f z x m b (cost k) e in
     let paid = price-toll f z x m l (allowed-inside f z x m u.allowed) (allowed_some f z x m u.allowed) in

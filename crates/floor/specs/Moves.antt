@@ -1,18 +1,20 @@
 -- One move as code finds it: the model's `allowed`, `ahead` and `price` as one answer.
-use Rattle.std.specs.Prelude.{◌≡◌, Bool, true, false, List, [], ◌∷◌, ℕ, ◌+◌, ◌-◌, ◌%◌, ◌≤◌, ◌<◌, ltb, eqb, length, get_or}
+use Rattle.std.specs.Prelude.{◌≡◌, Bool, true, false, List, [], ◌∷◌, ℕ, ◌+◌, ◌-◌, ◌%◌, ◌≤◌, ◌<◌, ltb, eqb, length, get_or, Option, Some, None}
 use Rattle.model.specs.Basics.{choose, member}
 use Rattle.model.specs.Floor.{Floor, column, row, blocked_byte, slow_byte, free_byte, free, straight, diagonal, doubled, price, east, south, ahead, allowed}
 use Rattle.floor.specs.declared.Spot.{Spot}
 use Rattle.floor.specs.declared.Step.{Step}
-use Rattle.floor.specs.declared.Step.TheVariants.{To, Wall}
 
 -- a floor from its plain parts
 abbrev pub flat : (width height : ℕ) → List ℕ → Floor
 flat width height bytes = record { width = width; height = height; bytes = bytes }
 
 -- the move m from x: the cell that it leads to and its cost, or nothing that may be moved into
-unfoldable pub step_of : Floor → ℕ → ℕ → Step
-step_of f x m = choose (allowed f x m) (To (ahead f x m) (price f x (ahead f x m))) Wall
+abbrev pub to : ℕ → ℕ → Option Step
+to cell cost = Some (record { cell = cell; cost = cost })
+
+unfoldable pub step_of : Floor → ℕ → ℕ → Option Step
+step_of f x m = choose (allowed f x m) (to (ahead f x m) (price f x (ahead f x m))) None
 
 -- what a move can cost, as one short list: straight and diagonal, and both where it is slow; how many costs that are, and the k-th of them
 abbrev pub costs : List ℕ

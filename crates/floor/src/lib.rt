@@ -1,23 +1,43 @@
-// The floor: one move with its cost, and whether a cell is free; in `goals`, which cells are goals and the opening figure of a cell.
+// The floor that is lent: one move with its cost, and whether a cell is free; in `goals`, which cells are goals and the opening figure of a cell.
 
 #![tactic(auto)]
 
 mod goals;
 
-ghost use Rattle.std.specs.Prelude.{◌≡◌, true, ◌||◌, ◌<◌, ◌≤◌, ◌*◌, eqb, length, get_or};
+ghost use Rattle.std.specs.Prelude.{◌≡◌, true, ◌||◌, ◌<◌, ◌≤◌, eqb, length, get_or};
 ghost use Rattle.model.specs.Basics.{choose};
-ghost use Rattle.model.specs.Floor.{Sized, plain_byte, slow_byte, free_byte, free, doubled, dearest_price};
+ghost use Rattle.model.specs.Floor.{Sized, size, plain_byte, slow_byte, free_byte, free, doubled, dearest_price};
 ghost use Rattle.model.specs.Floor as model;
 ghost use Rattle.model.proofs.Moves.{toll};
-ghost use Rattle.floor.specs.Moves.{flat, all_kinds, kinds, cost, can_cost, north_byte, west_byte, east_byte, south_byte, Placed, RowClear, ColumnClear, Unless, ahead_byte, step_of};
+ghost use Rattle.floor.specs.Moves.{all_kinds, kinds, cost, can_cost, north_byte, west_byte, east_byte, south_byte, Placed, RowClear, ColumnClear, Unless, ahead_byte, step_of};
 
 pub use goals::{MOST_GOALS, goal_at, goals_in, is_goal, one_goal, opening};
+use std::marker::Model;
 
-// What a move leads to: the cell moved into and what the move costs, or nothing that may be moved into.
+// A floor of 1 to 64 cells each way, whose bytes are lent: one a cell, row by row from the top left.
+#[derive(Drop)]
+pub struct Floor<'a> {
+    pub width: usize,
+    pub height: usize,
+    pub bytes: &'a [u8],
+}
+
+// A contract sees the model's own floor.
+impl<'a> Model for Floor<'a> {
+    ghost use Rattle.model.specs.Floor.{Floor as Plan, Sized};
+
+    ghost Value = { Plan };
+
+    ghost view = { λ f. record { width = f.width; height = f.height; bytes = f.bytes.now } };
+
+    ghost invariant = { λ f. Sized (record { width = f.width; height = f.height; bytes = f.bytes.now }) };
+}
+
+// Where a move leads: the cell moved into, and what the move costs.
 #[derive(Clone, Copy)]
-pub enum Step {
-    To { cell: usize, cost: u16 },
-    Wall,
+pub struct Step {
+    pub cell: usize,
+    pub cost: u16,
 }
 
 // A free cell's byte and those of the straight cells on its sides, blocked past the floor's edge: each is a way out of it where it is free. A diagonal
@@ -72,17 +92,6 @@ pub fn free_byte(b: u8) -> bool
     b == SLOW
 }
 
-// Whether a cell is on the floor and free.
-pub fn is_free(width: usize, height: usize, floor: &[u8], cell: usize) -> bool
-    requires { Sized (flat width height floor.now) }
-    ensures { result ≡ free (flat width height floor.now) cell }
-{
-    if floor.len() <= cell {
-        return false;
-    }
-    free_byte(floor[cell])
-}
-
 // How far the move m goes east, counted so that 1 is not at all.
 fn east(m: usize) -> usize
     requires { m < 8 }
@@ -128,10 +137,8 @@ pub fn kinds_on(floor: &[u8]) -> usize
     ensures { result ≡ kinds floor.now }
 {
     let mut n = PLAIN_KINDS;
-    let mut i = 0;
-    while i < floor.len() {
-        n = kinds_after(n, floor[i]);
-        i += 1;
+    for b in floor {
+        n = kinds_after(n, *b);
     }
     n
 }
@@ -156,114 +163,50 @@ pub fn can_cost(m: usize, k: usize) -> bool
     m % 2 == k % 2
 }
 
-// The byte of the cell to the north of a cell, blocked past the edge; and so to the west, the east and the south.
-fn north_byte(width: usize, height: usize, floor: &[u8], cell: usize) -> u8
-    requires fact_1 { Sized (flat width height floor.now) }
-    requires fact_2 { cell < width * height }
-    ensures { result ≡ north_byte (flat width height floor.now) cell }
-{
-    if cell < width {
-        return BLOCKED;
+// The side of a cell that a move goes to or passes on its way, and whether it is barred.
+impl Spot {
+    // Whether the move m needs the straight cell to the west or east, and that is not free; and so to the north or south.
+    fn row_barred(self, m: usize) -> bool
+        requires { m < 8 }
+        ensures { Unless (RowClear self m) result }
+    {
+        let e = east(m);
+        if e == 0 {
+            return !free_byte(self.west);
+        }
+        if e == 2 {
+            return !free_byte(self.east);
+        }
+        false
     }
-    floor[cell - width]
-}
 
-fn west_byte(width: usize, height: usize, floor: &[u8], cell: usize, col: usize) -> u8
-    requires fact_1 { Sized (flat width height floor.now) }
-    requires fact_2 { (cell < width * height) × (col ≡ model.column (flat width height floor.now) cell) }
-    ensures { result ≡ west_byte (flat width height floor.now) cell }
-{
-    if col == 0 {
-        return BLOCKED;
+    fn column_barred(self, m: usize) -> bool
+        requires { m < 8 }
+        ensures { Unless (ColumnClear self m) result }
+    {
+        let s = south(m);
+        if s == 0 {
+            return !free_byte(self.north);
+        }
+        if s == 2 {
+            return !free_byte(self.south);
+        }
+        false
     }
-    floor[cell - 1]
-}
 
-fn east_byte(width: usize, height: usize, floor: &[u8], cell: usize, col: usize) -> u8
-    requires fact_1 { Sized (flat width height floor.now) }
-    requires fact_2 { (cell < width * height) × (col ≡ model.column (flat width height floor.now) cell) }
-    ensures { result ≡ east_byte (flat width height floor.now) cell }
-{
-    if width <= col + 1 {
-        return BLOCKED;
+    // The byte of the cell `to` that the move m leads to: of a straight move one of the four.
+    fn byte_ahead(self, bytes: &[u8], to: usize, m: usize) -> u8
+        requires { (to < length bytes.now) × (m < 8) }
+        ensures { result ≡ ahead_byte self m (get_or bytes.now to 0) }
+    {
+        match m {
+            0 => self.north,
+            2 => self.east,
+            4 => self.south,
+            6 => self.west,
+            _ => bytes[to],
+        }
     }
-    floor[cell + 1]
-}
-
-fn south_byte(width: usize, height: usize, floor: &[u8], cell: usize) -> u8
-    requires fact_1 { Sized (flat width height floor.now) }
-    requires fact_2 { cell < width * height }
-    ensures { result ≡ south_byte (flat width height floor.now) cell }
-{
-    if floor.len() <= cell + width {
-        return BLOCKED;
-    }
-    floor[cell + width]
-}
-
-// A free cell and the ways out of it.
-pub fn spot_of(width: usize, height: usize, floor: &[u8], cell: usize) -> Spot
-    requires fact_1 { Sized (flat width height floor.now) }
-    requires fact_2 { free (flat width height floor.now) cell ≡ true }
-    ensures { Placed (flat width height floor.now) cell result }
-{
-    let col = cell % width;
-    Spot {
-        here: floor[cell],
-        north: north_byte(width, height, floor, cell),
-        west: west_byte(width, height, floor, cell, col),
-        east: east_byte(width, height, floor, cell, col),
-        south: south_byte(width, height, floor, cell),
-    }
-}
-
-// Whether the move m from a cell needs the straight cell to its west or east, and that is not free; and so to its north or south.
-fn row_barred(at: Spot, m: usize) -> bool
-    requires { m < 8 }
-    ensures { Unless (RowClear at m) result }
-{
-    let e = east(m);
-    if e == 0 {
-        return !free_byte(at.west);
-    }
-    if e == 2 {
-        return !free_byte(at.east);
-    }
-    false
-}
-
-fn column_barred(at: Spot, m: usize) -> bool
-    requires { m < 8 }
-    ensures { Unless (ColumnClear at m) result }
-{
-    let s = south(m);
-    if s == 0 {
-        return !free_byte(at.north);
-    }
-    if s == 2 {
-        return !free_byte(at.south);
-    }
-    false
-}
-
-// The byte of the cell `to` that the move m leads to: of a straight move one of the four.
-fn byte_ahead(floor: &[u8], at: Spot, to: usize, m: usize) -> u8
-    requires { (to < length floor.now) × (m < 8) }
-    ensures { result ≡ ahead_byte at m (get_or floor.now to 0) }
-{
-    if m == 0 {
-        return at.north;
-    }
-    if m == 2 {
-        return at.east;
-    }
-    if m == 4 {
-        return at.south;
-    }
-    if m == 6 {
-        return at.west;
-    }
-    floor[to]
 }
 
 // Of the bytes of two free cells that of the slower one: 2 where one of them is slow, else 0.
@@ -271,41 +214,113 @@ fn slower(here: u8, there: u8) -> u16
     requires { (free_byte here ≡ true) × (free_byte there ≡ true) }
     ensures { result ≡ choose (eqb here slow_byte || eqb there slow_byte) slow_byte plain_byte }
 {
-    (here | there) as u16
+    u16::from(here | there)
 }
 
 // What the move m costs between free cells of these bytes: its toll, and half of it for each unit of the slower byte, so double where one is slow.
 // (By a product, since a choice of two prices takes longer.)
 fn price(here: u8, there: u8, m: usize) -> u16
-    requires fact_1 { m < 8 }
-    requires fact_2 { (free_byte here ≡ true) × (free_byte there ≡ true) }
+    requires eight { m < 8 }
+    requires free { (free_byte here ≡ true) × (free_byte there ≡ true) }
     ensures { result ≡ doubled (eqb here slow_byte || eqb there slow_byte) (toll m) }
 {
     let once = toll(m);
     once + once / 2 * slower(here, there)
 }
 
-// The move m from a free cell, by the ways out of it.
-pub fn step_from(width: usize, height: usize, floor: &[u8], cell: usize, at: Spot, m: usize) -> Step
-    requires fact_1 { Sized (flat width height floor.now) }
-    requires fact_2 { Placed (flat width height floor.now) cell at }
-    requires fact_3 { m < 8 }
-    ensures { result ≡ step_of (flat width height floor.now) cell m }
-{
-    if row_barred(at, m) {
-        return Step::Wall;
+impl Floor<'_> {
+    // How many cells there are.
+    pub fn cells(&self) -> usize
+        ensures sized { Sized self.now }
+        ensures count { result ≡ size self.now }
+    {
+        self.bytes.len()
     }
-    if column_barred(at, m) {
-        return Step::Wall;
+
+    // Whether a cell is on the floor and free.
+    pub fn is_free(&self, cell: usize) -> bool
+        ensures { result ≡ free self.now cell }
+    {
+        cell < self.bytes.len() && free_byte(self.bytes[cell])
     }
-    let to = cell + south(m) * width + east(m) - (width + 1);
-    let there = byte_ahead(floor, at, to, m);
-    if !free_byte(there) {
-        return Step::Wall;
+
+    // The byte of the cell to the north of a cell, blocked past the edge; and so to the west, the east and the south.
+    fn north_byte(&self, cell: usize) -> u8
+        requires { cell < size self.now }
+        ensures { result ≡ north_byte self.now cell }
+    {
+        if cell < self.width {
+            return BLOCKED;
+        }
+        self.bytes[cell - self.width]
     }
-    let cost = price(at.here, there, m);
-    Step::To {
-        cell: to,
-        cost: cost,
+
+    fn west_byte(&self, cell: usize, col: usize) -> u8
+        requires { (cell < size self.now) × (col ≡ model.column self.now cell) }
+        ensures { result ≡ west_byte self.now cell }
+    {
+        if col == 0 {
+            return BLOCKED;
+        }
+        self.bytes[cell - 1]
+    }
+
+    fn east_byte(&self, cell: usize, col: usize) -> u8
+        requires { (cell < size self.now) × (col ≡ model.column self.now cell) }
+        ensures { result ≡ east_byte self.now cell }
+    {
+        if self.width <= col + 1 {
+            return BLOCKED;
+        }
+        self.bytes[cell + 1]
+    }
+
+    fn south_byte(&self, cell: usize) -> u8
+        requires { cell < size self.now }
+        ensures { result ≡ south_byte self.now cell }
+    {
+        if self.bytes.len() <= cell + self.width {
+            return BLOCKED;
+        }
+        self.bytes[cell + self.width]
+    }
+
+    // A free cell and the ways out of it.
+    pub fn spot(&self, cell: usize) -> Spot
+        requires { free self.now cell ≡ true }
+        ensures { Placed self.now cell result }
+    {
+        let col = cell % self.width;
+        Spot {
+            here: self.bytes[cell],
+            north: self.north_byte(cell),
+            west: self.west_byte(cell, col),
+            east: self.east_byte(cell, col),
+            south: self.south_byte(cell),
+        }
+    }
+
+    // The move m from a free cell, by the ways out of it: None where nothing may be moved into.
+    pub fn step(&self, cell: usize, at: Spot, m: usize) -> Option<Step>
+        requires placed { Placed self.now cell at }
+        requires eight { m < 8 }
+        ensures { result ≡ step_of self.now cell m }
+    {
+        let width = self.width;
+        if at.row_barred(m) {
+            return None;
+        }
+        if at.column_barred(m) {
+            return None;
+        }
+        let to = cell + south(m) * width + east(m) - (width + 1);
+        let there = at.byte_ahead(self.bytes, to, m);
+        if !free_byte(there) {
+            return None;
+        }
+        Some(Step {
+            cell: to,
+            cost: price(at.here, there, m),
+        })
     }
 }

@@ -1,110 +1,67 @@
 -- Laws of the floor text's definitions, one for each way through the code's tests.
 -- A loop's invariant says that what is left to judge answers like the whole.
 use mathlib.Core.Path.{◌≡◌, refl, sym, ◌∙◌, ap}
-use mathlib.Core.Bool.{Bool, true, false, not, ◌&&◌}
+use mathlib.Core.Bool.{Bool, true, false, not}
 use mathlib.Core.List.{List, [], ◌∷◌, ◌++◌, map, append_assoc, append-nil}
 use Prim.Native.Nat.{ℕ, zero, suc, ◌+◌, ◌-◌, ◌*◌, ◌≤◌, ◌<◌}
 use native.Mathlib.Numerals.{add-one}
 use native.Mathlib.Nat.{mul-le-mul_right, mul_comm}
 use native.Mathlib.Omega.{arith}
 use lib.Dec.{leb, eqb}
-use borrow.Author.Tests.{lt-leb, le-leb, eq-eqb, ne_eqb, not-true, not-false}
-use lib.ListN.{length, take, drop, set, get_or, length-append, length-take, length-drop, length-map, length-set, drop_of_length-le}
-use lib.Seq.{drop-cons, take-suc, take_all, set_at, drop-drop, take_at, drop_at, length-take-le}
+use borrow.Author.Tests.{lt-leb, le-leb, not-true, not-false}
+use lib.ListN.{length, take, drop, set, get_or, length-append, length-take, length-drop, length-map}
+use lib.Seq.{drop-cons, take-suc, set_at, drop-drop, take_at, drop_at, length-take-le}
 use Rattle.answers.specs.Says.{says_floor_read}
 use Rattle.answers.specs.declared.Place.TheVariants as P
 use Rattle.answers.specs.declared.Refusal.{Refusal}
-use Rattle.answers.specs.declared.Verdict.TheVariants as Vd
-use Rattle.answers.specs.declared.FloorRead.TheVariants as Fr
+use Rattle.answers.specs.Outcomes.{read_sizes}
+use Rattle.std.specs.Prelude.{Ok, Err}
+use Rattle.std.specs.List.{list_all}
+use Rattle.std.specs.Cmp.Lexicographic.{pointwise}
+use Rattle.std.proofs.Math.Bool.{and-true, and-false}
+use Rattle.std.proofs.lemmas.Bool.Decides.{nat_tests}
+use Rattle.std.proofs.lemmas.List.{map-append}
 use Rattle.model.specs.Basics.{choose, every, refuse_at}
-use Rattle.model.specs.FloorText.{begins, header, height_in, width_in, rows_in, after_height, after_width, type_and_height, and_width, and_map}
+use Rattle.model.specs.FloorText.{begins, size_in, size_bytes, header, height_in, width_in, after_height, after_width, type_and_height, and_width, and_map}
 use Rattle.model.specs.FloorText.{is_letter, byte_of, row_holds, rows, cells_of, read_floor, floor_verdict}
 use Rattle.model.proofs.Accepted.{Judges, le_tells, is_tells, and_tells, told, unless_judges}
 use Rattle.model.proofs.Parts.{rest}
 use Rattle.model.proofs.FloorTexts.{rows-fault, rows_more, length-cells}
-use Rattle.floor_text.specs.Reads.{Sound, Reads}
+use Rattle.floor_text.specs.Reads.{Stands, Sound, Reads}
 
-and_false : (a : Bool) → (a && false) ≡ false
-and_false true = refl
-and_false false = refl
+eqb_swap : (x y : ℕ) → eqb x y ≡ eqb y x
+eqb_swap x y = grind (arith, nat_tests)
 
 -- Whether a text begins with these bytes.
-pub begins-short : (w t : List ℕ) → length t < length w → false ≡ begins w t
+pub begins_is : (w t : List ℕ) → pointwise eqb (take (length w) t) w ≡ begins w t
 unfolding begins
-begins-short [] t h = absurd (omega arith)
-begins-short (x ∷ xs) [] h = refl
-begins-short (x ∷ xs) (y ∷ ys) h = rw (← (begins-short xs ys (omega arith))) (sym (and_false (eqb x y)))
-
-begins_at : (w t : List ℕ) (i : ℕ) → (i < length w) × (i < length t) → begins (drop i w) (drop i t) ≡ (eqb (get_or w i 0) (get_or t i 0) && begins (drop (i + 1) w) (drop (i + 1) t))
-unfolding begins
-begins_at w t i h = let a = h.0 in let b = h.1 in rw (add-one, drop-cons w i 0, drop-cons t i 0)
-
--- after i bytes that are the same
-pub record Begun (w t : List ℕ) (i : ℕ) : Type 0 where
-  pub most : i ≤ length w
-  pub left : begins (drop i w) (drop i t) ≡ begins w t
-
-pub begun : {w t : List ℕ} → Begun w t 0
-begun = record { most = omega arith; left = refl }
-
-module _ {w t : List ℕ} {i : ℕ} (g : Begun w t i) where
-  pub begun_more : get_or t i 0 ≡ get_or w i 0 → i < length w → length w ≤ length t → Begun w t (i + 1)
-  begun_more e h k = record {
-    most = omega arith;
-    left = let s = begins_at w t i (omega arith) in rw (eq-eqb (get_or w i 0) (get_or t i 0) (sym e)) at (sym s) ∙ g.left;
-  }
-
-  pub begun_not : (get_or t i 0 ≡ get_or w i 0 → ⊥) → i < length w → length w ≤ length t → false ≡ begins w t
-  begun_not e h k = sym (rw (ne_eqb (get_or w i 0) (get_or t i 0) (λ z. e (sym z))) at (begins_at w t i (omega arith))) ∙ g.left
-
-  pub begun_all : length w ≤ i → true ≡ begins w t
-  unfolding begins
-  begun_all h = (let z = drop_of_length-le w {i = i} h in rw z) ∙ g.left
+begins_is [] t = refl
+begins_is (x ∷ xs) [] = refl
+begins_is (x ∷ xs) (y ∷ ys) = rw (eqb_swap y x, begins_is xs ys)
 
 -- The letters of a row.
-row_at : (w : ℕ) (t : List ℕ) (i : ℕ) → (i < w) × (i < length t) → every is_letter (take (w - i) (drop i t)) ≡ (is_letter (get_or t i 0) && every is_letter (take (w - (i + 1)) (drop (i + 1) t)))
+every_all : (xs : List ℕ) → every is_letter xs ≡ list_all is_letter xs
 unfolding every
-row_at w t i h =
-    let l = h.1 in
-    let e : w - i ≡ suc (w - (i + 1)) = omega arith in
-    rw (e, drop-cons t i 0, add-one)
+every_all [] = refl
+every_all (x ∷ xs) = rw (every_all xs)
 
--- after i letters
-pub record Lettered (w : ℕ) (t : List ℕ) (i : ℕ) : Type 0 where
-  pub most : i ≤ w
-  pub left : every is_letter (take (w - i) (drop i t)) ≡ every is_letter (take w t)
-
-pub lettered : {w : ℕ} {t : List ℕ} → Lettered w t 0
-lettered {w} = record { most = omega arith; left = let e : w - 0 ≡ w = omega arith in rw e }
-
-pub row-short : (w : ℕ) (t : List ℕ) → length t ≤ w → false ≡ row_holds w t
-unfolding row_holds
-row-short w t h = simp (lt-leb (suc w) (length t) (omega arith))
-
-module _ {w : ℕ} {t : List ℕ} {i : ℕ} (g : Lettered w t i) where
-  pub lettered_more : {b : Bool} → b ≡ is_letter (get_or t i 0) → not b ≡ false → i < w → w < length t → Lettered w t (i + 1)
-  lettered_more e n h k = record { most = omega arith; left = rw (sym e ∙ not-false _ n) at (sym (row_at w t i (omega arith))) ∙ g.left }
-
-  pub row_not : {b : Bool} → b ≡ is_letter (get_or t i 0) → not b ≡ true → i < w → w < length t → false ≡ row_holds w t
+module _ (w : ℕ) (t : List ℕ) where
+  pub row-short : length t ≤ w → false ≡ row_holds w t
   unfolding row_holds
-  row_not e n h k =
-      let z : every is_letter (take w t) ≡ false = sym g.left ∙ rw (sym e ∙ not-true _ n) at (row_at w t i (omega arith)) in
-      simp (le-leb (suc w) (length t) (omega arith), z)
+  row-short h = simp (lt-leb (suc w) (length t) (omega arith))
 
-  pub row-end : (w ≤ i) × (w < length t) → eqb (get_or t w 0) 10 ≡ row_holds w t
-  unfolding row_holds every
-  row-end h =
-      let n : w - i ≡ 0 = omega arith in
-      let z : every is_letter (take w t) ≡ true = sym g.left ∙ rw n in
-      simp (le-leb (suc w) (length t) (omega arith), z)
+  pub row_no_LF : eqb (get_or t w 0) 10 ≡ false → false ≡ row_holds w t
+  unfolding row_holds
+  row_no_LF e = rw e (sym (and-false _))
+
+  pub row_by_letters : w < length t → eqb (get_or t w 0) 10 ≡ true → {b : Bool} → b ≡ list_all is_letter (take w t) → b ≡ row_holds w t
+  unfolding row_holds
+  row_by_letters h e k = simp (le-leb (suc w) (length t) (omega arith), e) (k ∙ sym (every_all (take w t)) ∙ sym (and-true _))
 
 -- The rows, one after another: after the given number of sound ones
 pub record Rowed (w h : ℕ) (text t : List ℕ) (row : ℕ) : Type 0 where
   pub most : row ≤ h
   pub left : rows w (h - row) (5 + row) t ≡ rows w h 5 text
-
-pub rowed : {w h : ℕ} {text : List ℕ} → Rowed w h text text 0
-rowed {h = h} = record { most = omega arith; left = let e : h - 0 ≡ h = omega arith in rw e }
 
 module _ {w h : ℕ} {text t : List ℕ} {row : ℕ} (g : Rowed w h text t row) where
   pub rowed_more : {b : Bool} → b ≡ row_holds w t → not b ≡ false → row < h → Rowed w h text (take (length t - (w + 1)) (drop (w + 1) t)) (row + 1)
@@ -120,45 +77,26 @@ module _ {w h : ℕ} {text t : List ℕ} {row : ℕ} (g : Rowed w h text t row) 
   pub rowed_fault : {b : Bool} → b ≡ row_holds w t → not b ≡ true → row < h → refuse_at 12 (P.Line (5 + row)) ≡ rows w h 5 text
   rowed_fault e n l = rows-fault w (h - row) (5 + row) t (sym e ∙ not-true _ n) (omega arith) ∙ g.left
 
-  rowed_all : h ≤ row → choose (eqb (length t) 0) Vd.Done (refuse_at 12 (P.Line (5 + row))) ≡ rows w h 5 text
+  rowed_all : h ≤ row → choose (eqb (length t) 0) (Ok tt) (refuse_at 12 (P.Line (5 + row))) ≡ rows w h 5 text
   unfolding rows
   rowed_all l = (let n : h - row ≡ 0 = omega arith in rw n) ∙ g.left
 
-  pub rowed_done : h ≤ row → length t ≡ 0 → Vd.Done ≡ rows w h 5 text
-  rowed_done l e = rw (eq-eqb (length t) 0 e) at (rowed_all l)
+  module _ {b : Bool} (l : h ≤ row) (e : b ≡ eqb (length t) 0) where
+    pub rowed_done : b ≡ true → Ok tt ≡ rows w h 5 text
+    rowed_done n = rw (sym e ∙ n) at (rowed_all l)
 
-  pub rowed_over : h ≤ row → (length t ≡ 0 → ⊥) → refuse_at 12 (P.Line (5 + row)) ≡ rows w h 5 text
-  rowed_over l e = rw (ne_eqb (length t) 0 e) at (rowed_all l)
+    pub rowed_over : b ≡ false → refuse_at 12 (P.Line (5 + h)) ≡ rows w h 5 text
+    rowed_over n = let k : row ≡ h = omega (arith, g.most) in rw k at (rw (sym e ∙ n) at (rowed_all l))
 
 -- The cells of one row, and of one row more.
-map-append : (xs ys : List ℕ) → map byte_of (xs ++ ys) ≡ map byte_of xs ++ map byte_of ys
-map-append [] ys = refl
-map-append (x ∷ xs) ys = ap (λ (l : List ℕ). byte_of x ∷ l) (map-append xs ys)
-
--- i letters of a row are stored
-pub record Stored (ls part₀ part : List ℕ) (i : ℕ) : Type 0 where
-  pub most : i ≤ length ls
-  pub same : length part ≡ length part₀
-  pub so_far : part ≡ map byte_of (take i ls) ++ drop i part₀
-
-pub stored : {ls part : List ℕ} → Stored ls part part 0
-stored = record { most = omega arith; same = refl; so_far = refl }
-
-module _ {ls part₀ part : List ℕ} {i : ℕ} (g : Stored ls part₀ part i) where
-  pub stored_more : {v : ℕ} → v ≡ byte_of (get_or ls i 0) → (i < length ls) × (length part₀ ≡ length ls) → Stored ls part₀ (set part i v) (i + 1)
-  stored_more {v} e h = record {
-    most = omega arith;
-    same = length-set part i v ∙ g.same;
-    so_far =
-        let a = h.0 in
-        let b : i < length part₀ = omega arith in
-        let n : length (map byte_of (take i ls)) ≡ i = length-map (take i ls) byte_of ∙ length-take-le i ls (omega arith) in
-        let put = set_at (map byte_of (take i ls)) (get_or part₀ i 0) (drop (suc i) part₀) v i n in
-        rw (g.so_far, add-one, take-suc ls i 0, map-append (take i ls) (get_or ls i 0 ∷ []), append_assoc, drop-cons part₀ i 0, put, e);
-  }
-
-  pub stored_all : (length ls ≤ i) × (length part₀ ≡ length ls) → part ≡ map byte_of ls
-  stored_all h = g.so_far ∙ rw (take_all i ls h.0, drop_of_length-le part₀ {i = i} (omega arith)) (append-nil (map byte_of ls))
+-- one letter more of a row is stored
+pub stored_more : (ls part₀ : List ℕ) {part : List ℕ} (i : ℕ) {v : ℕ} → part ≡ map byte_of (take i ls) ++ drop i part₀ → v ≡ byte_of (get_or ls i 0) → i < length ls → length part₀ ≡ length ls
+    → set part i v ≡ map byte_of (take (i + 1) ls) ++ drop (i + 1) part₀
+stored_more ls part₀ i {v} so_far e l m =
+    let b : i < length part₀ = omega arith in
+    let n : length (map byte_of (take i ls)) ≡ i = length-map (take i ls) byte_of ∙ length-take-le i ls (omega arith) in
+    let put = set_at (map byte_of (take i ls)) (get_or part₀ i 0) (drop (suc i) part₀) v i n in
+    rw (so_far, add-one, take-suc ls i 0, map-append byte_of (take i ls) (get_or ls i 0 ∷ []), append_assoc, drop-cons part₀ i 0, put, e)
 
 cells_more : (w n : ℕ) (t : List ℕ) → cells_of w (suc n) t ≡ cells_of w n t ++ map byte_of (take w (drop (n * (w + 1)) t))
 unfolding cells_of
@@ -186,13 +124,20 @@ header_judges text =
     (λ h. record { typed = h.0.0.0.0; high = h.0.0.0.1; worded = h.0.0.1; wide = h.0.1; mapped = h.1 })
     (λ h. ((((h.typed, h.high), h.worded), h.wide), h.mapped)))
 
+-- The sizes and the rests of the text, from one line to the next.
+pub past_size : (k : ℕ) (u : List ℕ) {t s rest : List ℕ} {n : ℕ} → t ≡ u → s ≡ drop k t → Stands s n rest → (n ≡ size_in (drop k u)) × (rest ≡ drop (k + size_bytes (size_in (drop k u))) u)
+past_size k u {t} {s} e d S =
+    let f : s ≡ drop k u = d ∙ ap (drop k) e in
+    let z = S.size ∙ ap size_in f in
+    (z, S.past ∙ ap (λ (m : ℕ). drop (size_bytes m) s) z ∙ ap (drop (size_bytes (size_in (drop k u)))) f ∙ drop-drop (size_bytes (size_in (drop k u))) k u)
+
 -- The public call, by what the header, the room and the rows say.
-pub header_refused : (text buffer : List ℕ) → header text ≡ refuse_at 11 P.Nowhere → Reads (read_floor text buffer) (Fr.Refused (record { number = 11; place = P.Nowhere })) buffer
+pub header_refused : (text buffer : List ℕ) → header text ≡ refuse_at 11 P.Nowhere → Reads (read_floor text buffer) (Err (record { number = 11; place = P.Nowhere })) buffer
 unfolding read_floor floor_verdict
 header_refused text buffer e = rw e (record { answer = refl; buffer = refl })
 
-module _ {text : List ℕ} (buffer : List ℕ) {w h : ℕ} (s : Sound text w h) where
-  pub no_room : length buffer < w * h → Reads (read_floor text buffer) (Fr.Refused (record { number = 2; place = P.Nowhere })) buffer
+module _ {text : List ℕ} (buffer : List ℕ) {w h : ℕ} {after : List ℕ} (s : Sound text w h after) where
+  pub no_room : length buffer < w * h → Reads (read_floor text buffer) (Err (record { number = 2; place = P.Nowhere })) buffer
   unfolding read_floor floor_verdict
   no_room l =
       let z = rw (s.width, s.height) at l in
@@ -202,18 +147,18 @@ module _ {text : List ℕ} (buffer : List ℕ) {w h : ℕ} (s : Sound text w h) 
     abbrev roomy : leb (width_in text * height_in text) (length buffer) ≡ true
     roomy = le-leb (width_in text * height_in text) (length buffer) (rw (s.width, s.height) at l)
 
-    pub rows-refused : (r : Refusal) → rows w h 5 (rows_in text) ≡ Vd.Refused r → Reads (read_floor text buffer) (Fr.Refused r) buffer
+    pub rows-refused : (r : Refusal) → rows w h 5 after ≡ Err r → Reads (read_floor text buffer) (Err r) buffer
     unfolding read_floor floor_verdict
     rows-refused r e =
-        let z = rw (s.width, s.height) at e in
+        let z = rw (s.past, s.width, s.height) at e in
         rw (s.accepted, roomy, z) (record { answer = refl; buffer = refl })
 
-    pub rows-read : {after : List ℕ} → rows w h 5 (rows_in text) ≡ Vd.Done → after ≡ cells_of w h (rows_in text) ++ drop (w * h) buffer → Reads (read_floor text buffer) (Fr.Sizes w h) after
+    pub rows-read : {buffer' : List ℕ} → rows w h 5 after ≡ Ok tt → buffer' ≡ cells_of w h after ++ drop (w * h) buffer → Reads (read_floor text buffer) (read_sizes w h) buffer'
     unfolding read_floor floor_verdict
     rows-read e k =
-        let z = rw (s.width, s.height) at e in
-        let y = rw (s.width, s.height) at k in
-        rw (s.accepted, roomy, z) (record { answer = λ i. says_floor_read (Fr.Sizes (s.width i) (s.height i)); buffer = y })
+        let z = rw (s.past, s.width, s.height) at e in
+        let y = rw (s.past, s.width, s.height) at k in
+        rw (s.accepted, roomy, z) (record { answer = λ i. says_floor_read (read_sizes (s.width i) (s.height i)); buffer = y })
 
 -- The rows stored so far, and what one row more does.
 pub record Filled (w h : ℕ) (text out₀ t out : List ℕ) (row : ℕ) : Type 0 where

@@ -1,126 +1,97 @@
--- Where the writer's loops stand: letters put so far, and rows that are left. And the writer's answer, check by check.
-use mathlib.Core.Path.{◌≡◌, refl, sym, ◌∙◌, ap}
-use mathlib.Core.List.{List, [], ◌∷◌, ◌++◌, map, append_assoc}
+-- Where the writer's loops stand: letters put so far, and rows that are left. And the writer's answer.
+use mathlib.Core.Path.{◌≡◌, refl, sym, ◌∙◌, ap, subst}
+use mathlib.Core.List.{List, [], ◌∷◌, ◌++◌, map, append_assoc, append-nil}
 use Prim.Native.Nat.{ℕ, zero, suc, ◌+◌, ◌-◌, ◌*◌, ◌≤◌, ◌<◌}
+use native.Mathlib.Numerals.{add-one}
 use native.Mathlib.Omega.{arith}
-use lib.ListN.{length, take, drop, set, get_or, length-append, length-map, length-set, length-drop}
-use lib.Seq.{sets, sets-eq, length-sets, length-take-le}
+use lib.ListN.{length, take, get_or, length-append, length-map}
+use lib.Seq.{take-suc, take_all, take_at, drop_at, length-take-le}
+use Rattle.std.proofs.lemmas.List.{map-append}
 use Rattle.answers.specs.declared.Refusal.{Refusal}
-use Rattle.answers.specs.declared.Verdict.{Verdict}
-use Rattle.answers.specs.declared.Verdict.TheVariants as Vd
-use Rattle.answers.specs.declared.Written.TheVariants as Wr
+use Rattle.std.specs.Prelude.{Ok, Err}
 use Rattle.model.specs.Floor.{Floor, Sized}
 use Rattle.model.specs.FloorText.{LF, and_width, and_map, type_and_height}
 use Rattle.model.specs.FloorWritten.{letter_of, rows_of, size_line, text_of, text_verdict, write_floor}
 use Rattle.model.specs.Writing.{Writes}
 use Rattle.model.proofs.FloorTexts.{text-gives}
-use Rattle.model.proofs.Parts.{rest}
 use Rattle.model.proofs.Writings.{writes_refused, writes_done}
-use Rattle.notation.specs.Printing.{Printed}
-use Rattle.notation.proofs.Decimals.{printed_then, bytes_more, bytes_all}
+use Rattle.notation.specs.Prints.{Prints, HasRoom}
+use Rattle.notation.specs.declared.print.Printer.{Printer}
+use Rattle.notation.proofs.Prints.{prints_then, prints_whole, room_left}
 use Rattle.floor_text.specs.Heads.{head_of}
 
-letter_at : (cells : List ℕ) (i : ℕ) → i < length cells → get_or (map letter_of cells) i 0 ≡ letter_of (get_or cells i 0)
-letter_at [] i h = absurd (omega arith)
-letter_at (b ∷ cells) zero h = refl
-letter_at (b ∷ cells) (suc i) h = letter_at cells i (omega arith)
-
--- letters of a row, put from the place `at` on
-pub record Lettering (out₀ : List ℕ) (at : ℕ) (cells out : List ℕ) (i : ℕ) : Type 0 where
+-- letters of a row, put so far
+pub record Lettering (p₀ : Printer) (cells : List ℕ) (p : Printer) (i : ℕ) : Type 0 where
   -- i of them, and no more than the row has
   pub most : i ≤ length cells
-  -- the list is as long as it was
-  pub same : length out ≡ length out₀
-  -- they stand there, and all else is as it was
-  pub so_far : out ≡ sets out₀ at (take i (map letter_of cells))
+  pub printed : Prints p₀ (map letter_of (take i cells)) p
 
-module _ {out₀ : List ℕ} {at : ℕ} {cells : List ℕ} where
-  pub lettering : Lettering out₀ at cells out₀ 0
-  lettering = record { most = omega arith; same = refl; so_far = refl }
+module _ {p₀ p : Printer} {cells : List ℕ} {i : ℕ} (g : Lettering p₀ cells p i) where
+  abbrev so_many : length (map letter_of (take i cells)) ≡ i
+  so_many = length-map (take i cells) letter_of ∙ length-take-le i cells g.most
 
-  module _ {out : List ℕ} {i : ℕ} (g : Lettering out₀ at cells out i) (room : at + length cells < length out₀) where
-    pub lettering_more : {v : ℕ} → v ≡ letter_of (get_or cells i 0) → i < length cells → Lettering out₀ at cells (set out (at + i) v) (i + 1)
-    lettering_more {v} e h =
-        let n : length (map letter_of cells) ≡ length cells = length-map cells letter_of in
-        record {
-          most = omega arith;
-          same = length-set out (at + i) v ∙ g.same;
-          so_far = ap (set out (at + i)) (e ∙ sym (letter_at cells i h)) ∙ bytes_more out₀ (map letter_of cells) out at i (omega arith) (omega arith) g.so_far;
-        }
+  pub letter_room : HasRoom p₀ (length cells + 1) → HasRoom p 1
+  letter_room h = room_left g.printed _ 1 h (omega (arith, so_many, g.most))
 
-    -- all of them, and the LF after them
-    pub lettering_all : {end : List ℕ} {next : ℕ} → length cells ≤ i → Printed out (at + i) (LF ∷ []) end next → Printed out₀ at (map letter_of cells ++ (LF ∷ [])) end next
-    lettering_all h P =
-        let n : length (map letter_of cells) ≡ length cells = length-map cells letter_of in
-        printed_then (map letter_of cells) (LF ∷ []) (bytes_all out₀ (map letter_of cells) out at i (omega arith) (omega (arith, g.most)) g.so_far) P
+  pub lettering_more : {q : Printer} {v : ℕ} → v ≡ letter_of (get_or cells i 0) → i < length cells → Prints p (v ∷ []) q → Lettering p₀ cells q (i + 1)
+  lettering_more {q} {v} e h P =
+      let one : map letter_of (take i cells) ++ v ∷ [] ≡ map letter_of (take (i + 1) cells) = rw (e, add-one, take-suc cells i 0, map-append) refl in
+      record { most = omega arith; printed = subst (λ xs. Prints p₀ xs q) one (prints_then g.printed P) }
 
--- rows of a floor, put from the place `at` on; t is what is left of it, and putting its rows gives the whole
-pub record Rowing (out₀ : List ℕ) (at w h : ℕ) (floor out t : List ℕ) (end row : ℕ) : Type 0 where
-  -- so many rows are put, and no more than there are
-  pub most : row ≤ h
-  -- cells are left for the others
-  pub cells : (h - row) * w ≤ length t
-  -- the list is as long as it was, with room for all
-  pub same : length out ≡ length out₀
-  pub room : at + length (rows_of w h floor) ≤ length out₀
-  -- the rows that are left end where all end
-  pub next : end + length (rows_of w (h - row) t) ≡ at + length (rows_of w h floor)
-  -- and make the whole
-  pub left : sets out end (rows_of w (h - row) t) ≡ sets out₀ at (rows_of w h floor)
+  -- all of them
+  pub lettered : length cells ≤ i → Prints p₀ (map letter_of cells) p
+  lettered h = subst (λ xs. Prints p₀ (map letter_of xs) p) (take_all i cells h) g.printed
 
-module _ {out₀ : List ℕ} {at w h : ℕ} {floor : List ℕ} where
-  pub rowing : (h * w ≤ length floor) × (at + length (rows_of w h floor) ≤ length out₀) → Rowing out₀ at w h floor out₀ floor at 0
-  rowing l = let e : h - 0 ≡ h = omega arith in record { most = omega arith; cells = rw e l.0; same = refl; room = l.1; next = rw e; left = rw e }
+-- rows of a floor, put so far; t is what is left of its bytes
+pub record Rowing (p₀ : Printer) (w h : ℕ) (bytes : List ℕ) (p : Printer) (t : List ℕ) : Type 0 where
+  -- so many rows are left, with their cells and room for them
+  pub left : ℕ
+  pub cells : length t ≡ left * w
+  pub room : HasRoom p (length (rows_of w left t))
+  -- those that are put and those that are left make the whole
+  pub front : List ℕ
+  pub printed : Prints p₀ front p
+  pub whole : front ++ rows_of w left t ≡ rows_of w h bytes
 
-  module _ {out t : List ℕ} {end row : ℕ} (g : Rowing out₀ at w h floor out t end row) (l : row < h) where
-    abbrev first : List ℕ
-    first = map letter_of (take w t) ++ (LF ∷ [])
+module _ {p₀ p : Printer} {w h : ℕ} {bytes t : List ℕ} (g : Rowing p₀ w h bytes p t) (l : 1 ≤ w) where
+  -- a row and what is left after it
+  module _ (x t' : List ℕ) (e : t ≡ x ++ t') (n : length x ≡ w) where
+    abbrev lengths : length t ≡ w + length t'
+    lengths = ap length e ∙ length-append x t' ∙ omega arith
+
+    one_left : (k : ℕ) → length t ≡ k * w → k ≡ suc (k - 1)
+    one_left zero z = absurd (omega (arith, lengths))
+    one_left (suc k) z = omega arith
 
     abbrev others : List ℕ
-    others = rows_of w (h - (row + 1)) (drop w t)
+    others = rows_of w (g.left - 1) t'
 
-    one_more : h - row ≡ suc (h - (row + 1))
-    one_more = omega arith
-
-    -- the rows that are left are one and the others
-    rows_left : rows_of w (h - row) t ≡ first ++ others
+    row_and_others : rows_of w g.left t ≡ (map letter_of x ++ LF ∷ []) ++ others
     unfolding rows_of
-    rows_left = rw one_more (sym (append_assoc (map letter_of (take w t)) (LF ∷ []) others))
+    row_and_others =
+        ap (λ (k : ℕ). rows_of w k t) (one_left g.left g.cells) ∙ ap (rows_of w (suc (g.left - 1))) e ∙ rw (take_at x t' w n, drop_at x t' w n) (sym (append_assoc (map letter_of x) (LF ∷ []) others))
 
-    cells_left : w + (h - (row + 1)) * w ≤ length t
-    cells_left = let c = rw one_more at g.cells in omega arith
+    pub row_room : HasRoom p (length x + 1)
+    row_room = omega (arith, g.room, ap length row_and_others, length-append (map letter_of x ++ LF ∷ []) others, length-append (map letter_of x) (LF ∷ []), length-map x letter_of)
 
-    length_first : length first ≡ w + 1
-    length_first = length-append (map letter_of (take w t)) (LF ∷ []) ∙ omega (arith, length-map (take w t) letter_of, length-take-le w t (omega (arith, cells_left)))
+    pub rowing_more : {q : Printer} → Prints p (map letter_of x ++ LF ∷ []) q → Rowing p₀ w h bytes q t'
+    rowing_more {q} P = record {
+      left = g.left - 1;
+      cells = let z = one_left g.left g.cells in omega (arith, g.cells, lengths, ap (λ (k : ℕ). k * w) z);
+      room = room_left P _ _ g.room (omega (arith, ap length row_and_others, length-append (map letter_of x ++ LF ∷ []) others));
+      front = g.front ++ (map letter_of x ++ LF ∷ []);
+      printed = prints_then g.printed P;
+      whole = append_assoc g.front (map letter_of x ++ LF ∷ []) others ∙ ap (λ ys. g.front ++ ys) (sym row_and_others) ∙ g.whole;
+    }
 
-    -- a row is left, with its cells and room for it
-    pub row_there : w ≤ length t
-    row_there = omega (arith, cells_left)
-
-    pub row-whole : w ≡ length (take w t)
-    row-whole = sym (length-take-le w t row_there)
-
-    pub row_room : end + length (take w t) < length out
-    row_room = omega (arith, row-whole, g.same, g.room, g.next, ap length rows_left, length-append first others, length_first)
-
-    pub rowing_more : {after : List ℕ} {next : ℕ} → Printed out end (map letter_of (take w t) ++ (LF ∷ [])) after next
-        → Rowing out₀ at w h floor after (take (length t - w) (drop w t)) next (row + 1)
-    rowing_more {after} {next} P =
-        rw (rest w t)
-        (record {
-          most = omega arith;
-          cells = omega (arith, cells_left, length-drop w t);
-          same = ap length P.written ∙ (length-sets out end first ∙ g.same);
-          room = g.room;
-          next = omega (arith, P.next, g.next, ap length rows_left, length-append first others);
-          left = (printed_then first others P (record { written = refl; next = refl })).written ∙ (ap (sets out end) (sym rows_left) ∙ g.left);
-        })
-
-  pub rowing_all : {out t : List ℕ} {end row : ℕ} → Rowing out₀ at w h floor out t end row → h ≤ row → Printed out₀ at (rows_of w h floor) out end
+  -- less than a row is left
+  pub rowing_all : length t < w → Prints p₀ (rows_of w h bytes) p
   unfolding rows_of
-  rowing_all {row = row} g l =
-      let e : h - row ≡ 0 = omega arith in
-      record { written = rw e at g.left; next = omega (arith, rw e at g.next) }
+  rowing_all s = subst (λ ys. Prints p₀ ys p) (sym (go g.left g.cells refl) ∙ g.whole) g.printed
+    where
+      go : (k : ℕ) → length t ≡ k * w → g.left ≡ k → g.front ++ rows_of w g.left t ≡ g.front
+      go zero z k = rw k (append-nil g.front)
+      go (suc k) z m = absurd (omega (arith, s, z))
 
 -- ---- the answer
 
@@ -139,19 +110,17 @@ room_for_both : (f : Floor) → length (text_of f) ≡ length (head_of f.width f
 room_for_both f = ap length (sym (head_then_rows f)) ∙ length-append (head_of f.width f.height) (rows_of f.width f.height f.bytes)
 
 -- what an accepted writing has shown: room for the header, and for the rows after it
-pub text-fits : (f : Floor) (room : ℕ) → text_verdict f room ≡ Vd.Done → Sized f × (length (head_of f.width f.height) + length (rows_of f.width f.height f.bytes) ≤ room)
+pub text-fits : (f : Floor) (room : ℕ) → text_verdict f room ≡ Ok tt → Sized f × (length (head_of f.width f.height) + length (rows_of f.width f.height f.bytes) ≤ room)
 text-fits f room e = let g = text-gives f room e in (g.0, omega (arith, g.1, room_for_both f))
 
-module _ (f : Floor) (buffer : List ℕ) {v : Verdict} (e : v ≡ text_verdict f (length buffer)) where
-  pub write-refused : (r : Refusal) → v ≡ Vd.Refused r → Writes (write_floor f buffer) (Wr.Refused r) buffer
+module _ (f : Floor) (buffer : List ℕ) where
+  pub write-refused : (r : Refusal) → text_verdict f (length buffer) ≡ Err r → Writes (write_floor f buffer) (Err r) buffer
   unfolding write_floor
-  write-refused = writes_refused (text_of f) buffer e
+  write-refused r e = writes_refused (text_of f) buffer refl r e
 
-  pub write_done : {mid after : List ℕ} {at end : ℕ} → v ≡ Vd.Done → Printed buffer 0 (head_of f.width f.height) mid at
-      → Printed mid at (rows_of f.width f.height f.bytes) after end → Writes (write_floor f buffer) (Wr.Length end) after
+  pub write_done : text_verdict f (length buffer) ≡ Ok tt → {p m e : Printer} → Prints p (head_of f.width f.height) m → Prints m (rows_of f.width f.height f.bytes) e
+      → p.out.now ≡ buffer → p.at ≡ 0 → {after : List ℕ} → after ≡ e.out.now → Writes (write_floor f buffer) (Ok e.at) after
   unfolding write_floor
-  write_done h P Q =
-      let T = rw (head_then_rows f) at (printed_then (head_of f.width f.height) (rows_of f.width f.height f.bytes) P Q) in
-      let z : 0 + length (text_of f) ≡ length (text_of f) = omega arith in
-      let whole = rw z at (sets-eq (text_of f) buffer 0 (omega (arith, (text-gives f _ (sym e ∙ h)).1))) in
-      writes_done (text_of f) buffer e _ _ h (T.next ∙ z) (T.written ∙ whole)
+  write_done h P Q b z a =
+      let whole = prints_whole (text_of f) (rw (head_then_rows f) at (prints_then P Q)) b z (text-gives f _ h).1 a in
+      writes_done (text_of f) buffer refl _ _ h whole.0 whole.1

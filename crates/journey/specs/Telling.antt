@@ -3,12 +3,11 @@
 -- and one on what stands in the list: it is the end of the text, after as many bytes as are handed out, and all of it where it is short.
 use Rattle.std.specs.Prelude.{ℕ, ◌≤◌, ◌<◌, ◌≡◌, Bool, true, false, List, [], ◌∷◌, ◌++◌, ℤ, pos, length, take, drop}
 use Rattle.answers.specs.declared.Job.{Job}
+use Rattle.answers.specs.declared.Report.{Report}
 use Rattle.model.specs.Ride.{Ride}
 use Rattle.model.specs.Line.{trial_line}
-use Rattle.line.specs.Printing.{move_digits}
+use Rattle.notation.specs.declared.print.Printer.{Printer}
 use Rattle.run.specs.Trials.{Rode}
-use Rattle.journey.specs.declared.Way.{Way}
-use Rattle.journey.specs.declared.Trip.{Trip}
 
 -- After the bytes that stand there a text is told: what stands there then is all of it but some bytes at its front, which are written out.
 -- Nothing is written out of what leaves 512 places.
@@ -23,26 +22,30 @@ pub record Front (fd : ℤ) (part out : List ℕ) : Type 0 where
   pub standard : fd ≡ pos 1
   pub first : part ≡ take (length part) out
 
--- a list, and a place that leaves 512
-pub record Room (out : List ℕ) (at : ℕ) : Type 0 where
-  pub size : length out ≡ 65536
-  pub left : at ≤ 65024
+-- a list of 65,536 places, of which 512 are left
+pub record Room (p : Printer) : Type 0 where
+  pub size : length p.out.now ≡ 65536
+  pub left : p.at ≤ 65024
 
--- what stands before the place is written out where fewer than 512 places are left
-pub record Spilt (at r : ℕ) : Type 0 where
-  pub kept : at ≤ 65024 → r ≡ at
-  pub spilt : 65024 < at → r ≡ 0
+-- what is printed is written out where fewer than 512 places are left
+pub record Spilt (p p' : Printer) : Type 0 where
+  pub lent : p'.out.ghost_name ≡ p.out.ghost_name
+  pub same : p'.out.now ≡ p.out.now
+  pub kept : p.at ≤ 65024 → p'.at ≡ p.at
+  pub spilt : 65024 < p.at → p'.at ≡ 0
 
--- a text is told in a list from a place on; the list and the place after it
-pub record Told (out : List ℕ) (at : ℕ) (text out' : List ℕ) (at' : ℕ) : Type 0 where
-  pub room : Room out' at'
-  pub follows : Follows (take at out) text (take at' out')
+-- a text is told after what is printed; and 512 places are left
+pub record Told (p : Printer) (text : List ℕ) (p' : Printer) : Type 0 where
+  pub lent : p'.out.ghost_name ≡ p.out.ghost_name
+  pub room : Room p'
+  pub follows : Follows (take p.at p.out.now) text (take p'.at p'.out.now)
 
 -- the same of the last text, after which 512 places need not be left
-pub record Ended (out : List ℕ) (at : ℕ) (text out' : List ℕ) (at' : ℕ) : Type 0 where
-  pub size : length out' ≡ 65536
-  pub within : at' ≤ 65536
-  pub follows : Follows (take at out) text (take at' out')
+pub record Ended (p : Printer) (text : List ℕ) (p' : Printer) : Type 0 where
+  pub lent : p'.out.ghost_name ≡ p.out.ghost_name
+  pub size : length p'.out.now ≡ 65536
+  pub within : p'.at ≤ 65536
+  pub follows : Follows (take p.at p.out.now) text (take p'.at p'.out.now)
 
 -- whether there are some
 abbrev pub some : List ℕ → Bool
@@ -54,13 +57,7 @@ abbrev pub dash : Bool → List ℕ
 dash true = []
 dash false = 45 ∷ []
 
--- the decisions of a trial: the model's ride o, and its moves are told
-pub record Ways (j : Job) (bytes : List ℕ) (o : Ride) (r : Way) (table path out : List ℕ) (at : ℕ) (out' : List ℕ) : Type 0 where
-  pub rode : Rode j bytes o r.report table path
-  pub moved : r.moved ≡ some o.moves
-  pub told : Told out at (move_digits o.moves) out' r.at
-
 -- a trial: the model's ride o, and its line is told
-pub record Trips (j : Job) (bytes : List ℕ) (o : Ride) (r : Trip) (table path out : List ℕ) (at : ℕ) (out' : List ℕ) : Type 0 where
-  pub rode : Rode j bytes o r.report table path
-  pub told : Told out at (trial_line j bytes o) out' r.at
+pub record Trips (j : Job) (bytes : List ℕ) (o : Ride) (r : Report) (table path : List ℕ) (p p' : Printer) : Type 0 where
+  pub rode : Rode j bytes o r table path
+  pub told : Told p (trial_line j bytes o) p'

@@ -1,31 +1,16 @@
 // The lines of a part of a list, each with its depth, one after another.
 ghost use Rattle.std.specs.Prelude.{◌≤◌, length};
-ghost use Rattle.keep_depth.specs.Lines.{Fits, HasEnd, Copies};
+ghost use Rattle.keep_depth.specs.Lines.{Fits, Copies};
 
-use line::depth;
+use line::depth::{self, First};
+use notation::print::Printer;
 
-// How far a part is copied: how many of its bytes are done with, how many are written for them, the number of the next line, and whether that one is malformed.
+// How far a part is copied: how many bytes are written, the number of the next line, and how many bytes stand before it; `None` where that line is malformed.
 #[derive(Clone, Copy)]
 pub struct Reach {
-    pub done: usize,
     pub wrote: usize,
     pub line: usize,
-    pub stops: bool,
-}
-
-// Whether an LF stands from a place on.
-fn has_end(bytes: &[u8], from: usize) -> bool
-    requires { from ≤ length bytes.now }
-    ensures { HasEnd bytes.now from result }
-{
-    let mut i = from;
-    while i < bytes.len() {
-        if bytes[i] == 10 {
-            return true;
-        }
-        i += 1;
-    }
-    false
+    pub done: Option<usize>,
 }
 
 // The whole lines of a part, from its first byte up to its last LF or a malformed line; the first has that number.
@@ -33,23 +18,19 @@ pub fn copy_lines(bytes: &[u8], first: usize, out: &mut [u8]) -> Reach
     requires { Fits bytes.now first out.old }
     ensures { Copies bytes.now first result out.new }
 {
-    let mut c = Reach {
-        done: 0,
-        wrote: 0,
-        line: first,
-        stops: false,
-    };
-    while c.done < bytes.len() {
-        let at = c.done;
-        let f = depth::first_line(bytes, at);
-        if f.given == 0 {
-            c.stops = has_end(bytes, at);
-            return c;
-        }
-        let end = f.end;
-        c.wrote = depth::put_line(&bytes[at..end], f.given, out, c.wrote);
-        c.done = end;
-        c.line += 1;
+    let mut copies = Printer { out, at: 0 };
+    let mut done = 0;
+    let mut line = first;
+    while let Some(First { given, end }) = depth::first_line(bytes, done) {
+        depth::put_line(&bytes[done..end], given, &mut copies);
+        done = end;
+        line += 1;
     }
-    c
+    // With its LF it is a malformed line; without, the rest of it may follow.
+    let malformed = bytes[done..].contains(&b'\n');
+    Reach {
+        wrote: copies.at,
+        line,
+        done: (!malformed).then_some(done),
+    }
 }

@@ -5,8 +5,7 @@ use mathlib.Core.Path.{◌≡◌, sym, ap, ◌∙◌}
 use mathlib.Core.Option.{some}
 use mathlib.Core.List.{List, ◌++◌}
 use lib.ListN.{length, take}
-use Rattle.answers.specs.declared.Verdict.TheVariants as Vd
-use Rattle.answers.specs.declared.Written.TheVariants as Wr
+use Rattle.std.specs.Prelude.{Ok}
 use Rattle.model.specs.Line.{numbers_in, aisle_by, aisle}
 use Rattle.model.specs.KeepDepth.{old_depth, line_form, with_old_depth, depth_verdict, with_depth}
 use Rattle.model.specs.Writing.{Writes}
@@ -15,12 +14,12 @@ use Rattle.model.proofs.Converted.{given_depth_is_copied, formed_prints_the_same
 use Rattle.model.proofs.Writings.{writes_told}
 
 -- a line that was written with its depth in n bytes of the buffer
-module _ (line buffer : List ℕ) {n : ℕ} {b : List ℕ} (w : Writes (with_depth line buffer) (Wr.Length n) b) where
-  told : (depth_verdict line (length buffer) ≡ Vd.Done) × (n ≡ length (with_old_depth line)) × (take n b ≡ with_old_depth line)
+module _ (line buffer : List ℕ) {n : ℕ} {b : List ℕ} (w : Writes (with_depth line buffer) (Ok n) b) where
+  told : (depth_verdict line (length buffer) ≡ Ok tt) × (n ≡ length (with_old_depth line)) × (take n b ≡ with_old_depth line)
   unfolding with_depth
   told = writes_told (depth_verdict line (length buffer)) (with_old_depth line) buffer w
 
-  formed : line_form line ≡ Vd.Done
+  formed : line_form line ≡ Ok tt
   unfolding depth_verdict
   formed = (then_done _ _ told.0).0
 

@@ -16,7 +16,7 @@ use Rattle.answers.specs.declared.Decided.{Decided}
 use Rattle.answers.specs.declared.Refusal.{Refusal}
 use Rattle.answers.specs.declared.Answer.{Answer}
 use Rattle.answers.specs.declared.Answer.TheVariants as A
-use Rattle.answers.specs.declared.Verdict.TheVariants as Vd
+use Rattle.std.specs.Prelude.{Ok}
 use Rattle.answers.proofs.One.{answer_one}
 use Rattle.model.specs.Basics.{member}
 use Rattle.model.specs.Floor.{size}
@@ -104,7 +104,7 @@ module _ (j : Job) (bytes : List ℕ) (start : ℕ) (table path : List ℕ) (rea
   module _ {r : Decided} {t p m : List ℕ} (moves : List ℕ) (from : ℕ) (room : from + least_room ≤ length moves)
       (h : Decides (decide j bytes here.state here.table here.path moves from) r t p m) where
     -- the call is let through
-    pub acts : Decides (outcome_of Vd.Done deed here.state here.table here.path moves from) r t p m
+    pub acts : Decides (outcome_of (Ok tt) deed here.state here.table here.path moves from) r t p m
     acts = subst (λ o. Decides o r t p m) (decide_acts j bytes here.state here.table here.path moves from (judges j bytes start table path ready riding (length moves) from room)) h
 
     pub answers : r.answer ≡ deed.answer

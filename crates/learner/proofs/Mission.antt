@@ -17,11 +17,8 @@ use Rattle.answers.specs.declared.Decided.{Decided}
 use Rattle.answers.specs.declared.Report.{Report}
 use Rattle.answers.specs.declared.Refusal.{Refusal}
 use Rattle.answers.specs.declared.Answer.TheVariants as A
-use Rattle.answers.specs.declared.Verdict.TheVariants as Vd
-use Rattle.answers.specs.declared.Tried.{Tried}
-use Rattle.answers.specs.declared.Tried.TheVariants as Td
-use Rattle.answers.specs.declared.Ran.{Ran}
-use Rattle.answers.specs.declared.Ran.TheVariants as Rn
+use Rattle.answers.specs.Outcomes.{Tried, Ran, made_run}
+use Rattle.std.specs.Prelude.{Ok}
 use Rattle.answers.proofs.One.{answer_one, tried_one, ran_one}
 use Rattle.model.specs.Basics.{member}
 use Rattle.model.specs.Checks.{floor_of, goals, sizes, path_room, settings}
@@ -46,15 +43,15 @@ use Rattle.learner.proofs.Deciding.{handed, after, few, at_bench, whole, acts, a
 
 -- `open` answers done for it, and the path list has a place for each cell
 pub record Accepted (j : Job) (bytes : List ℕ) (start : ℕ) (table path : List ℕ) : Type 0 where
-  pub opens : open_job j bytes start table ≡ Vd.Done
+  pub opens : open_job j bytes start table ≡ Ok tt
   pub room : j.width * j.height ≤ length path
 
 -- so its trial is accepted, and so is its run of 1 to 1,000 trials with a record for each
-accepted-opens : {j : Job} {bytes : List ℕ} {start : ℕ} {table path : List ℕ} → Accepted j bytes start table path → open_trial j bytes start table path ≡ Vd.Done
+accepted-opens : {j : Job} {bytes : List ℕ} {start : ℕ} {table path : List ℕ} → Accepted j bytes start table path → open_trial j bytes start table path ≡ Ok tt
 accepted-opens {j} {bytes} {start} {table} {path} a = accepted-trial j bytes start table path (record { opened = opened j bytes start table a.opens; room = a.room })
 
 pub accepted-runs : {j : Job} {bytes : List ℕ} {start : ℕ} {table path : List ℕ} → Accepted j bytes start table path → (trials records : ℕ) → 1 ≤ trials → trials ≤ 1000 → trials ≤ records
-    → open_run j bytes start table path trials records ≡ Vd.Done
+    → open_run j bytes start table path trials records ≡ Ok tt
 unfolding open_trial open_run
 accepted-runs {j} {bytes} {start} {table} {path} a trials records some few room =
     let f = floor_of j bytes in
@@ -65,12 +62,12 @@ accepted-runs {j} {bytes} {start} {table} {path} a trials records some few room 
 
 -- and both are made: `trial` answers a record, and `run` a number of trials
 pub accepted_is_tried : {j : Job} {bytes : List ℕ} {start : ℕ} {table path : List ℕ} → Accepted j bytes start table path → {a : Tried} {t p : List ℕ}
-    → IsTrial (trial j bytes start table path) a t p → (r : Report) × (a ≡ Td.Made r)
+    → IsTrial (trial j bytes start table path) a t p → (r : Report) × (a ≡ Ok r)
 accepted_is_tried {j} {bytes} {start} {table} {path} h {a} c =
     (_, tried_one a _ c.answer_is ∙ ap (λ o. o.answer) (trial_is_made j bytes start table path (accepted-opens h)))
 
 pub accepted_is_run : {j : Job} {bytes : List ℕ} {start : ℕ} {table path : List ℕ} → Accepted j bytes start table path → (trials : ℕ) (lent : List Report) → 1 ≤ trials → trials ≤ 1000
-    → trials ≤ length lent → {a : Ran} {t p : List ℕ} {reports : List Report} → IsRun (run j bytes start trials table path lent) a t p reports → (n : ℕ) × (settled : Bool) × (a ≡ Rn.Made n settled)
+    → trials ≤ length lent → {a : Ran} {t p : List ℕ} {reports : List Report} → IsRun (run j bytes start trials table path lent) a t p reports → (n : ℕ) × (settled : Bool) × (a ≡ made_run n settled)
 accepted_is_run {j} {bytes} {start} {table} {path} h trials lent some few room {a} c =
     (_, _, ran_one a _ c.answer_is ∙ ap (λ o. o.answer) (run_is_made j bytes start trials table path lent (accepted-runs h trials (length lent) some few room)))
 
@@ -99,7 +96,7 @@ pub record Kept (j : Job) (bytes : List ℕ) (start : ℕ) (before : List ℕ) (
   pub keeps_a_way : Leads (net j bytes) Any start bench r.kept
   pub drives : (moves : List ℕ) × Drives (floor_of j bytes) start moves bench r.travel
 
-ride-keeps : (j : Job) (bytes : List ℕ) (start : ℕ) (table path : List ℕ) → open_trial j bytes start table path ≡ Vd.Done
+ride-keeps : (j : Job) (bytes : List ℕ) (start : ℕ) (table path : List ℕ) → open_trial j bytes start table path ≡ Ok tt
     → Kept j bytes start table (report j bytes (ride j bytes start table path)) (ride j bytes start table path).table
 ride-keeps j bytes start table path e =
     let g = trial_is_promised j bytes start table path e in
@@ -115,10 +112,10 @@ ride-keeps j bytes start table path e =
     }
 
 -- where `trial` answers a record, all this holds of it and of the table that it leaves
-pub trial-keeps : (j : Job) (bytes : List ℕ) (start : ℕ) (table path : List ℕ) (r : Report) (t p : List ℕ) → IsTrial (trial j bytes start table path) (Td.Made r) t p
+pub trial-keeps : (j : Job) (bytes : List ℕ) (start : ℕ) (table path : List ℕ) (r : Report) (t p : List ℕ) → IsTrial (trial j bytes start table path) (Ok r) t p
     → Kept j bytes start table r t
 trial-keeps j bytes start table path r t p h =
-    let (accepted, same) = made_is_accepted j bytes start table path r (sym (tried_one (Td.Made r) (trial j bytes start table path).answer h.answer_is)) in
+    let (accepted, same) = made_is_accepted j bytes start table path r (sym (tried_one (Ok r) (trial j bytes start table path).answer h.answer_is)) in
     let left : t ≡ (ride j bytes start table path).table = h.table_is ∙ ap (λ o. o.table) (trial_is_made j bytes start table path accepted) in
     subst (λ u. Kept j bytes start table u t) same
     (subst (Kept j bytes start table (report j bytes (ride j bytes start table path))) (sym left) (ride-keeps j bytes start table path accepted))
@@ -163,10 +160,10 @@ course_keeps j bytes start (suc k) table path A = by (eqb r.learned 0) refl (cou
 
 -- where `run` answers that it made n trials, all this holds of the records and of the table that it leaves
 pub run-keeps : (j : Job) (bytes : List ℕ) (start trials : ℕ) (table path : List ℕ) (lent : List Report) (n : ℕ) (settled : Bool) (t p : List ℕ) (reports : List Report)
-    → IsRun (run j bytes start trials table path lent) (Rn.Made n settled) t p reports → RunKept j bytes start n table t lent reports
+    → IsRun (run j bytes start trials table path lent) (made_run n settled) t p reports → RunKept j bytes start n table t lent reports
 run-keeps j bytes start trials table path lent n settled t p reports h =
     let (accepted, count, told) = made_run_is_accepted j bytes start trials table path lent n settled
-    (sym (ran_one (Rn.Made n settled) (run j bytes start trials table path lent).answer h.answer_is)) in
+    (sym (ran_one (made_run n settled) (run j bytes start trials table path lent).answer h.answer_is)) in
     let c = course_from j bytes start trials table path in
     let rs = map (report j bytes) c.rides in
     let long : length rs ≡ n = length-map c.rides (report j bytes) ∙ count in
@@ -191,9 +188,9 @@ run-keeps j bytes start trials table path lent n settled t p reports h =
 module _ (j : Job) (bytes : List ℕ) (s : State) (table path moves : List ℕ) (from : ℕ) (r : Decided) (t p m : List ℕ)
     (h : Decides (decide j bytes s table path moves from) r t p m) where
   -- from whatever state it is made: where the job is accepted with the table lent, no figure falls or passes the truth, and it stays accepted
-  pub decision_keeps : (start : ℕ) → open_job j bytes start table ≡ Vd.Done → Figures j bytes table t × (open_job j bytes start t ≡ Vd.Done)
+  pub decision_keeps : (start : ℕ) → open_job j bytes start table ≡ Ok tt → Figures j bytes table t × (open_job j bytes start t ≡ Ok tt)
   decision_keeps start e =
-      subst (λ u. Figures j bytes table u × (open_job j bytes start u ≡ Vd.Done)) (sym h.table) (
+      subst (λ u. Figures j bytes table u × (open_job j bytes start u ≡ Ok tt)) (sym h.table) (
         record {
           falls_not = no_figure_falls_in_a_decision j bytes s table path moves from;
           passes_not = no_figure_passes_truth_in_a_decision j bytes start s table path moves from e;

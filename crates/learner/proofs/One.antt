@@ -7,13 +7,9 @@ use mathlib.Core.List.{List}
 use denote.Ref.{Bor}
 use Rattle.answers.specs.Says.{says_verdict}
 use Rattle.answers.specs.declared.Goals.{Goals}
-use Rattle.answers.specs.declared.Verdict.{Verdict}
+use Rattle.answers.specs.Outcomes.{Verdict, Tried, Ran, FloorRead, Written}
 use Rattle.answers.specs.declared.Decided.{Decided}
 use Rattle.answers.specs.declared.Report.{Report}
-use Rattle.answers.specs.declared.Tried.{Tried}
-use Rattle.answers.specs.declared.Ran.{Ran}
-use Rattle.answers.specs.declared.FloorRead.{FloorRead}
-use Rattle.answers.specs.declared.Written.{Written}
 use Rattle.answers.proofs.One.{answer_one, verdict_one, tried_one, ran_one, floor_one, written_one}
 use Rattle.model.specs.Floor.{Floor}
 use Rattle.model.specs.Decision.{Outcome}

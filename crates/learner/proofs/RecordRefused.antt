@@ -7,8 +7,8 @@ use lib.ListN.{length}
 use Rattle.answers.specs.declared.Goals.{Goals}
 use Rattle.answers.specs.declared.Refusal.{Refusal}
 use Rattle.answers.specs.declared.Place.TheVariants as P
-use Rattle.answers.specs.declared.Verdict.{Verdict}
-use Rattle.answers.specs.declared.Verdict.TheVariants as Vd
+use Rattle.answers.specs.Outcomes.{Verdict}
+use Rattle.std.specs.Prelude.{Ok, Err}
 use Rattle.answers.proofs.One.{verdict_one}
 use Rattle.model.specs.Basics.{refuse_at}
 use Rattle.model.specs.Floor.{Floor, goals_of}
@@ -20,12 +20,12 @@ use Rattle.table_file.specs.Promises.{Reads}
 
 module _ (f : Floor) (q : ℕ) (g : Goals) (file table : List ℕ) where
   -- where `read_table` answers a number after 14 in the order of checks, it is that of the first fault of the first faulty record, which it names
-  pub refused-record : {r : Refusal} {t : List ℕ} → Reads (read_verdict f q g file (length table)) (read_table f q g file table) (Vd.Refused r) t → turn_of 15 ≤ turn_of r.number
+  pub refused-record : {r : Refusal} {t : List ℕ} → Reads (read_verdict f q g file (length table)) (read_table f q g file table) (Err r) t → turn_of 15 ≤ turn_of r.number
       → (i : ℕ) × (r.place ≡ P.Record i) × FirstFault f q (goals_of g) (find_records file) (count_in file) i r.number
-  refused-record {r} h = refused_record_means f q g file (length table) (sym (verdict_one (Vd.Refused r) _ h.answer))
+  refused-record {r} h = refused_record_means f q g file (length table) (sym (verdict_one (Err r) _ h.answer))
 
   -- and a file that 1, 3, 4, 27, 13, 28 and 14 let through is refused so
-  pub faulty_record : open_table f q g (length table) ≡ Vd.Done → check_trailer file ≡ Vd.Done → check_ahead file ≡ Vd.Done → same_job f q (goals_of g) file ≡ Vd.Done
+  pub faulty_record : open_table f q g (length table) ≡ Ok tt → check_trailer file ≡ Ok tt → check_ahead file ≡ Ok tt → same_job f q (goals_of g) file ≡ Ok tt
       → {i k : ℕ} → FirstFault f q (goals_of g) (find_records file) (count_in file) i k
       → {v : Verdict} {t : List ℕ} → Reads (read_verdict f q g file (length table)) (read_table f q g file table) v t → v ≡ refuse_at k (P.Record i)
   faulty_record opened checked whole same first {v} h = verdict_one v _ h.answer ∙ faulty_record_is_refused f q g file (length table) opened checked whole same first

@@ -17,12 +17,8 @@ use Rattle.answers.specs.declared.Decided.{Decided}
 use Rattle.answers.specs.declared.Report.{Report}
 use Rattle.answers.specs.declared.Refusal.{Refusal}
 use Rattle.answers.specs.declared.Answer.TheVariants as A
-use Rattle.answers.specs.declared.Verdict.{Verdict}
-use Rattle.answers.specs.declared.Verdict.TheVariants as Vd
-use Rattle.answers.specs.declared.Tried.TheVariants as Td
-use Rattle.answers.specs.declared.Ran.TheVariants as Rn
-use Rattle.answers.specs.declared.FloorRead.TheVariants as Fr
-use Rattle.answers.specs.declared.Written.TheVariants as Wr
+use Rattle.answers.specs.Outcomes.{Verdict}
+use Rattle.std.specs.Prelude.{Ok, Err}
 use Rattle.answers.proofs.One.{answer_one, verdict_one}
 use Rattle.model.specs.Floor.{Floor, goals_of}
 use Rattle.model.specs.Checks.{ceiling}
@@ -91,12 +87,12 @@ module _ (j : Job) (bytes : List ℕ) (s : State) (table path : List ℕ) where
   refused-decide moves from {t} {p} {m} {r} {x} h q = by (judge j bytes s table path (length moves) from) refl
     where
       by : (v : Verdict) → judge j bytes s table path (length moves) from ≡ v → (r.state ≡ s) × (t ≡ table) × (p ≡ path) × (m ≡ moves)
-      by (Vd.Refused y) e =
+      by (Err y) e =
           let o = decide-refused j bytes s table path moves from y e in
           (h.state ∙ ap (λ o. o.state) o, h.table ∙ ap (λ o. o.table) o, h.path ∙ ap (λ o. o.path) o, h.moves ∙ ap (λ o. o.moves) o)
-      by Vd.Done e = (h.state ∙ ap (λ o. o.state) o ∙ idle.0, h.table ∙ ap (λ o. o.table) o ∙ idle.1, h.path ∙ ap (λ o. o.path) o ∙ idle.2, h.moves ∙ ap (λ o. o.moves) o ∙ none)
+      by (Ok _) e = (h.state ∙ ap (λ o. o.state) o ∙ idle.0, h.table ∙ ap (λ o. o.table) o ∙ idle.1, h.path ∙ ap (λ o. o.path) o ∙ idle.2, h.moves ∙ ap (λ o. o.moves) o ∙ none)
         where
-          o : decide j bytes s table path moves from ≡ outcome_of Vd.Done (act j bytes s table path) s table path moves from
+          o : decide j bytes s table path moves from ≡ outcome_of (Ok tt) (act j bytes s table path) s table path moves from
           o = decide_acts j bytes s table path moves from e
 
           idle : ((act j bytes s table path).state ≡ s) × ((act j bytes s table path).table ≡ table) × ((act j bytes s table path).path ≡ path) × ((act j bytes s table path).way ≡ [])
@@ -108,65 +104,65 @@ module _ (j : Job) (bytes : List ℕ) (s : State) (table path : List ℕ) where
 -- ---- the calls whose outcome goes by one verdict
 
 -- `trial`: the table and the path
-pub refused-trial : (j : Job) (bytes : List ℕ) (start : ℕ) (table path : List ℕ) {x : Refusal} {t p : List ℕ} → IsTrial (trial j bytes start table path) (Td.Refused x) t p
+pub refused-trial : (j : Job) (bytes : List ℕ) (start : ℕ) (table path : List ℕ) {x : Refusal} {t p : List ℕ} → IsTrial (trial j bytes start table path) (Err x) t p
     → (t ≡ table) × (p ≡ path)
 unfolding trial_by
 refused-trial j bytes start table path {x} {t} {p} = by (open_trial j bytes start table path)
   where
-    by : (v : Verdict) → IsTrial (trial_of v j bytes (ride j bytes start table path) table path) (Td.Refused x) t p → (t ≡ table) × (p ≡ path)
-    by (Vd.Refused y) h = (h.table_is, h.path_is)
-    by Vd.Done h = absurd (omega (arith, ap (λ s. s.kind) h.answer_is))
+    by : (v : Verdict) → IsTrial (trial_of v j bytes (ride j bytes start table path) table path) (Err x) t p → (t ≡ table) × (p ≡ path)
+    by (Err y) h = (h.table_is, h.path_is)
+    by (Ok _) h = absurd (omega (arith, ap (λ s. s.kind) h.answer_is))
 
 -- `run`: the table, the path and the records
 pub refused-run : (j : Job) (bytes : List ℕ) (start trials : ℕ) (table path : List ℕ) (lent : List Report) {x : Refusal} {t p : List ℕ} {reports : List Report}
-    → IsRun (run j bytes start trials table path lent) (Rn.Refused x) t p reports → (t ≡ table) × (p ≡ path) × (reports ≡ lent)
+    → IsRun (run j bytes start trials table path lent) (Err x) t p reports → (t ≡ table) × (p ≡ path) × (reports ≡ lent)
 unfolding run_by
 refused-run j bytes start trials table path lent {x} {t} {p} {reports} = by (open_run j bytes start table path trials (length lent))
   where
-    by : (v : Verdict) → IsRun (run_of v j bytes (course_from j bytes start trials table path) table path lent) (Rn.Refused x) t p reports → (t ≡ table) × (p ≡ path) × (reports ≡ lent)
-    by (Vd.Refused y) h = (h.table_is, h.path_is, h.reports_are)
-    by Vd.Done h = absurd (omega (arith, ap (λ s. s.kind) h.answer_is))
+    by : (v : Verdict) → IsRun (run_of v j bytes (course_from j bytes start trials table path) table path lent) (Err x) t p reports → (t ≡ table) × (p ≡ path) × (reports ≡ lent)
+    by (Err y) h = (h.table_is, h.path_is, h.reports_are)
+    by (Ok _) h = absurd (omega (arith, ap (λ s. s.kind) h.answer_is))
 
 -- `fill_opening`: the table
-pub refused-fill_opening : (f : Floor) (q : ℕ) (g : Goals) (table : List ℕ) {x : Refusal} {t : List ℕ} → Fills f q g table (Vd.Refused x) t → t ≡ table
+pub refused-fill_opening : (f : Floor) (q : ℕ) (g : Goals) (table : List ℕ) {x : Refusal} {t : List ℕ} → Fills f q g table (Err x) t → t ≡ table
 refused-fill_opening f q g table h = h.left ∙ ap (λ v. filled v f q g table) (sym h.answer.is)
 
 -- `read_floor`: the buffer
-pub refused-read_floor : (bytes buffer : List ℕ) {x : Refusal} {b : List ℕ} → text.Reads (read_floor bytes buffer) (Fr.Refused x) b → b ≡ buffer
+pub refused-read_floor : (bytes buffer : List ℕ) {x : Refusal} {b : List ℕ} → text.Reads (read_floor bytes buffer) (Err x) b → b ≡ buffer
 unfolding read_floor
 refused-read_floor bytes buffer {x} {b} = by (floor_verdict bytes (length buffer))
   where
-    by : (v : Verdict) → text.Reads (floor_from v bytes buffer) (Fr.Refused x) b → b ≡ buffer
-    by (Vd.Refused y) h = h.buffer
-    by Vd.Done h = absurd (omega (arith, ap (λ s. s.kind) h.answer))
+    by : (v : Verdict) → text.Reads (floor_from v bytes buffer) (Err x) b → b ≡ buffer
+    by (Err y) h = h.buffer
+    by (Ok _) h = absurd (omega (arith, ap (λ s. s.kind) h.answer))
 
 -- `read_table`: the table
 pub refused-read_table : (f : Floor) (q : ℕ) (g : Goals) (bytes table : List ℕ) {x : Refusal} {t : List ℕ}
-    → file.Reads (read_verdict f q g bytes (length table)) (read_table f q g bytes table) (Vd.Refused x) t → t ≡ table
+    → file.Reads (read_verdict f q g bytes (length table)) (read_table f q g bytes table) (Err x) t → t ≡ table
 unfolding read_table
-refused-read_table f q g bytes table {x} h = h.table ∙ ap (λ v. read_of v f q g bytes table) (sym (verdict_one (Vd.Refused x) (read_verdict f q g bytes (length table)) h.answer))
+refused-read_table f q g bytes table {x} h = h.table ∙ ap (λ v. read_of v f q g bytes table) (sym (verdict_one (Err x) (read_verdict f q g bytes (length table)) h.answer))
 
 -- what all writers promise
-refused_writing : (v : Verdict) (file buffer : List ℕ) {x : Refusal} {b : List ℕ} → Writes (write_of v file buffer) (Wr.Refused x) b → b ≡ buffer
-refused_writing (Vd.Refused y) file buffer h = h.buffer
-refused_writing Vd.Done file buffer h = absurd (omega (arith, ap (λ s. s.kind) h.answer))
+refused_writing : (v : Verdict) (file buffer : List ℕ) {x : Refusal} {b : List ℕ} → Writes (write_of v file buffer) (Err x) b → b ≡ buffer
+refused_writing (Err y) file buffer h = h.buffer
+refused_writing (Ok _) file buffer h = absurd (omega (arith, ap (λ s. s.kind) h.answer))
 
 -- `write_floor`: the buffer
-pub refused-write_floor : (f : Floor) (buffer : List ℕ) {x : Refusal} {b : List ℕ} → Writes (write_floor f buffer) (Wr.Refused x) b → b ≡ buffer
+pub refused-write_floor : (f : Floor) (buffer : List ℕ) {x : Refusal} {b : List ℕ} → Writes (write_floor f buffer) (Err x) b → b ≡ buffer
 unfolding write_floor
 refused-write_floor f buffer h = refused_writing (text_verdict f (length buffer)) (text_of f) buffer h
 
 -- `write_table`: the buffer
-pub refused-write_table : (f : Floor) (q : ℕ) (g : Goals) (table buffer : List ℕ) {x : Refusal} {b : List ℕ} → Writes (write_table f q g table buffer) (Wr.Refused x) b → b ≡ buffer
+pub refused-write_table : (f : Floor) (q : ℕ) (g : Goals) (table buffer : List ℕ) {x : Refusal} {b : List ℕ} → Writes (write_table f q g table buffer) (Err x) b → b ≡ buffer
 unfolding write_table
 refused-write_table f q g table buffer h = refused_writing (write_verdict f q g table (length buffer)) (file_of f q (goals_of g) table) buffer h
 
 -- `renew_file`: the buffer
-pub refused-renew_file : (old buffer : List ℕ) {x : Refusal} {b : List ℕ} → Writes (renew_file old buffer) (Wr.Refused x) b → b ≡ buffer
+pub refused-renew_file : (old buffer : List ℕ) {x : Refusal} {b : List ℕ} → Writes (renew_file old buffer) (Err x) b → b ≡ buffer
 unfolding renew_file
 refused-renew_file old buffer h = refused_writing (renew_verdict old (length buffer)) (renewed old) buffer h
 
 -- `with_depth`: the buffer
-pub refused_with_depth : (line buffer : List ℕ) {x : Refusal} {b : List ℕ} → Writes (with_depth line buffer) (Wr.Refused x) b → b ≡ buffer
+pub refused_with_depth : (line buffer : List ℕ) {x : Refusal} {b : List ℕ} → Writes (with_depth line buffer) (Err x) b → b ≡ buffer
 unfolding with_depth
 refused_with_depth line buffer h = refused_writing (depth_verdict line (length buffer)) (with_old_depth line) buffer h

@@ -6,9 +6,8 @@ use mathlib.Core.Path.{◌≡◌, sym, ap, ◌∙◌}
 use mathlib.Core.List.{List}
 use lib.ListN.{length, take}
 use Rattle.answers.specs.declared.Goals.{Goals}
-use Rattle.answers.specs.declared.Verdict.{Verdict}
-use Rattle.answers.specs.declared.Verdict.TheVariants as Vd
-use Rattle.answers.specs.declared.Written.TheVariants as Wr
+use Rattle.answers.specs.Outcomes.{Verdict}
+use Rattle.std.specs.Prelude.{Ok}
 use Rattle.answers.proofs.One.{verdict_one}
 use Rattle.model.specs.Floor.{Floor, goals_of}
 use Rattle.model.specs.TableFile.{check_trailer, read_verdict, read_table, file_of}
@@ -22,12 +21,12 @@ use Rattle.model.proofs.Writings.{writes_told}
 use Rattle.table_file.specs.Promises.{Reads}
 
 -- a file that was renewed in n bytes of the buffer
-module _ (old buffer : List ℕ) (small : Bytes old) {n : ℕ} {b : List ℕ} (w : Writes (renew_file old buffer) (Wr.Length n) b) where
-  told : (renew_verdict old (length buffer) ≡ Vd.Done) × (n ≡ length (renewed old)) × (take n b ≡ renewed old)
+module _ (old buffer : List ℕ) (small : Bytes old) {n : ℕ} {b : List ℕ} (w : Writes (renew_file old buffer) (Ok n) b) where
+  told : (renew_verdict old (length buffer) ≡ Ok tt) × (n ≡ length (renewed old)) × (take n b ≡ renewed old)
   unfolding renew_file
   told = writes_told (renew_verdict old (length buffer)) (renewed old) buffer w
 
-  held : check_trailer old ≡ Vd.Done
+  held : check_trailer old ≡ Ok tt
   unfolding renew_verdict
   held = (then_done _ _ told.0).0
 
@@ -41,5 +40,5 @@ module _ (old buffer : List ℕ) (small : Bytes old) {n : ℕ} {b : List ℕ} (w
     )
 
     -- and where that was accepted they are what writing the last table gives
-    pub renewed_file_is_written : verdict_before f q g old (length table) ≡ Vd.Done → take n b ≡ file_of f q (goals_of g) (table_before f q g old table)
+    pub renewed_file_is_written : verdict_before f q g old (length table) ≡ Ok tt → take n b ≡ file_of f q (goals_of g) (table_before f q g old table)
     renewed_file_is_written e = told.2 ∙ sym (last_table_writes_renewed f q g old table small e)

@@ -10,11 +10,8 @@ use native.Mathlib.Omega.{arith}
 use lib.ListN.{length, get_or, drop}
 use Rattle.answers.specs.declared.Job.{Job}
 use Rattle.answers.specs.declared.Report.{Report}
-use Rattle.answers.specs.declared.Tried.{Tried}
-use Rattle.answers.specs.declared.Tried.TheVariants as Td
-use Rattle.answers.specs.declared.Ran.{Ran}
-use Rattle.answers.specs.declared.Ran.TheVariants as Rn
-use Rattle.answers.specs.declared.Verdict.TheVariants as Vd
+use Rattle.answers.specs.Outcomes.{Tried, Ran, made_run}
+use Rattle.std.specs.Prelude.{Ok}
 use Rattle.answers.proofs.One.{tried_one, ran_one}
 use Rattle.model.specs.Opening.{open_trial}
 use Rattle.model.specs.Ride.{Ride, report, ride, trial, course_from, run}
@@ -47,20 +44,20 @@ record_at_lem j bytes start rest d (suc n) (suc i) x h = record_at_lem j bytes s
 module _ (j : Job) (bytes : List ℕ) (start trials : ℕ) (table path : List ℕ) (lent : List Report) {a : Ran} {t p : List ℕ} {reports : List Report}
     (h : IsRun (run j bytes start trials table path lent) a t p reports) where
   -- with more than R trials asked for it answers settled, after R + 1 at the most
-  pub run_settles : Accepted j bytes start table path → R j bytes table < trials → trials ≤ 1000 → trials ≤ length lent → (n : ℕ) × (n ≤ R j bytes table + 1) × (a ≡ Rn.Made n true)
+  pub run_settles : Accepted j bytes start table path → R j bytes table < trials → trials ≤ 1000 → trials ≤ length lent → (n : ℕ) × (n ≤ R j bytes table + 1) × (a ≡ made_run n true)
   run_settles accepted more few room =
       let (n, within, told) = run_of_more_than_R_trials_settles j bytes start trials table path lent (accepted-runs accepted trials (length lent) (omega arith) few room) more in
       (n, within, ran_one a _ h.answer_is ∙ told)
 
   -- and with quota 0, at depth 1 or with weight 1/1, after two at the most
   pub run_settles_in_two : Accepted j bytes start table path → j.quota ≡ 0 → (j.depth ≡ 1) ⊎ (j.p ≡ j.q) → 1 < trials → trials ≤ 1000 → trials ≤ length lent
-      → (n : ℕ) × (n ≤ 2) × (a ≡ Rn.Made n true)
+      → (n : ℕ) × (n ≤ 2) × (a ≡ made_run n true)
   run_settles_in_two accepted none which more few room =
       let (n, within, told) = run_with_quota_0_settles_in_two j bytes start trials table path lent (accepted-runs accepted trials (length lent) (omega arith) few room) none which more in
       (n, within, ran_one a _ h.answer_is ∙ told)
 
   -- where it answers settled, the last record of those that it made is the settled trip's
-  pub settled_run_ends : (n : ℕ) → a ≡ Rn.Made n true → (i : ℕ) × (n ≡ suc i) × ((d : Report) → Settled j bytes start (get_or reports i d))
+  pub settled_run_ends : (n : ℕ) → a ≡ made_run n true → (i : ℕ) × (n ≡ suc i) × ((d : Report) → Settled j bytes start (get_or reports i d))
   settled_run_ends n e =
       let (accepted, count, settled) = made_run_is_accepted j bytes start trials table path lent n true (sym (ran_one a _ h.answer_is) ∙ e) in
       let c = course_from j bytes start trials table path in
@@ -85,12 +82,12 @@ module _ (j : Job) (bytes : List ℕ) (start trials : ℕ) (table path : List �
 
 -- ---- `trial`, and once more from what it left
 
-module _ (j : Job) (bytes : List ℕ) (start : ℕ) (table path : List ℕ) {r : Report} {t p : List ℕ} (h : IsTrial (trial j bytes start table path) (Td.Made r) t p) where
+module _ (j : Job) (bytes : List ℕ) (start : ℕ) (table path : List ℕ) {r : Report} {t p : List ℕ} (h : IsTrial (trial j bytes start table path) (Ok r) t p) where
   abbrev o : Ride
   o = ride j bytes start table path
 
-  told : (open_trial j bytes start table path ≡ Vd.Done) × (report j bytes o ≡ r)
-  told = made_is_accepted j bytes start table path r (sym (tried_one (Td.Made r) (trial j bytes start table path).answer h.answer_is))
+  told : (open_trial j bytes start table path ≡ Ok tt) × (report j bytes o ≡ r)
+  told = made_is_accepted j bytes start table path r (sym (tried_one (Ok r) (trial j bytes start table path).answer h.answer_is))
 
   t_is : t ≡ o.table
   t_is = h.table_is ∙ ap (λ o. o.table) (trial_is_made j bytes start table path told.0)
@@ -107,23 +104,23 @@ module _ (j : Job) (bytes : List ℕ) (start : ℕ) (table path : List ℕ) {r :
     abbrev o' : Ride
     o' = ride j bytes start o.table o.path
 
-    next : IsTrial (record { answer = Td.Made (report j bytes o'); table = o'.table; path = o'.path }) a t' p'
+    next : IsTrial (record { answer = Ok (report j bytes o'); table = o'.table; path = o'.path }) a t' p'
     next =
         subst (λ v. IsTrial v a t' p') (trial_is_made j bytes start o.table o.path (trial_stays_accepted j bytes start table path told.0))
         (subst (λ q. IsTrial (trial j bytes start o.table q) a t' p') p_is (subst (λ q. IsTrial (trial j bytes start q p) a t' p') t_is k))
 
     -- a trial that learned nothing is made again: the same record, and both lists left as they are
-    pub settled_trial_is_made_again : r.learned ≡ 0 → (a ≡ Td.Made r) × (t ≡ table) × (t' ≡ t) × (p' ≡ p)
+    pub settled_trial_is_made_again : r.learned ≡ 0 → (a ≡ Ok r) × (t ≡ table) × (t' ≡ t) × (p' ≡ p)
     settled_trial_is_made_again nothing =
         let none : o.learned ≡ 0 = ap (λ (r : Report). r.learned) told.1 ∙ nothing in
         let same : o' ≡ o = same_again j bytes start (record { table = table; path = path }) told.0 none in (
-          tried_one a _ next.answer_is ∙ ap (λ q. Td.Made (report j bytes q)) same ∙ ap Td.Made told.1,
+          tried_one a _ next.answer_is ∙ ap (λ q. Ok (report j bytes q)) same ∙ ap Ok told.1,
           t_is ∙ learning_nothing_changes_nothing j bytes start table path told.0 none,
           next.table_is ∙ ap (λ q. q.table) same ∙ sym t_is,
           next.path_is ∙ ap (λ q. q.path) same ∙ sym p_is,
         )
 
     -- with quota 0, at depth 1 or with weight 1/1, the second learns nothing, whatever the first did
-    pub second_trial_learns_nothing : j.quota ≡ 0 → (j.depth ≡ 1) ⊎ (j.p ≡ j.q) → (r' : Report) × (a ≡ Td.Made r') × (r'.learned ≡ 0)
+    pub second_trial_learns_nothing : j.quota ≡ 0 → (j.depth ≡ 1) ⊎ (j.p ≡ j.q) → (r' : Report) × (a ≡ Ok r') × (r'.learned ≡ 0)
     second_trial_learns_nothing none which =
         (report j bytes o', tried_one a _ next.answer_is, with_quota_0_the_second_trip_is_final j bytes start table path told.0 none which)

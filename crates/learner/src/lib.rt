@@ -2,10 +2,7 @@
 
 #![tactic(auto)]
 
-pub use answers::{
-    Answer, Decided, FloorRead, Goals, Job, Place, Ran, Refusal, Report, State, Tried, Verdict,
-    Written,
-};
+pub use answers::{Answer, Decided, Goals, Job, Made, Place, Refusal, Report, Sizes, State};
 pub use decision::decide;
 pub use floor::one_goal;
 pub use floor_text::{read_floor, write_floor};

@@ -6,7 +6,7 @@ use mathlib.Core.Bool.{Bool, true, false, ◌&&◌}
 use mathlib.Core.Option.{none, some}
 use mathlib.Core.List.{List, [], ◌∷◌}
 use native.Mathlib.Nat.{add-zero}
-use native.Mathlib.Decide.{dec_le}
+use native.Mathlib.Decide.{dec_le, dec_lt}
 use native.Mathlib.Omega.{arith}
 use borrow.Author.Tests.{le-leb, lt-leb, ne_eqb, eqb-true, eqb-false}
 use lib.Dec.{eqb, leb}
@@ -15,8 +15,7 @@ use Rattle.model.specs.FloorText.{LF, is_digit}
 use Rattle.model.specs.Line.{numbers_in, after_line}
 use Rattle.model.proofs.Accepted.{never}
 use Rattle.model.proofs.Openings.{not_both}
-use Rattle.line.specs.declared.Word.{Word}
-use Rattle.line.specs.Reading.{joined, Worded}
+use Rattle.line.specs.Reading.{joined, IsWord}
 use Rattle.notation.proofs.Decimals.{tens}
 use Rattle.notation.specs.declared.digits.Run.{Run}
 use Rattle.notation.specs.Runs.{digits_in, value_in, run_at}
@@ -140,10 +139,6 @@ pub none_left : (d v : ℕ) → numbers_in d v [] ≡ none
 unfolding numbers_in
 none_left d v = refl
 
--- what is no word
-pub bad-word : (input : List ℕ) (from : ℕ) (w : Word) → w.good ≡ false → numbers_in 0 0 (drop from input) ≡ none → Worded input from w
-bad-word input from w f e = record { bad = λ _. e; on = λ t. absurd (never t f); last = λ t. absurd (never t f); more = λ t. absurd (never t f) }
-
 -- the run of digits at a place
 module _ (input : List ℕ) (from : ℕ) (run : Run) (e : run ≡ run_at longest input from) where
   abbrev d : ℕ
@@ -189,42 +184,46 @@ module _ (input : List ℕ) (from : ℕ) (run : Run) (e : run ≡ run_at longest
     line_here : after_line (b ∷ left) ≡ after_line (drop from input)
     line_here = ap after_line (sym (here input run.after h) ∙ bytes) ∙ after_run (drop from input)
 
-    pub word_none : d ≡ 0 → numbers_in 0 0 (drop from input) ≡ none
+    word_none : d ≡ 0 → numbers_in 0 0 (drop from input) ≡ none
     word_none z = sym (then_byte (omega arith)) ∙ ap (λ (k : ℕ). numbers_in k run.value (b ∷ left)) z ∙ no_number run.value b left no_digit_here
 
-    module _ (some : (d ≡ 0) → ⊥) (l : d ≤ 7) where
+    module _ (some : run.after ≡ from → ⊥) (l : d ≤ 7) where
+      one : 1 ≤ d
+      one = omega (arith, ap (λ x. x.after) e)
+
       pub word_other : (b ≡ 10 → ⊥) → (b ≡ 32 → ⊥) → numbers_in 0 0 (drop from input) ≡ none
       word_other x y = sym (then_byte l) ∙ at_other d run.value b left (rw no_digit_here) x y
-
-      one : 1 ≤ d
-      one = by (dec_le 1 d)
-        where
-          by : Dec (1 ≤ d) → 1 ≤ d
-          by (yes k) = k
-          by (no k) = absurd (some (omega arith))
 
       on : (from < run.after + 1) × (run.after + 1 ≤ length input)
       on = (omega (arith, one), omega arith)
 
       -- the LF, or a space
-      pub word_last : b ≡ 10 → Worded input from (record { good = true; last = true; value = run.value; next = run.after + 1 })
+      pub word_last : b ≡ 10 → IsWord input from (record { value = run.value; last = true; next = run.after + 1 })
       word_last s = record {
-        bad = λ f. absurd (never refl f);
-        on = λ _. on;
-        last = λ _ _. (
+        on = on;
+        last = λ _. (
           sym (then_byte l) ∙ ap (λ (x : ℕ). numbers_in d run.value (x ∷ left)) s ∙ at_end_lem d run.value left one,
           sym line_here ∙ ap (λ (x : ℕ). after_line (x ∷ left)) s ∙ after_end left,
         );
-        more = λ _ f. absurd (never refl f);
+        more = λ f. absurd (never refl f);
       }
 
-      pub word_more : b ≡ 32 → Worded input from (record { good = true; last = false; value = run.value; next = run.after + 1 })
+      pub word_more : b ≡ 32 → IsWord input from (record { value = run.value; last = false; next = run.after + 1 })
       word_more s = record {
-        bad = λ f. absurd (never refl f);
-        on = λ _. on;
-        last = λ _ f. absurd (never f refl);
-        more = λ _ _. (
+        on = on;
+        last = λ f. absurd (never f refl);
+        more = λ _. (
           sym (then_byte l) ∙ ap (λ (x : ℕ). numbers_in d run.value (x ∷ left)) s ∙ at_space d run.value left one,
           sym line_here ∙ ap (λ (x : ℕ). after_line (x ∷ left)) s ∙ after_byte 32 left (λ z. omega arith),
         );
       }
+
+  -- no digits, or too many of them
+  pub word_unformed : (1 ≤ d → d ≤ 7 → ⊥) → numbers_in 0 0 (drop from input) ≡ none
+  word_unformed f = by (dec_le 1 d) (dec_le d 7) (dec_lt run.after (length input))
+    where
+      by : Dec (1 ≤ d) → Dec (d ≤ 7) → Dec (run.after < length input) → numbers_in 0 0 (drop from input) ≡ none
+      by (yes one) (yes l) k = absurd (f one l)
+      by _ (no l) k = word-long (omega arith)
+      by (no z) (yes l) (yes h) = word_none h (omega arith)
+      by (no z) (yes l) (no h) = word_out (omega arith)

@@ -1,130 +1,94 @@
 // A stored line with its depth: the old one is written into a line that leaves it out, and any other line is copied.
-ghost use Rattle.std.specs.Prelude.{◌≡◌, List, ℕ, ◌+◌, ◌≤◌, leb, length};
-ghost use Rattle.model.specs.Basics.{choose};
+ghost use Rattle.std.specs.Prelude.{◌≡◌, List, ℕ, ◌≤◌, leb, length, IfNone, IfSome};
 ghost use Rattle.model.specs.Line.{settings_of};
 ghost use Rattle.model.specs.KeepDepth.{is_asked, numbers_given, with_old_depth, with_depth};
 ghost use Rattle.model.specs.Writing.{Writes};
-ghost use Rattle.notation.specs.Printing.{Printed};
-ghost use Rattle.line.specs.Depths.{FirstLine};
+ghost use Rattle.notation.specs.Prints.{Prints, HasRoom};
+ghost use Rattle.line.specs.Depths.{NoLine, FirstLine, Gives};
 
 use super::word_at;
-use answers::{Place, Refusal, Written};
-use notation::print;
+use answers::Refusal;
+use notation::print::Printer;
 
-// So many numbers, where a line of the form may have them; else 0.
-fn formed(count: usize) -> usize
-    ensures { (ns : List ℕ) → length ns ≡ count → result ≡ choose (is_asked (settings_of ns)) count 0 }
+// Whether a line of the form may have so many numbers.
+fn formed(count: usize) -> bool
+    ensures { (ns : List ℕ) → length ns ≡ count → result ≡ is_asked (settings_of ns) }
 {
-    if count == 1 {
-        return 0;
-    }
-    if count == 4 {
-        return 0;
-    }
-    if 7 < count {
-        return 0;
-    }
-    count
+    matches!(count, 2 | 3 | 5..=7)
 }
 
-// The line from a place on: how many numbers it has, and the place after its LF; no numbers where it is malformed.
+// The line from a place on: how many numbers it has, and the place after its LF.
 #[derive(Clone, Copy)]
 pub struct First {
     pub given: usize,
     pub end: usize,
 }
 
-fn no_line() -> First
-    ensures { result.given ≡ 0 }
-{
-    First { given: 0, end: 0 }
-}
-
 // By `aisle`'s own rule of form; no range is judged.
-pub fn first_line(bytes: &[u8], from: usize) -> First
+pub fn first_line(bytes: &[u8], from: usize) -> Option<First>
     requires { from ≤ length bytes.now }
-    ensures { FirstLine bytes.now from result }
+    ensures malformed { IfNone result (NoLine bytes.now from) }
+    ensures formed { IfSome result (FirstLine bytes.now from) }
 {
-    let mut count = 0;
-    let mut i = from;
-    while i < bytes.len() {
-        let w = word_at(bytes, i);
-        if !w.good {
-            return no_line();
+    let mut given = 0;
+    let mut at = from;
+    // Each number says where the next one begins.
+    while at < bytes.len() {
+        let word = word_at(bytes, at)?;
+        given += 1;
+        at = word.next;
+        if word.last {
+            return formed(given).then_some(First { given, end: at });
         }
-        count += 1;
-        if w.last {
-            let given = formed(count);
-            return First {
-                given: given,
-                end: w.next,
-            };
-        }
-        i = w.next;
     }
-    no_line()
+    None
 }
 
-// How many numbers a line by itself has, its LF being its last byte; 0 where it is malformed.
-fn numbers_given(line: &[u8]) -> usize
-    ensures { result ≡ numbers_given line.now }
+// How many numbers a line by itself has, its LF being its last byte.
+fn numbers_given(line: &[u8]) -> Option<usize>
+    ensures malformed { IfNone result (numbers_given line.now ≡ 0) }
+    ensures formed { IfSome result (Gives line.now) }
 {
-    let f = first_line(line, 0);
-    if f.given == 0 {
-        return 0;
+    let first = first_line(line, 0)?;
+    if first.end < line.len() {
+        return None;
     }
-    if f.end < line.len() {
-        return 0;
-    }
-    f.given
+    Some(first.given)
 }
 
 // Whether there is room for the line with its depth, two bytes more where it leaves it out.
 fn has_room(line: &[u8], given: usize, room: usize) -> bool
-    requires { given ≡ numbers_given line.now }
+    requires { Gives line.now given }
     ensures { result ≡ leb (length (with_old_depth line.now)) room }
 {
-    if room < line.len() {
-        return false;
-    }
-    if given == 2 {
-        return 2 <= room - line.len();
-    }
-    true
+    line.len() <= room && (given != 2 || 2 <= room - line.len())
 }
 
-fn refused(number: usize) -> Written
-    ensures { result ≡ Written.Refused (record { number = number; place = Place.Nowhere }) }
-{
-    Written::Refused(Refusal {
-        number: number,
-        place: Place::Nowhere,
-    })
-}
-
-// The line with its depth, from a place on; the place after it.
-pub fn put_line(line: &[u8], given: usize, out: &mut [u8], at: usize) -> usize
-    requires { (given ≡ numbers_given line.now) × (1 ≤ given) × (at + length (with_old_depth line.now) ≤ length out.old) }
-    ensures { Printed out.old at (with_old_depth line.now) out.new result }
+// The line with its depth.
+pub fn put_line(line: &[u8], given: usize, out: &mut Printer)
+    requires given { Gives line.now given }
+    requires room { HasRoom out.old (length (with_old_depth line.now)) }
+    ensures { Prints out.old (with_old_depth line.now) out.new }
 {
     if given == 2 {
-        let n = line.len() - 1;
-        let end = print::bytes(out, at, &line[..n]);
-        return print::bytes(out, end, b" 1\n");
+        out.bytes(&line[..line.len() - 1]);
+        out.bytes(b" 1\n");
+    } else {
+        out.bytes(line);
     }
-    print::bytes(out, at, line)
 }
 
 // The line with its depth from the first byte on; the length. A refusal, 3 or 17, leaves the buffer as lent.
-pub fn with_depth(line: &[u8], buffer: &mut [u8]) -> Written
+pub fn with_depth(line: &[u8], buffer: &mut [u8]) -> Result<usize, Refusal>
     ensures { Writes (with_depth line.now buffer.old) result buffer.new }
 {
-    let given = numbers_given(line);
-    if given == 0 {
-        return refused(3);
-    }
+    let Some(given) = numbers_given(line) else {
+        return Err(Refusal::numbered(3));
+    };
     if !has_room(line, given, buffer.len()) {
-        return refused(17);
+        return Err(Refusal::numbered(17));
     }
-    Written::Length(put_line(line, given, buffer, 0))
+    let mut out = Printer { out: buffer, at: 0 };
+    put_line(line, given, &mut out);
+    Ok(out.at)
 }

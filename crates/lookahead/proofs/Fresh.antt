@@ -1,4 +1,4 @@
--- The lent lists from call to call: new ones of zeros, what a lookahead leaves, and what `renew` makes of it.
+-- What is lent from call to call: new ones of zeros, what a lookahead leaves, and what `renew` makes of it.
 -- Assumes nothing.
 use mathlib.Core.Path.{◌≡◌, refl, ◌∙◌}
 use mathlib.Core.List.{List}
@@ -6,22 +6,32 @@ use Prim.Native.Nat.{ℕ, zero, suc}
 use native.Mathlib.Omega.{arith}
 use lib.ListN.{get_or, replicate, length-replicate}
 use Rattle.answers.specs.declared.Job.{Job}
-use Rattle.lookahead.specs.Contract.{Marks, Spent, Fresh, Used, Window}
+use Rattle.lookahead.specs.declared.Extent.{Extent}
+use Rattle.lookahead.specs.declared.Scratch.{Scratch}
+use Rattle.lookahead.specs.Contract.{Marks, Fresh, Used, Window}
 
 zeros : (n i : ℕ) → ◌≡◌ {A = ℕ} (get_or (replicate n 0) i 0) 0
 zeros zero i = refl
 zeros (suc n) zero = refl
 zeros (suc n) (suc i) = zeros n i
 
--- marks of zeros; n is a variable so that they are not written out
-pub spent-zeros : (n : ℕ) → n ≡ 4096 → Spent 1 (replicate n 0)
-spent-zeros n e = record { size = length-replicate {A = ℕ} n 0 ∙ e; room = omega arith; below = λ x. omega (arith, zeros n x) }
+-- scratch of zeros; m and n are variables so that they are not written out
+zeros-used : (m n : ℕ) → m ≡ 4096 → n ≡ 8192 → Used 1 (record { mark = replicate m 0; cost = replicate m 0; list = replicate n 0 })
+zeros-used m n e f = record {
+  marks = record { size = length-replicate {A = ℕ} m 0 ∙ e; room = omega arith; below = λ x. omega (arith, zeros m x) };
+  costs = length-replicate {A = ℕ} m 0 ∙ e;
+  cells = length-replicate {A = ℕ} n 0 ∙ f;
+}
+
+pub used-zeros : Used 1 (record { mark = replicate 4096 0; cost = replicate 4096 0; list = replicate 8192 0 })
+used-zeros = zeros-used 4096 8192 refl refl
 
 -- what a lookahead leaves
-pub window-used : {j : Job} {bytes : List ℕ} {s base : ℕ} {mark cost list : List ℕ} {n last : ℕ}
-    → Window j bytes s base mark cost list n last → Used base mark cost list
+pub window-used : {j : Job} {bytes : List ℕ} {s base : ℕ} {scratch : Scratch} {e : Extent}
+    → Window j bytes s base scratch e → Used base scratch
 window-used W = record { marks = W.view.spent; costs = W.view.size; cells = W.room }
 
 -- with the marks renewed they can be lent again
-pub renewed : {base next : ℕ} {mark mark' cost list : List ℕ} → Used base mark cost list → Marks next mark' → Fresh next mark' cost list
+pub renewed : {base next : ℕ} {scratch : Scratch} {mark : List ℕ} → Used base scratch → Marks next mark
+    → Fresh next (record { mark = mark; cost = scratch.cost; list = scratch.list })
 renewed U M = record { marks = M; costs = U.costs; cells = U.cells }

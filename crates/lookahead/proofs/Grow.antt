@@ -1,6 +1,7 @@
 -- One cell more gets a mark, or one cost is lowered, or a cost is noted: what was marked stays, and the walk of the cell that is reached is
 -- one move longer than that of the cell it is reached from.
 -- Assumes nothing.
+use Rattle.std.specs.Prelude.{None}
 use mathlib.Core.Path.{◌≡◌, refl, ap, sym, ◌∙◌}
 use mathlib.Core.List.{List}
 use mathlib.Core.Bool.{true}
@@ -19,21 +20,20 @@ use Rattle.model.specs.Grounds.{price_same}
 use Rattle.model.specs.Lookahead.{fineness, fine}
 use Rattle.floor.specs.declared.Spot.{Spot}
 use Rattle.floor.specs.declared.Step.{Step}
-use Rattle.floor.specs.declared.Step.TheVariants.{To, Wall}
-use Rattle.floor.specs.Moves.{step_of}
+use Rattle.floor.specs.Moves.{to, step_of}
 use Rattle.floor.proofs.Steps.{Stepped, stepped, wall≢to, same_to}
-use Rattle.lookahead.specs.Marks.{net, State, state, entered, mark_of, cost_at, cell_of, note_at, In, Sizes, Room, Spread, Kept, Grew, Reached, Leaving, Extended, Left, Open, Segment, Swept, Out}
+use Rattle.lookahead.specs.Marks.{net, Finely, State, state, entered, mark_of, cost_at, cell_of, note_at, In, Sizes, Room, Spread, Kept, Grew, Reached, Leaving, Extended, Left, Open, Segment, Swept, Out}
 use Rattle.lookahead.proofs.Blanks.{blanks-pos, blanks-set}
 use Rattle.lookahead.proofs.Stores.{by_store}
 
 -- a move that leads to the cell d at the price v: the step, and what it says
 pub record Moved (f : Floor) (x m d v : ℕ) : Type 0 where
-  pub step : step_of f x m ≡ To d v
+  pub step : step_of f x m ≡ to d v
   pub at : Stepped f x m d v
 
 -- as the code is told it
-pub moved : {f : Floor} {x m d v : ℕ} {told : Step} → Sized f → told ≡ step_of f x m → told ≡ To d v → Moved f x m d v
-moved {f} {x} {m} {d} {v} z e t = record { step = sym e ∙ t; at = stepped f z x m d v (sym e ∙ t) }
+pub moved : {f : Floor} {x m : ℕ} {s : Step} → Sized f → (F : Finely f x m s) → Moved f x m s.cell F.price
+moved {f} {x} {m} {s} z F = record { step = F.step; at = stepped f z x m s.cell F.price F.step }
 
 -- the move back, its price, and as a fine one
 pub price-back : {f : Floor} {c m d v : ℕ} → Moved f c m d v → (1 ≤ v) × (price f d c ≡ v)
@@ -160,7 +160,7 @@ module _
       grown-free x = by_store (λ y. base ≤ y → free f x ≡ true) S.mark d (k + 1) x inside (λ e p. rw e M.at.free) (λ n p. R.free x p)
 
       -- the new cell's moves were not followed; those of the others lead where they led
-      grown-notes : (i : ℕ) → i < S.n + 1 → (j x y : ℕ) → j < 8 → step_of f (cell_of (grown k d u S) i) j ≡ To x y
+      grown-notes : (i : ℕ) → i < S.n + 1 → (j x y : ℕ) → j < 8 → step_of f (cell_of (grown k d u S) i) j ≡ to x y
           → (note_at (grown k d u S).list i ≡ 65535) ⊎ (In base mark' x × (cost_at (grown k d u S) x ≤ note_at (grown k d u S).list i + fine y))
       grown-notes i l j x y lj e = by (dec_lt i S.n)
         where
@@ -172,7 +172,7 @@ module _
           by (no p) = let q : i ≡ S.n = omega arith in inl (rw q (entered-blank S.list S.n d R.sizes.cells space))
 
       grown-room : Room f base (grown k d u S)
-      grown-room = record { sizes = grown-sizes; free = grown-free; cheap = grown-cheap; notes = grown-notes }
+      grown-room = record { sized = R.sized; sizes = grown-sizes; free = grown-free; cheap = grown-cheap; notes = grown-notes }
 
       -- for each s and each start of the ring
       module _ (s to : ℕ) (G : Spread f s base (k + 1) to S) where
@@ -238,6 +238,7 @@ module _
 
       lower-room : Room f base L
       lower-room = record {
+        sized = R.sized;
         sizes = record { marks = R.sizes.marks; costs = simp length-set R.sizes.costs; cells = R.sizes.cells; count = R.sizes.count };
         free = R.free;
         cheap = λ x p. omega (arith, falls x, R.cheap x p);
@@ -292,9 +293,8 @@ module _
       extended_to = by_mark (dec_le base (mark_of S d))
 
 -- no cell is moved into
-pub extended_wall : {f : Floor} {base k c m w : ℕ} {S : State} {told : Step} → Room f base S → cost_at S c ≡ w → told ≡ step_of f c m → told ≡ Wall
-    → Extended f base k c m w S S
-extended_wall R own e t = record { grew = grew_refl R; out = λ d v q. absurd (wall≢to d v (sym t ∙ e ∙ q)); stays = own }
+pub extended_wall : {f : Floor} {base k c m w : ℕ} {S : State} → Room f base S → cost_at S c ≡ w → step_of f c m ≡ None → Extended f base k c m w S S
+extended_wall R own e = record { grew = grew_refl R; out = λ d v q. absurd (wall≢to d v (sym e ∙ q)); stays = own }
 
 -- no move yet, and one move more
 pub left_none : {f : Floor} {base k c w : ℕ} {S : State} → Room f base S → cost_at S c ≡ w → Left f base k c 0 w S S
@@ -321,7 +321,7 @@ module _ {f : Floor} {base k c w : ℕ} (i : ℕ) {A B : State} (L : Left f base
   cells : (j : ℕ) → j < B.n → cell_of N j ≡ cell_of B j
   cells j p = get_or-set_other B.list (i + 4096) j w 0 (λ e. omega (arith, short))
 
-  noted-notes : (j : ℕ) → j < B.n → (m d v : ℕ) → m < 8 → step_of f (cell_of N j) m ≡ To d v
+  noted-notes : (j : ℕ) → j < B.n → (m d v : ℕ) → m < 8 → step_of f (cell_of N j) m ≡ to d v
       → (note_at N.list j ≡ 65535) ⊎ (In base B.mark d × (cost_at B d ≤ note_at N.list j + fine v))
   noted-notes j p m d v lm e =
       let s = rw (cells j p) at e in
@@ -332,6 +332,7 @@ module _ {f : Floor} {base k c w : ℕ} (i : ℕ) {A B : State} (L : Left f base
   noted-grew : Grew f base k B N
   noted-grew = record {
     room = record {
+      sized = R.sized;
       sizes = record { marks = R.sizes.marks; costs = R.sizes.costs; cells = simp length-set R.sizes.cells; count = R.sizes.count };
       free = R.free;
       cheap = R.cheap;

@@ -1,6 +1,6 @@
 -- From ring to ring: the marks are the fewest moves from s, and each ring is the one after the ring before it.
 -- Assumes nothing.
-use mathlib.Core.Path.{◌≡◌, refl, ap, sym, ◌∙◌, subst}
+use mathlib.Core.Path.{◌≡◌, refl, ap, sym, ◌∙◌}
 use mathlib.Core.List.{List}
 use mathlib.Core.Bool.{Bool, true, false}
 use mathlib.Core.Logic.{inl, inr}
@@ -22,6 +22,7 @@ use Rattle.model.proofs.Accepted.{never}
 use Rattle.model.proofs.Lists.{any_some, any_fails}
 use Rattle.model.proofs.Moves.{free_few}
 use Rattle.floor.proofs.Steps.{price-step}
+use Rattle.lookahead.specs.declared.Scratch.{Scratch}
 use Rattle.lookahead.specs.Contract.{last_base, Fresh}
 use Rattle.lookahead.specs.Marks.{net, State, begun, mark_of, cost_at, cell_of, In, Sizes, Room, Spread, Kept, Swept, Segment}
 use Rattle.lookahead.specs.Rings.{Done, Level, Full, Marked, Framed, Unmet, Blocked}
@@ -29,17 +30,25 @@ use Rattle.lookahead.proofs.Blanks.{blanks-set, blanks_all}
 use Rattle.lookahead.proofs.Stores.{by_store}
 use Rattle.lookahead.proofs.Grow.{kept_in, entered_new, entered-size, entered-blank}
 
--- the rings 0 to r are marked, none is empty, and no goal is in one of them; the last has the mark k, and its cells stand in the list from `from` on
-pub record Ringed (f : Floor) (s : ℕ) (gs : List ℕ) (base r k from : ℕ) (S : State) : Type 0 where
-  pub mark : k ≡ base + r
+-- the rings 0 to r are marked, none is empty, and no goal is in one of them; the cells of the last stand in the list from `from` on
+pub record Ringed (f : Floor) (s : ℕ) (gs : List ℕ) (base r from : ℕ) (S : State) : Type 0 where
   pub far : Unmet gs base S
-  pub full : Full base k S
-  pub level : Level f s base k from S
+  pub full : Full base (base + r) S
+  pub level : Level f s base (base + r) from S
 
 -- only s has a mark
-module _ {f : Floor} (z : Sized f) (s : ℕ) (on : free f s ≡ true) {base : ℕ} {mark cost list : List ℕ} (F : Fresh base mark cost list) where
+module _ {f : Floor} (z : Sized f) (s : ℕ) (on : free f s ≡ true) {base : ℕ} {scratch : Scratch} (F : Fresh base scratch) where
+  abbrev mark : List ℕ
+  mark = scratch.mark
+
+  abbrev cost : List ℕ
+  cost = scratch.cost
+
+  abbrev list : List ℕ
+  list = scratch.list
+
   abbrev S₀ : State
-  S₀ = begun base mark cost list s
+  S₀ = begun base scratch s
 
   inside : s < length mark
   inside = omega (arith, free_few f s z on)
@@ -69,6 +78,7 @@ module _ {f : Floor} (z : Sized f) (s : ℕ) (on : free f s ≡ true) {base : �
 
   begin-room : Room f base S₀
   begin-room = record {
+    sized = z;
     sizes = begin-sizes;
     free = λ x p. rw (only x p) on;
     cheap = λ x p. rw (only x p, cost-s) (omega arith);
@@ -93,14 +103,14 @@ module _ {f : Floor} (z : Sized f) (s : ℕ) (on : free f s ≡ true) {base : �
   begin_unmet : (gs : List ℕ) → member s gs ≡ false → Unmet gs base S₀
   begin_unmet gs n x m = by_store (λ y. y < base) mark s base x inside (λ e. absurd (never m (ap (λ y. member y gs) e ∙ n))) (λ o. F.marks.below x)
 
-  pub ringed_begin : {gs : List ℕ} {S : State} → S ≡ begun base mark cost list s → member s gs ≡ false → Ringed f s gs base 0 base 0 S
+  pub ringed_begin : {gs : List ℕ} {S : State} → S ≡ begun base scratch s → member s gs ≡ false → Ringed f s gs base 0 0 S
   ringed_begin {gs} e n =
+      let none : base + 0 ≡ base = omega arith in
       rw e
       (record {
-        mark = omega arith;
         far = begin_unmet gs n;
         full = λ g p q. (s, mark-s ∙ omega arith);
-        level = record { room = begin-room; spread = begin-spread; done = λ x p q m d v l e. absurd (omega arith); start = mark-s };
+        level = rw none (record { room = begin-room; spread = begin-spread; done = λ x p q m d v l e. absurd (omega arith); start = mark-s });
       })
 
 -- the ring that is marked last is left next
@@ -188,83 +198,87 @@ module _ {f : Floor} {s base k from : ℕ} {S : State} (L : Level f s base k fro
         by (yes h) = let x = F g p h in (x.0, K.marks x.0 (omega arith) ∙ x.1)
         by (no h) = (cell_of S' S.n, next_spread.late S.n l (omega arith) ∙ omega arith)
 
-  module _ (z : Sized f) where
-    -- a walk of n moves from a cell of ring j leads to a ring of at most j + n
-    reach : {a x c n : ℕ} → Walk (net f) Any a x c n → (j : ℕ) → In base S.mark a → mark_of S a ≤ base + j → base + j + n ≤ k
-        → In base S.mark x × (mark_of S x ≤ base + j + n)
-    reach (stop t) j i l h = (i, omega arith)
-    reach (move {a = a} {b = b} t e w) j i l h =
-        let (m, lm, step) = price-step f z a b (stretched_some fineness 1 (price f a b) (omega arith)) in
-        let o = L.done a i (omega arith) m b (price f a b) lm step in
-        let r = reach w (j + 1) o.0 (omega arith) (omega arith) in
-        (r.0, omega arith)
+  -- a walk of n moves from a cell of ring j leads to a ring of at most j + n
+  reach : {a x c n : ℕ} → Walk (net f) Any a x c n → (j : ℕ) → In base S.mark a → mark_of S a ≤ base + j → base + j + n ≤ k
+      → In base S.mark x × (mark_of S x ≤ base + j + n)
+  reach (stop t) j i l h = (i, omega arith)
+  reach (move {a = a} {b = b} t e w) j i l h =
+      let (m, lm, step) = price-step f L.room.sized a b (stretched_some fineness 1 (price f a b) (omega arith)) in
+      let o = L.done a i (omega arith) m b (price f a b) lm step in
+      let r = reach w (j + 1) o.0 (omega arith) (omega arith) in
+      (r.0, omega arith)
 
-    level-marked : (r : ℕ) → k ≡ base + r → Marked f s base r S
-    level-marked r e = record {
-      room = L.room;
-      top = λ x. omega (arith, L.spread.top x);
-      walks = L.spread.walks;
-      costs = L.spread.costs;
-      fewest = λ x c n w l.
-          let t = reach w 0 (omega arith) (omega arith) (omega arith) in
-          (t.0, omega arith);
-      listed = λ x p. let l = L.spread.listed x p in (l.0, l.1, l.2);
-      early = L.spread.early;
-    }
+  level-marked : (r : ℕ) → k ≡ base + r → Marked f s base r S
+  level-marked r e = record {
+    room = L.room;
+    top = λ x. omega (arith, L.spread.top x);
+    walks = L.spread.walks;
+    costs = L.spread.costs;
+    fewest = λ x c n w l.
+        let t = reach w 0 (omega arith) (omega arith) (omega arith) in
+        (t.0, omega arith);
+    listed = λ x p. let l = L.spread.listed x p in (l.0, l.1, l.2);
+    early = L.spread.early;
+  }
 
-module _ {f : Floor} {s : ℕ} {gs : List ℕ} {base r k from : ℕ} {S : State} (R : Ringed f s gs base r k from S) where
-  pub ringed_segment : r < deepest → base ≤ last_base → Segment base from S.n k S
+module _ {f : Floor} {s : ℕ} {gs : List ℕ} {base r from : ℕ} {S : State} (R : Ringed f s gs base r from S) where
+  pub ringed_segment : r < deepest → base ≤ last_base → Segment base from S.n (base + r) S
   ringed_segment h room =
       let G = R.level.spread in
       record { order = G.upto; end = refl; ring = record { first = omega arith; last = omega arith; room = room }; marked = λ j a b. G.late j b a }
 
   -- the answers: the depth is reached; a goal is in the ring found last; the ring found last is empty
-  pub ringed_framed : {depth : ℕ} → Sized f → r ≡ depth → 1 ≤ depth → Framed f s gs depth base r S
-  ringed_framed z d p = record {
-    marked = level-marked R.level z r R.mark;
-    within = omega arith;
-    some = omega arith;
-    ends = inl d;
-    nearer = λ g m i. absurd (omega (arith, R.far g m));
-    full = rw R.mark at R.full;
-  }
+  pub ringed_framed : {depth : ℕ} → r ≡ depth → 1 ≤ depth → Framed f s gs depth base depth S
+  ringed_framed d p =
+      rw (← d)
+      (record {
+        marked = level-marked R.level r refl;
+        within = omega arith;
+        some = omega arith;
+        ends = inl refl;
+        nearer = λ g m i. absurd (omega (arith, R.far g m));
+        full = R.full;
+      })
 
-  module _ {S' : State} (W : Swept f base k from S.n S S') where
-    L' : Level f s base (k + 1) S.n S'
-    L' = level_next R.level W
+  module _ {S' : State} (W : Swept f base (base + r) from S.n S S') where
+    more : base + r + 1 ≡ base + (r + 1)
+    more = omega arith
 
-    pub next_blocked : {depth : ℕ} → Sized f → r < depth → S'.n ≡ S.n → Blocked f s gs depth base r S'
-    next_blocked z short q =
-        let none : (x : ℕ) → mark_of S' x ≤ k = λ x. level-empty R.level W q x (omega arith) in record {
-          marked = level-marked L' z (r + 1) (omega arith);
+    L' : Level f s base (base + (r + 1)) S.n S'
+    L' = rw more at (level_next R.level W)
+
+    pub next_blocked : {depth : ℕ} → r < depth → S'.n ≡ S.n → Blocked f s gs depth base r S'
+    next_blocked short q =
+        let none : (x : ℕ) → mark_of S' x ≤ base + r = λ x. level-empty R.level W q x (omega arith) in record {
+          marked = level-marked L' (r + 1) refl;
           short = short;
           empty = λ x. omega (arith, none x);
           far = λ g m. away g m (dec_le base (mark_of S' g)) (none g);
         }
       where
-        away : (g : ℕ) → member g gs ≡ true → Dec (base ≤ mark_of S' g) → mark_of S' g ≤ k → mark_of S' g < base
+        away : (g : ℕ) → member g gs ≡ true → Dec (base ≤ mark_of S' g) → mark_of S' g ≤ base + r → mark_of S' g < base
         away g m (yes p) l = absurd (omega (arith, level-goal R.level W g (R.far g m) p))
         away g m (no p) l = omega arith
 
     -- the next ring is not empty
     module _ (some : S'.n ≡ S.n → ⊥) where
-      full : Full base (k + 1) S'
-      full = full_next R.level W (omega arith) R.full
+      full : Full base (base + (r + 1)) S'
+      full = rw more at (full_next R.level W (omega arith) R.full)
 
       -- whether a goal is in a ring that is marked, as the code is told it
       module _ {met : Bool} (told : met ≡ any (λ g. leb base (mark_of S' g)) gs) where
-        pub ringed_next : met ≡ false → Ringed f s gs base (r + 1) (k + 1) S.n S'
-        ringed_next n = record { mark = omega arith; far = λ g m. leb-false _ _ (any_fails _ _ (sym told ∙ n) g m); full = full; level = L' }
+        pub ringed_next : met ≡ false → Ringed f s gs base (r + 1) S.n S'
+        ringed_next n = record { far = λ g m. leb-false _ _ (any_fails _ _ (sym told ∙ n) g m); full = full; level = L' }
 
-        pub next_framed : {depth : ℕ} → Sized f → r < depth → met ≡ true → Framed f s gs depth base (r + 1) S'
-        next_framed z short y =
+        pub next_framed : {depth : ℕ} → r < depth → met ≡ true → Framed f s gs depth base (r + 1) S'
+        next_framed short y =
             let (g, m, t) = any_some _ _ (sym told ∙ y) in
             let on : (x : ℕ) → member x gs ≡ true → In base S'.mark x → mark_of S' x ≡ base + (r + 1) =
             λ x n i. level-goal R.level W x (R.far x n) i ∙ omega arith in record {
-              marked = level-marked L' z (r + 1) (omega arith);
+              marked = level-marked L' (r + 1) refl;
               within = omega arith;
               some = omega arith;
               ends = inr (g, m, on g m (leb-true _ _ t));
               nearer = on;
-              full = subst (λ y. Full base y S') (omega arith) full;
+              full = full;
             }

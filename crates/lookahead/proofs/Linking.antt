@@ -1,5 +1,6 @@
 -- The lowest cell before another: the first that a move leads to, the moves to the lowest cells being tried first.
 -- Assumes nothing.
+use Rattle.std.specs.Prelude.{Some, None}
 use mathlib.Core.Path.{◌≡◌, ap, sym, ◌∙◌}
 use mathlib.Core.List.{List}
 use Prim.Native.Nat.{ℕ, ◌+◌, ◌≤◌, ◌<◌}
@@ -11,9 +12,7 @@ use Rattle.model.specs.Floor.{Floor, Sized, price, opposite}
 use Rattle.model.specs.Grounds.{price_same}
 use Rattle.model.specs.Lookahead.{fine}
 use Rattle.model.proofs.Moves.{opposite-lt}
-use Rattle.floor.specs.declared.Step.{Step}
-use Rattle.floor.specs.declared.Step.TheVariants.{To, Wall}
-use Rattle.floor.specs.Moves.{step_of}
+use Rattle.floor.specs.Moves.{to, step_of}
 use Rattle.floor.proofs.Steps.{step-heading, price-step, wall≢to, same_to}
 use Rattle.lookahead.specs.declared.Link.{Link}
 use Rattle.lookahead.specs.Marks.{In}
@@ -25,62 +24,51 @@ use Rattle.lookahead.proofs.Rising.{rising_all, rising_higher}
 module _ {f : Floor} {base : ℕ} {mark cost : List ℕ} {x : ℕ} where
   -- ---- one move
 
-  module _ {j : ℕ} {b : Link} (e : b.cell ≡ 4096) where
-    led_nowhere : ((y v : ℕ) → step_of f x j ≡ To y v → Before f base mark cost x y → ⊥) → Led f base mark cost x j b
-    led_nowhere n = record { some = λ l. absurd (omega arith); none = λ l. n }
+  pub led_wall : (j : ℕ) → step_of f x j ≡ None → Led f base mark cost x j None
+  led_wall j w y v t = absurd (wall≢to y v (sym w ∙ t))
 
-    pub led_wall : {told : Step} → told ≡ step_of f x j → told ≡ Wall → Led f base mark cost x j b
-    led_wall s w = led_nowhere (λ y v t. absurd (wall≢to y v (sym w ∙ s ∙ t)))
+  module _ {j y v : ℕ} (M : Moved f x j y v) where
+    pub led_out : get_or mark y 0 < base → Led f base mark cost x j None
+    led_out h y' v' t B = omega (arith, rw (same_to (sym M.step ∙ t)).0 at h)
 
-    module _ {y v : ℕ} (M : Moved f x j y v) where
-      pub led_out : get_or mark y 0 < base → Led f base mark cost x j b
-      led_out h = led_nowhere (λ y' v' t B. omega (arith, rw (same_to (sym M.step ∙ t)).0 at h))
-
-      -- by what the move adds
-      pub led_slack : {a : ℕ} → a ≡ fine v → (at cost y + a ≡ at cost x → ⊥) → Led f base mark cost x j b
-      led_slack adds n = led_nowhere (λ y' v' t B.
-          let here = rw (sym (same_to (sym M.step ∙ t)).0) at B in
-          n (omega (arith, (price-back M).1)))
+    -- by what the move adds
+    pub led_slack : {a : ℕ} → a ≡ fine v → (at cost y + a ≡ at cost x → ⊥) → Led f base mark cost x j None
+    led_slack adds n y' v' t B =
+        let here = rw (sym (same_to (sym M.step ∙ t)).0) at B in
+        n (omega (arith, (price-back M).1))
 
   pub led_new : {j y v a : ℕ} → Sized f → j < 8 → Moved f x j y v → In base mark y → a ≡ fine v → at cost y + a ≡ at cost x
-      → Led f base mark cost x j (record { cell = y; m = opposite j })
+      → Led f base mark cost x j (Some (record { cell = y; m = opposite j }))
   led_new {j} {y} {v} z l M i adds t =
-      let (some, same) = price-back M in
-      record {
-        some = λ q. (
-          record {
-            before = record { inside = i; move = omega arith; exact = omega arith };
-            heading = step-heading f z x j y v l M.step;
-            one = opposite-lt j l;
-          },
-          (v, M.step),
-        );
-        none = λ h. absurd (omega arith);
-      }
+      let (some, same) = price-back M in (
+        record {
+          before = record { inside = i; move = omega arith; exact = omega arith };
+          heading = step-heading f z x j y v l M.step;
+          one = opposite-lt j l;
+        },
+        (v, M.step),
+      )
 
   -- ---- one after another
 
   pub unled_none : Unled f base mark cost x 0
   unled_none = record { within = omega arith; none = λ k l. absurd (omega arith) }
 
-  module _ {i j : ℕ} {b : Link} (few : i < 8) (U : Unled f base mark cost x i) (e : j ≡ rising_move i) (led : Led f base mark cost x j b) where
-    L : Led f base mark cost x (rising_move i) b
-    L = rw e at led
-
-    pub unled_more : 4096 ≤ b.cell → Unled f base mark cost x (i + 1)
-    unled_more h = record {
+  module _ {i j : ℕ} (few : i < 8) (U : Unled f base mark cost x i) (e : j ≡ rising_move i) where
+    pub unled_more : Led f base mark cost x j None → Unled f base mark cost x (i + 1)
+    unled_more led = record {
       within = omega arith;
-      none = below_more _ i U.none (L.none h);
+      none = below_more _ i U.none (rw e at led);
     }
 
     -- the first that is found is the lowest
-    pub led-prior : Sized f → b.cell < 4096 → Prior f base mark cost x b
-    led-prior z h = record { from = (L.some h).0; lowest = lowest }
+    pub led-prior : {b : Link} → Sized f → Led f base mark cost x j (Some b) → Prior f base mark cost x b
+    led-prior {b} z led = record { from = led.0; lowest = lowest }
       where
         lowest : (y : ℕ) → Before f base mark cost x y → b.cell ≤ y
         lowest y B = by (dec_le i k) (dec_le k i)
           where
-            step : (m : ℕ) × (m < 8) × (step_of f x m ≡ To y (price f x y))
+            step : (m : ℕ) × (m < 8) × (step_of f x m ≡ to y (price f x y))
             step = price-step f z x y (omega (arith, price_same f x y))
 
             found : (k : ℕ) × (k < 8) × (rising_move k ≡ step.0)
@@ -89,14 +77,14 @@ module _ {f : Floor} {base : ℕ} {mark cost : List ℕ} {x : ℕ} where
             k : ℕ
             k = found.0
 
-            there : step_of f x (rising_move k) ≡ To y (price f x y)
+            there : step_of f x (rising_move k) ≡ to y (price f x y)
             there = ap (step_of f x) found.2 ∙ step.2
 
             by : Dec (i ≤ k) → Dec (k ≤ i) → b.cell ≤ y
             by (no n) t = absurd (U.none k (omega arith) y (price f x y) there B)
-            by (yes l) (no n) = let (v, s) = (L.some h).1 in omega (arith, rising_higher f z x i k (omega arith) found.1 b.cell v y (price f x y) s there)
+            by (yes l) (no n) = let (v, s) = rw e at led.1 in omega (arith, rising_higher f z x i k (omega arith) found.1 b.cell v y (price f x y) s there)
             by (yes l) (yes g) =
-                let (v, s) = (L.some h).1 in
+                let (v, s) = rw e at led.1 in
                 let e : i ≡ k = omega arith in
                 omega (arith, (same_to (sym s ∙ ap (λ n. step_of f x (rising_move n)) e ∙ there)).0)
 

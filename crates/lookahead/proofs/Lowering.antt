@@ -1,5 +1,6 @@
 -- Costs that are lowered along moves: they stay the costs of walks, and where no move lowers any, each is the least.
 -- Assumes nothing.
+use Rattle.std.specs.Prelude.{None}
 use mathlib.Core.Path.{◌≡◌, refl, ap, sym, ◌∙◌}
 use mathlib.Core.List.{List, [], ◌∷◌}
 use mathlib.Core.Bool.{Bool, true, false, true≢false}
@@ -16,8 +17,6 @@ use Rattle.learning.proofs.Walks.{restate, first_in}
 use Rattle.model.specs.Floor.{Floor, Sized, least_price, price}
 use Rattle.model.specs.Lookahead.{fineness, fine}
 use Rattle.model.specs.Grounds.{price_same}
-use Rattle.floor.specs.declared.Step.{Step}
-use Rattle.floor.specs.declared.Step.TheVariants.{Wall}
 use Rattle.floor.specs.Moves.{step_of}
 use Rattle.floor.proofs.Steps.{stepped, price-step, wall≢to, same_to}
 use Rattle.lookahead.specs.Marks.{net, note_at, In}
@@ -123,9 +122,9 @@ module _ {f : Floor} {base : ℕ} {mark : List ℕ} where
       lowered_more p q (λ t y. (y.0, below_more _ m (λ i l d v s h. omega (arith, t.1 i l d v s h, q.drop d)) y.1))
 
   -- a move that leads nowhere, or out of the window, lowers nothing
-  pub eased_wall : (c m : ℕ) {w : ℕ} {cost : List ℕ} {b : Bool} {told : Step} → Costs f base mark cost → at cost c ≡ w → told ≡ step_of f c m → told ≡ Wall
+  pub eased_wall : (c m : ℕ) {w : ℕ} {cost : List ℕ} {b : Bool} → Costs f base mark cost → at cost c ≡ w → step_of f c m ≡ None
       → Lowered f base mark (Eased f base mark c m w) cost b cost b
-  eased_wall c m C own e t = lowered_none C (own, λ x u s i. absurd (wall≢to x u (sym t ∙ e ∙ s)))
+  eased_wall c m C own e = lowered_none C (own, λ x u s i. absurd (wall≢to x u (sym e ∙ s)))
 
   module _ {cost : List ℕ} {c m d v w : ℕ} (C : Costs f base mark cost) (own : at cost c ≡ w) (M : Moved f c m d v) where
     pub eased_out : {b : Bool} → get_or mark d 0 < base → Lowered f base mark (Eased f base mark c m w) cost b cost b
@@ -146,6 +145,7 @@ module _ {f : Floor} {base : ℕ} {mark : List ℕ} where
       lowered-set : {b : Bool} → u < at cost d → Lowered f base mark (Eased f base mark c m w) cost b (set cost d u) true
       lowered-set l = record {
         costs = record {
+          sized = C.sized;
           marks = C.marks;
           costs = simp length-set C.costs;
           free = C.free;
@@ -190,12 +190,12 @@ module _ {f : Floor} {base : ℕ} {mark : List ℕ} where
     }
 
     -- where every cost is at most the least fine price above its own, following them lowers nothing
-    pub again_topped : {high w : ℕ} {cost : List ℕ} {b : Bool} → Sized f → Costs f base mark cost → Topmost base mark cost high
+    pub again_topped : {high w : ℕ} {cost : List ℕ} {b : Bool} → Costs f base mark cost → Topmost base mark cost high
         → w ≡ at cost c → high ≤ w + fine least_price → Again f base mark i cost list b cost (set list (i + 4096) (at cost c)) b
-    again_topped {cost = cost} z C top e l = record {
+    again_topped {cost = cost} C top e l = record {
       note = at cost c;
       noted = refl;
-      lowered = lowered_none C (λ m h d v s t. omega (arith, top d t, (stepped f z (get_or list i 0) m d v s).least));
+      lowered = lowered_none C (λ m h d v s t. omega (arith, top d t, (stepped f C.sized (get_or list i 0) m d v s).least));
       calm = λ y. rw (← here) (omega arith);
     }
 
@@ -231,12 +231,12 @@ module _ {f : Floor} {base : ℕ} {mark : List ℕ} where
       }
 
   -- the last lowers nothing, so every cost is the least
-  pub relaxed : {n high : ℕ} {A B Z list list' : List ℕ} {b : Bool} → Sized f → Falling f base mark n high A B list → Passed f base mark n n B Z list' b → b ≡ false
+  pub relaxed : {n high : ℕ} {A B Z list list' : List ℕ} {b : Bool} → Falling f base mark n high A B list → Passed f base mark n n B Z list' b → b ≡ false
       → Relaxed f base mark n A Z list'
-  relaxed {Z = Z} {list' = list} z F p none = record {
+  relaxed {Z = Z} {list' = list} F p none = record {
     costs = p.lowered.costs;
     listing = p.listing;
-    least = λ s W e. least f z base mark Z s (omega (arith, p.lowered.drop s, F.drop s)) tight (p.lowered.walked s (F.walked s W));
+    least = λ s W e. least f F.costs.sized base mark Z s (omega (arith, p.lowered.drop s, F.drop s)) tight (p.lowered.walked s (F.walked s W));
   }
     where
       tight : (x : ℕ) → In base mark x → Followed f base mark x 8 (at Z x) Z

@@ -9,8 +9,7 @@ use lib.Dec.{lit<}
 use Rattle.model.specs.Floor.{Floor, Sized, column, row, east, south, ahead}
 use Rattle.model.proofs.Cells.{cell-lt}
 use Rattle.model.proofs.Moves.{all8, east-le, Inside, allowed-inside}
-use Rattle.floor.specs.declared.Step.TheVariants.{To}
-use Rattle.floor.specs.Moves.{step_of}
+use Rattle.floor.specs.Moves.{to, step_of}
 use Rattle.floor.proofs.Steps.{stepped}
 use Rattle.lookahead.specs.Way.{rising_move}
 
@@ -41,7 +40,7 @@ module _ (f : Floor) (z : Sized f) (x : ℕ) where
           omega (arith, ap (λ r. r * f.width) same, east-le n l)
       by (no s) = row_higher f.width (column f x + east m - 1) (row f x + south m - 1) (column f x + east n - 1) (row f x + south n - 1) (omega arith) (omega arith)
 
-  pub rising_higher : (i k : ℕ) → i < k → k < 8 → (b u y v : ℕ) → step_of f x (rising_move i) ≡ To b u → step_of f x (rising_move k) ≡ To y v → b < y
+  pub rising_higher : (i k : ℕ) → i < k → k < 8 → (b u y v : ℕ) → step_of f x (rising_move i) ≡ to b u → step_of f x (rising_move k) ≡ to y v → b < y
   rising_higher i k h l b u y v s t =
       let p = stepped f z x (rising_move i) b u s in
       let q = stepped f z x (rising_move k) y v t in

@@ -12,7 +12,7 @@ use Rattle.learning.specs.Ahead.{Window}
 use Rattle.learning.specs.Ground.{Goal}
 use Rattle.learning.proofs.Walks.{restate, turn, widen, least_same}
 use Rattle.model.specs.Basics.{member}
-use Rattle.model.specs.Floor.{Floor, size, Sized}
+use Rattle.model.specs.Floor.{Floor, size}
 use Rattle.model.specs.Checks.{deepest, Benched}
 use Rattle.model.specs.Grounds.{ground_of}
 use Rattle.model.proofs.Lists.{member-place}
@@ -28,6 +28,7 @@ module _ {f : Floor} {s : ℕ} {gs : List ℕ} {depth base last : ℕ} {S : Stat
   pub framed_costs : Costs f base S.mark S.cost
   framed_costs =
       let R = F.marked.room in record {
+        sized = R.sized;
         marks = R.sizes.marks;
         costs = R.sizes.costs;
         free = R.free;
@@ -51,7 +52,7 @@ module _ {f : Floor} {s : ℕ} {gs : List ℕ} {depth base last : ℕ} {S : Stat
   start = let m = F.marked.fewest s 0 0 (stop tt) (omega arith) in omega (arith, F.marked.room.cheap s m.0)
 
   -- the window
-  module _ (z : Sized f) (benches : Benched (size f) gs) {cost list : List ℕ} (R : Relaxed f base S.mark S.n S.cost cost list) where
+  module _ (benches : Benched (size f) gs) {cost list : List ℕ} (R : Relaxed f base S.mark S.n S.cost cost list) where
     abbrev ring : ℕ → ℕ
     ring = ring_at base S.mark
 

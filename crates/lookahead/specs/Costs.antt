@@ -1,12 +1,11 @@
 -- The fine costs in a window: lowered along its moves until none can be lowered.
 use Rattle.std.specs.Prelude.{◌≡◌, List, [], ◌∷◌, ◌⊎◌, Bool, true, false, ℕ, ◌+◌, ◌*◌, ◌≤◌, ◌<◌, length, get_or, set}
 use Rattle.learning.specs.Walk.{Least, Leads}
-use Rattle.model.specs.Floor.{Floor, free, dearest_price}
+use Rattle.model.specs.Floor.{Floor, Sized, free, dearest_price}
 use Rattle.model.specs.Checks.{deepest}
 use Rattle.model.specs.Lookahead.{fine}
 use Rattle.floor.specs.declared.Spot.{Spot}
-use Rattle.floor.specs.declared.Step.TheVariants.{To}
-use Rattle.floor.specs.Moves.{Placed, step_of}
+use Rattle.floor.specs.Moves.{to, Placed, step_of}
 use Rattle.lookahead.specs.Marks.{net, note_at, In}
 
 -- the sum of all costs, which falls with each that is lowered
@@ -21,8 +20,9 @@ at cost x = get_or cost x 0
 abbrev pub dearest_fine : ℕ
 dearest_fine = fine dearest_price * deepest
 
--- the window's cells are free, and their costs small
+-- the window's cells are free cells of a floor, and their costs small
 pub record Costs (f : Floor) (base : ℕ) (mark cost : List ℕ) : Type 0 where
+  pub sized : Sized f
   pub marks : length mark ≡ 4096
   pub costs : length cost ≡ 4096
   pub free : (x : ℕ) → In base mark x → free f x ≡ true
@@ -34,7 +34,7 @@ Walked f s base mark cost = (x : ℕ) → In base mark x → Leads (net f) (In b
 
 -- the move m from c, followed at the cost u, lowers no cost of the window; nor do the first m moves
 abbrev pub Under : Floor → ℕ → (mark : List ℕ) → (c m u : ℕ) → (cost : List ℕ) → Type 0
-Under f base mark c m u cost = (d v : ℕ) → step_of f c m ≡ To d v → In base mark d → at cost d ≤ u + fine v
+Under f base mark c m u cost = (d v : ℕ) → step_of f c m ≡ to d v → In base mark d → at cost d ≤ u + fine v
 
 abbrev pub Followed : Floor → ℕ → (mark : List ℕ) → (c m u : ℕ) → (cost : List ℕ) → Type 0
 Followed f base mark c m u cost = (i : ℕ) → i < m → Under f base mark c i u cost

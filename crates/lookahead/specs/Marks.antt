@@ -1,19 +1,32 @@
 -- What holds while the rings around s are marked. A cell's mark is the base and its ring, or below the base; beside it stands the fine cost of
 -- a walk to it; and the marked cells stand in a list, ring by ring, each with the cost at which its moves were followed.
-use Rattle.std.specs.Prelude.{◌≡◌, List, [], ◌∷◌, true, cond, ◌⊎◌, ℕ, ◌+◌, ◌-◌, ◌*◌, ◌≤◌, ◌<◌, ltb, length, get_or, set}
+use Rattle.std.specs.Prelude.{◌≡◌, List, [], ◌∷◌, true, cond, ◌⊎◌, ℕ, ◌+◌, ◌-◌, ◌*◌, ◌≤◌, ◌<◌, ltb, length, get_or, set, Option, Some, None}
 use Rattle.learning.specs.Walk.{Network, Walk, Leads}
 use Rattle.learning.specs.Ground.{net_of}
-use Rattle.model.specs.Floor.{Floor, free, dearest_price}
+use Rattle.model.specs.Floor.{Floor, Sized, free, dearest_price}
 use Rattle.model.specs.Checks.{deepest}
 use Rattle.model.specs.Lookahead.{fine, fine_of}
 use Rattle.floor.specs.declared.Spot.{Spot}
-use Rattle.floor.specs.declared.Step.TheVariants.{To}
-use Rattle.floor.specs.Moves.{Placed, step_of}
+use Rattle.floor.specs.declared.Step.{Step}
+use Rattle.floor.specs.Moves.{to, Placed, step_of}
+use Rattle.lookahead.specs.declared.Scratch.{Scratch}
 use Rattle.lookahead.specs.Contract.{last_base}
 
 -- the moves of a floor at their fine prices
 abbrev pub net : Floor → Network
 net f = net_of (fine_of f [])
+
+-- the move m from c leads to the cell of s, whose cost is the fine price; or nothing may be moved into
+pub record Finely (f : Floor) (c m : ℕ) (s : Step) : Type 0 where
+  pub price : ℕ
+  pub step : step_of f c m ≡ to s.cell price
+  pub is : s.cost ≡ fine price
+  pub few : s.cell < 4096
+  pub most : s.cost ≤ fine dearest_price
+
+abbrev pub FineStep : Floor → (c m : ℕ) → Option Step → Type 0
+FineStep f c m (Some s) = Finely f c m s
+FineStep f c m None = step_of f c m ≡ None
 
 -- how many cells have no mark
 unfoldable pub blanks : ℕ → List ℕ → ℕ
@@ -28,6 +41,10 @@ pub record State : Type 0 where
 
 abbrev pub state : (mark cost list : List ℕ) (n : ℕ) → State
 state mark cost list n = record { mark = mark; cost = cost; list = list; n = n }
+
+-- what is lent, with the list's first n cells in use
+abbrev pub held : Scratch → (n : ℕ) → State
+held scratch n = state scratch.mark scratch.cost scratch.list n
 
 abbrev pub mark_of : State → ℕ → ℕ
 mark_of S x = get_or S.mark x 0
@@ -53,13 +70,14 @@ pub record Sizes (base : ℕ) (S : State) : Type 0 where
   pub cells : length S.list ≡ 8192
   pub count : S.n + blanks base S.mark ≡ 4096
 
--- and the marked cells are free, at no more than the dearest fine price for each move of their ring; where a cell's moves were followed, they lead to marked cells,
+-- and the marked cells are free cells of a floor, at no more than the dearest fine price for each move of their ring; where a cell's moves were followed, they lead to marked cells,
 -- which cost no more than the move adds
 pub record Room (f : Floor) (base : ℕ) (S : State) : Type 0 where
+  pub sized : Sized f
   pub sizes : Sizes base S
   pub free : (x : ℕ) → In base S.mark x → free f x ≡ true
   pub cheap : (x : ℕ) → In base S.mark x → cost_at S x ≤ fine dearest_price * (mark_of S x - base)
-  pub notes : (i : ℕ) → i < S.n → (m d v : ℕ) → m < 8 → step_of f (cell_of S i) m ≡ To d v
+  pub notes : (i : ℕ) → i < S.n → (m d v : ℕ) → m < 8 → step_of f (cell_of S i) m ≡ to d v
       → (note_at S.list i ≡ 65535) ⊎ (In base S.mark d × (cost_at S d ≤ note_at S.list i + fine v))
 
 -- the cells of mark g are being found, and stand in the list from `to` on; a walk of its ring's moves leads
@@ -82,7 +100,7 @@ pub record Kept (base : ℕ) (S S' : State) : Type 0 where
 
 -- every cell that one move leads to from x has a mark, for the moves below m
 abbrev pub Out : Floor → ℕ → State → (x m : ℕ) → Type 0
-Out f base S x m = (i : ℕ) → i < m → (d v : ℕ) → step_of f x i ≡ To d v → In base S.mark d
+Out f base S x m = (i : ℕ) → i < m → (d v : ℕ) → step_of f x i ≡ to d v → In base S.mark d
 
 -- the list with a new cell after its first n, whose moves were not followed yet
 abbrev pub entered : (list : List ℕ) (n d : ℕ) → List ℕ
@@ -116,13 +134,13 @@ pub record Leaving (f : Floor) (base c : ℕ) (at : Spot) (k w : ℕ) (S : State
 -- the move m from c, of cost w, leads to a marked cell or none, which costs no more than the move adds; c itself costs what it did
 pub record Extended (f : Floor) (base k c m w : ℕ) (S S' : State) : Type 0 where
   pub grew : Grew f base k S S'
-  pub out : (d v : ℕ) → step_of f c m ≡ To d v → In base S'.mark d × (cost_at S' d ≤ w + fine v)
+  pub out : (d v : ℕ) → step_of f c m ≡ to d v → In base S'.mark d × (cost_at S' d ≤ w + fine v)
   pub stays : cost_at S' c ≡ w
 
 -- so does each of the first m moves
 pub record Left (f : Floor) (base k c m w : ℕ) (S S' : State) : Type 0 where
   pub grew : Grew f base k S S'
-  pub out : (i : ℕ) → i < m → (d v : ℕ) → step_of f c i ≡ To d v → In base S'.mark d × (cost_at S' d ≤ w + fine v)
+  pub out : (i : ℕ) → i < m → (d v : ℕ) → step_of f c i ≡ to d v → In base S'.mark d × (cost_at S' d ≤ w + fine v)
   pub stays : cost_at S' c ≡ w
 
 -- a free cell of mark k and cost w
@@ -145,5 +163,5 @@ pub record Swept (f : Floor) (base k from i : ℕ) (S S' : State) : Type 0 where
   pub outs : (j : ℕ) → from ≤ j → j < i → Out f base S' (cell_of S j) 8
 
 -- s alone is marked, and stands first in the list
-abbrev pub begun : (base : ℕ) (mark cost list : List ℕ) (s : ℕ) → State
-begun base mark cost list s = state (set mark s base) (set cost s 0) (entered list 0 s) 1
+abbrev pub begun : (base : ℕ) → Scratch → (s : ℕ) → State
+begun base scratch s = state (set scratch.mark s base) (set scratch.cost s 0) (entered scratch.list 0 s) 1

@@ -1,18 +1,17 @@
 -- What the marking of the rings around s promises.
-use Rattle.std.specs.Prelude.{◌≡◌, true, List, ◌⊎◌, ℕ, ◌+◌, ◌-◌, ◌≤◌, ◌<◌, length, get_or}
+use Rattle.std.specs.Prelude.{◌≡◌, true, List, ◌⊎◌, ℕ, ◌+◌, ◌-◌, ◌≤◌, ◌<◌, length, get_or, Option, Some, None}
 use Rattle.learning.specs.Walk.{Walk, Any, Leads}
 use Rattle.model.specs.Basics.{member}
 use Rattle.model.specs.Floor.{Floor}
-use Rattle.floor.specs.declared.Step.TheVariants.{To}
-use Rattle.floor.specs.Moves.{step_of}
-use Rattle.lookahead.specs.declared.Around.{Around}
-use Rattle.lookahead.specs.declared.Around.TheVariants as A
-use Rattle.lookahead.specs.Marks.{net, State, state, mark_of, cost_at, cell_of, In, Room, Spread}
+use Rattle.floor.specs.Moves.{to, step_of}
+use Rattle.lookahead.specs.declared.Extent.{Extent}
+use Rattle.lookahead.specs.declared.Scratch.{Scratch}
+use Rattle.lookahead.specs.Marks.{net, State, held, mark_of, cost_at, cell_of, In, Room, Spread}
 
 -- the cells of marks below k have been left: where they lead is marked, at most one ring further out
 abbrev pub Done : Floor → (base k : ℕ) → State → Type 0
 Done f base k S =
-    (x : ℕ) → In base S.mark x → mark_of S x < k → (m d v : ℕ) → m < 8 → step_of f x m ≡ To d v → In base S.mark d × (mark_of S d ≤ mark_of S x + 1)
+    (x : ℕ) → In base S.mark x → mark_of S x < k → (m d v : ℕ) → m < 8 → step_of f x m ≡ to d v → In base S.mark d × (mark_of S d ≤ mark_of S x + 1)
 
 -- the rings up to that of mark k are marked, and its cells stand in the list from `from` on
 pub record Level (f : Floor) (s base k from : ℕ) (S : State) : Type 0 where
@@ -59,6 +58,6 @@ pub record Blocked (f : Floor) (s : ℕ) (gs : List ℕ) (depth base r : ℕ) (S
   pub empty : (x : ℕ) → mark_of S x ≤ base + r
   pub far : Unmet gs base S
 
-abbrev pub Rings : Floor → (s : ℕ) → (gs : List ℕ) → (depth base : ℕ) → (mark cost list : List ℕ) → Around → Type 0
-Rings f s gs depth base mark cost list (A.Window last n) = Framed f s gs depth base last (state mark cost list n)
-Rings f s gs depth base mark cost list A.Empty = (r n : ℕ) × Blocked f s gs depth base r (state mark cost list n)
+abbrev pub Rings : Floor → (s : ℕ) → (gs : List ℕ) → (depth base : ℕ) → Scratch → Option Extent → Type 0
+Rings f s gs depth base scratch (Some e) = Framed f s gs depth base e.last (held scratch e.n)
+Rings f s gs depth base scratch None = (r n : ℕ) × Blocked f s gs depth base r (held scratch n)

@@ -1,10 +1,9 @@
 -- The route to a cell of the window, found backward.
-use Rattle.std.specs.Prelude.{◌≡◌, List, [], ◌∷◌, ◌++◌, ℕ, ◌+◌, ◌*◌, ◌≤◌, ◌<◌, length, get_or, drop}
+use Rattle.std.specs.Prelude.{◌≡◌, List, [], ◌∷◌, ◌++◌, ℕ, ◌+◌, ◌*◌, ◌≤◌, ◌<◌, length, get_or, drop, Option, Some, None}
 use Rattle.answers.specs.declared.Job.{Job}
 use Rattle.model.specs.Floor.{Floor, least_price, price, heading}
 use Rattle.model.specs.Lookahead.{fine, most_moves}
-use Rattle.floor.specs.declared.Step.TheVariants.{To}
-use Rattle.floor.specs.Moves.{step_of}
+use Rattle.floor.specs.Moves.{to, step_of}
 use Rattle.lookahead.specs.Contract.{Near, moves_to}
 use Rattle.lookahead.specs.Marks.{In}
 use Rattle.lookahead.specs.Costs.{at}
@@ -26,15 +25,15 @@ pub record From (f : Floor) (base : ℕ) (mark cost : List ℕ) (x : ℕ) (b : L
 abbrev pub rising_move : ℕ → ℕ
 rising_move k = get_or (7 ∷ 0 ∷ 1 ∷ 6 ∷ 2 ∷ 5 ∷ 4 ∷ 3 ∷ []) k 0
 
--- b is the cell before x that the move j leads to from x, and the move from there; 4096 if that is none
-pub record Led (f : Floor) (base : ℕ) (mark cost : List ℕ) (x j : ℕ) (b : Link) : Type 0 where
-  pub some : b.cell < 4096 → From f base mark cost x b × ((v : ℕ) × (step_of f x j ≡ To b.cell v))
-  pub none : 4096 ≤ b.cell → (y v : ℕ) → step_of f x j ≡ To y v → Before f base mark cost x y → ⊥
+-- the cell before x that the move j leads to from x, and the move from there; or it leads to none
+abbrev pub Led : Floor → (base : ℕ) → (mark cost : List ℕ) → (x j : ℕ) → Option Link → Type 0
+Led f base mark cost x j (Some b) = From f base mark cost x b × ((v : ℕ) × (step_of f x j ≡ to b.cell v))
+Led f base mark cost x j None = (y v : ℕ) → step_of f x j ≡ to y v → Before f base mark cost x y → ⊥
 
 -- the first i moves, those to the lowest cells, lead to no cell before x
 pub record Unled (f : Floor) (base : ℕ) (mark cost : List ℕ) (x i : ℕ) : Type 0 where
   pub within : i ≤ 8
-  pub none : (k : ℕ) → k < i → (y v : ℕ) → step_of f x (rising_move k) ≡ To y v → Before f base mark cost x y → ⊥
+  pub none : (k : ℕ) → k < i → (y v : ℕ) → step_of f x (rising_move k) ≡ to y v → Before f base mark cost x y → ⊥
 
 -- the lowest cell before x
 pub record Prior (f : Floor) (base : ℕ) (mark cost : List ℕ) (x : ℕ) (b : Link) : Type 0 where

@@ -5,6 +5,8 @@ ghost use Rattle.lookahead.specs.Marks.{In};
 ghost use Rattle.lookahead.specs.Costs.{Listing};
 ghost use Rattle.lookahead.specs.Bests.{most_rings, ring_at, key, Scores, Bests, Topped};
 
+use super::{Scratch, coarse};
+
 // The key v is entered at ring k, if it is lower.
 fn enter(best: &mut [usize], k: usize, v: usize)
     requires { k < length best.old }
@@ -16,23 +18,15 @@ fn enter(best: &mut [usize], k: usize, v: usize)
 }
 
 // The key of the cell c of the window is entered at its ring.
-fn weigh(
-    table: &[u32],
-    p: usize,
-    base: u32,
-    mark: &[u32],
-    cost: &[u16],
-    c: usize,
-    best: &mut [usize],
-)
-    requires fact_1 { Scores base mark.now cost.now table.now p }
-    requires fact_2 { In base mark.now c }
-    requires fact_3 { length best.old ≡ most_rings }
-    ensures { best.new ≡ set best.old (ring_at base mark.now c)
-        (min (key cost.now table.now p c) (get_or best.old (ring_at base mark.now c) 0)) }
+fn weigh(table: &[u32], p: usize, base: u32, scratch: &Scratch, c: usize, best: &mut [usize])
+    requires scores { Scores base scratch.now.mark scratch.now.cost table.now p }
+    requires inside { In base scratch.now.mark c }
+    requires rings { length best.old ≡ most_rings }
+    ensures { best.new ≡ set best.old (ring_at base scratch.now.mark c)
+        (min (key scratch.now.cost table.now p c) (get_or best.old (ring_at base scratch.now.mark c) 0)) }
 {
-    let k = notation::wide32(mark[c] - base);
-    let v = p * super::coarse(cost[c]) + notation::wide32(table[c]);
+    let k = (scratch.mark[c] - base) as usize;
+    let v = p * coarse(scratch.cost[c]) + table[c] as usize;
     enter(best, k, v * 4096 + c);
 }
 
@@ -41,36 +35,29 @@ pub(crate) fn weigh_all(
     table: &[u32],
     p: usize,
     base: u32,
-    mark: &[u32],
-    cost: &[u16],
-    list: &[u16],
+    scratch: &Scratch,
     n: usize,
     best: &mut [usize],
 )
-    requires fact_1 { Scores base mark.now cost.now table.now p }
-    requires fact_2 { Listing base mark.now list.now n }
-    requires fact_3 { Bests base mark.now cost.now table.now p list.now 0 best.old }
-    ensures { Bests base mark.now cost.now table.now p list.now n best.new }
+    requires scores { Scores base scratch.now.mark scratch.now.cost table.now p }
+    requires listing { Listing base scratch.now.mark scratch.now.list n }
+    requires none { Bests base scratch.now.mark scratch.now.cost table.now p scratch.now.list 0 best.old }
+    ensures { Bests base scratch.now.mark scratch.now.cost table.now p scratch.now.list n best.new }
 {
-    let mut i = 0;
-    while i < n {
-        let c = notation::wide16(list[i]);
-        weigh(table, p, base, mark, cost, c, best);
-        i += 1;
+    for i in 0..n {
+        weigh(table, p, base, scratch, usize::from(scratch.list[i]), best);
     }
 }
 
 // The greatest of the keys of rings 1 to last.
 pub(crate) fn greatest(best: &[usize], last: usize) -> usize
-    requires fact_1 { length best.now ≡ most_rings }
-    requires fact_2 { (1 ≤ last) × (last ≤ deepest) }
+    requires rings { length best.now ≡ most_rings }
+    requires last { (1 ≤ last) × (last ≤ deepest) }
     ensures { Topped best.now (last + 1) result }
 {
     let mut top = 0;
-    let mut k = 1;
-    while k <= last {
-        top = super::larger(top, best[k]);
-        k += 1;
+    for k in 1..last + 1 {
+        top = top.max(best[k]);
     }
     top
 }

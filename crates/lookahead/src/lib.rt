@@ -8,14 +8,16 @@ mod costs;
 mod rings;
 mod route;
 
-ghost use Rattle.std.specs.Prelude.{◌≡◌, ℕ, ◌/◌, ◌<◌, ◌≤◌, max, eqb, length, get_or};
-ghost use Rattle.model.specs.Floor.{free, dearest_price};
-ghost use Rattle.model.specs.Checks.{deepest, floor_of};
+ghost use Rattle.std.specs.Prelude.{◌≡◌, ◌/◌, ◌<◌, ◌≤◌, eqb, length};
+ghost use Rattle.model.specs.Floor.{Sized, dearest_price};
+ghost use Rattle.model.specs.Checks.{deepest};
 ghost use Rattle.model.specs.Lookahead as model;
-ghost use Rattle.lookahead.specs.Contract.{Marks, Spent, Fresh, Asked, Near, Seen, Window, Looked, Figures, Aimed, Traced};
+ghost use Rattle.floor.specs.Moves.{Placed};
+ghost use Rattle.lookahead.specs.Contract.{Marks, Spent, Fresh, Used, Asked, Near, Seen, Window, Looked, Figures, Aimed, Traced};
+ghost use Rattle.lookahead.specs.Marks.{FineStep};
 
 use answers::Job;
-use floor::{CEILING, DEAREST_PRICE, DEEPEST, FINEST, LEAST_PRICE};
+use floor::{CEILING, DEAREST_PRICE, DEEPEST, FINEST, Floor, LEAST_PRICE, Spot, Step};
 
 // What a leg costs at most, how many moves its route has at most, and what a new figure comes to at most.
 pub const DEAREST_LEG: usize = DEAREST_PRICE as usize * DEEPEST;
@@ -41,11 +43,34 @@ const STRIDE: u32 = 2 * DEEPEST as u32;
 
 const LAST_BASE: u32 = 4294967295 - STRIDE;
 
-// The window around a cell: its last ring and how many cells it has; or a ring up to the last is empty.
+// What a lookahead is lent. A cell's mark and its fine cost stand under its number; the list has two places for each cell of the window: at i the cell, and at
+// i + 4096 the cost at which its moves were followed last, 65535 before they were.
+#[repr(C)]
+#[derive(Drop)]
+pub struct Scratch {
+    pub mark: [u32; 4096],
+    pub cost: [u16; 4096],
+    pub list: [u16; 8192],
+}
+
+impl Scratch {
+    // Scratch as a lookahead of base 1 would have left it.
+    pub fn new() -> Scratch
+        ensures { Used 1 result }
+    {
+        Scratch {
+            mark: [0; 4096],
+            cost: [0; 4096],
+            list: [0; 8192],
+        }
+    }
+}
+
+// How far the window around a cell reaches: its last ring, and how many cells it has.
 #[derive(Clone, Copy)]
-pub enum Around {
-    Window { last: usize, n: usize },
-    Empty,
+pub struct Extent {
+    pub last: usize,
+    pub n: usize,
 }
 
 // The new figure, the target, and what the way to it costs.
@@ -71,29 +96,25 @@ fn fine(price: u16) -> u16
     FINENESS * price + 1
 }
 
+// The move m from a free cell, at its fine price: None where nothing may be moved into.
+fn fine_step(floor: &Floor, cell: usize, at: Spot, m: usize) -> Option<Step>
+    requires sized { Sized floor.now }
+    requires placed { Placed floor.now cell at }
+    requires eight { m < 8 }
+    ensures { FineStep floor.now cell m result }
+{
+    let Step { cell: to, cost } = floor.step(cell, at, m)?;
+    Some(Step {
+        cell: to,
+        cost: fine(cost),
+    })
+}
+
 // What a walk costs, of its fine cost.
 fn coarse(cost: u16) -> usize
     ensures { result ≡ cost / model.fineness }
 {
-    notation::wide16(cost / FINENESS)
-}
-
-fn larger(a: usize, b: usize) -> usize
-    ensures { result ≡ max a b }
-{
-    if a < b { b } else { a }
-}
-
-// Every mark is cleared.
-fn clear(mark: &mut [u32])
-    ensures mark_len_unchanged { length mark.new ≡ length mark.old }
-    ensures by_index { (x : ℕ) → get_or mark.new x 0 ≡ 0 }
-{
-    let mut i = 0;
-    while i < mark.len() {
-        mark[i] = 0;
-        i += 1;
-    }
+    usize::from(cost / FINENESS)
 }
 
 // The next lookahead's base. Where the 32 bits of a mark would run out, the marks are cleared, and it starts again.
@@ -104,33 +125,31 @@ pub fn renew(base: u32, mark: &mut [u32]) -> u32
     if base <= LAST_BASE - STRIDE {
         return base + STRIDE;
     }
-    clear(mark);
+    mark.fill(0);
     1
 }
 
-// The window around s, which is no goal.
-pub fn look(
-    job: Job,
-    floor: &[u8],
-    s: usize,
-    base: u32,
-    mark: &mut [u32],
-    cost: &mut [u16],
-    list: &mut [u16],
-) -> Around
-    requires fact_1 { Asked job floor.now s }
-    requires fact_2 { Fresh base mark.old cost.old list.old }
-    ensures { Looked job floor.now s base mark.new cost.new list.new result }
+// The window around s, which is no goal; None where a ring up to the last is empty.
+pub fn look(job: Job, floor: &[u8], s: usize, base: u32, scratch: &mut Scratch) -> Option<Extent>
+    requires asked { Asked job floor.now s }
+    requires fresh { Fresh base scratch.old }
+    ensures { Looked job floor.now s base scratch.new result }
 {
-    match rings::rings(
-        job.width, job.height, floor, s, job.goals, job.depth, base, mark, cost, list,
-    ) {
-        Around::Window { last, n } => {
-            costs::relax(job.width, job.height, floor, base, mark, cost, list, n);
-            Around::Window { last: last, n: n }
-        }
-        Around::Empty => Around::Empty,
-    }
+    let floor = Floor {
+        width: job.width,
+        height: job.height,
+        bytes: floor,
+    };
+    let extent = rings::rings(&floor, s, job.goals, job.depth, base, scratch)?;
+    costs::relax(
+        &floor,
+        base,
+        &scratch.mark,
+        &mut scratch.cost,
+        &mut scratch.list,
+        extent.n,
+    );
+    Some(extent)
 }
 
 // Whether x is on the last ring.
@@ -139,36 +158,27 @@ pub fn on_last(
     floor: &[u8],
     s: usize,
     base: u32,
-    mark: &[u32],
-    cost: &[u16],
+    scratch: &Scratch,
     last: usize,
     x: usize,
 ) -> bool
-    requires fact_1 { Seen job floor.now s base mark.now cost.now }
-    requires fact_2 { last ≡ (model.seen job floor.now s).last }
-    requires fact_3 { last ≤ deepest }
-    requires fact_4 { x < 4096 }
+    requires seen { Seen job floor.now s base scratch.now }
+    requires last { last ≡ (model.seen job floor.now s).last }
+    requires deep { last ≤ deepest }
+    requires cell { x < 4096 }
     ensures { result ≡ eqb (model.ring job floor.now (model.seen job floor.now s) x) (model.seen job floor.now s).last }
 {
-    notation::wide32(mark[x]) == notation::wide32(base) + last
+    scratch.mark[x] as usize == base as usize + last
 }
 
 // What the way to the cell x of the window costs: at most the dearest leg.
-pub fn leg(
-    job: Job,
-    floor: &[u8],
-    s: usize,
-    base: u32,
-    mark: &[u32],
-    cost: &[u16],
-    x: usize,
-) -> usize
-    requires fact_1 { Asked job floor.now s }
-    requires fact_2 { Seen job floor.now s base mark.now cost.now }
-    requires fact_3 { Near job floor.now s x }
+pub fn leg(job: Job, floor: &[u8], s: usize, base: u32, scratch: &Scratch, x: usize) -> usize
+    requires asked { Asked job floor.now s }
+    requires seen { Seen job floor.now s base scratch.now }
+    requires near { Near job floor.now s x }
     ensures { (result ≡ model.w job floor.now (model.seen job floor.now s) x) × (result ≤ model.dearest_leg) }
 {
-    coarse(cost[x])
+    coarse(scratch.cost[x])
 }
 
 // The new figure and the target, in a window that is worked out.
@@ -178,25 +188,22 @@ pub fn aim(
     s: usize,
     table: &[u32],
     base: u32,
-    mark: &[u32],
-    cost: &[u16],
-    list: &[u16],
-    n: usize,
-    last: usize,
+    scratch: &Scratch,
+    extent: Extent,
 ) -> Ahead
-    requires fact_1 { Asked job floor.now s }
-    requires fact_2 { Window job floor.now s base mark.now cost.now list.now n last }
-    requires fact_3 { Figures job floor.now table.now }
+    requires asked { Asked job floor.now s }
+    requires window { Window job floor.now s base scratch.now extent }
+    requires figures { Figures job floor.now table.now }
     ensures { Aimed job floor.now s table.now result }
 {
     let mut best = [UNSET; MOST_RINGS];
-    bests::weigh_all(table, job.p, base, mark, cost, list, n, &mut best);
-    let top = bests::greatest(&best, last);
-    let target = best[last] % 4096;
+    bests::weigh_all(table, job.p, base, scratch, extent.n, &mut best);
+    let top = bests::greatest(&best, extent.last);
+    let target = best[extent.last] % 4096;
     Ahead {
         figure: top / 4096,
-        target: target,
-        leg: coarse(cost[target]),
+        target,
+        leg: coarse(scratch.cost[target]),
     }
 }
 
@@ -207,20 +214,19 @@ pub fn trace(
     floor: &[u8],
     s: usize,
     base: u32,
-    mark: &[u32],
-    cost: &[u16],
+    scratch: &Scratch,
     x: usize,
     out: &mut [u8],
 ) -> usize
-    requires fact_1 { Asked job floor.now s }
-    requires fact_2 { Seen job floor.now s base mark.now cost.now }
-    requires fact_3 { Near job floor.now s x }
-    requires fact_4 { model.most_moves ≤ length out.old }
+    requires asked { Asked job floor.now s }
+    requires seen { Seen job floor.now s base scratch.now }
+    requires near { Near job floor.now s x }
+    requires room { model.most_moves ≤ length out.old }
     ensures { Traced job floor.now s x out.old out.new result }
 {
     let mut way = [0u8; MOST_MOVES];
-    let k = route::collect(job, floor, s, base, mark, cost, x, &mut way);
+    let k = route::collect(job, floor, s, base, scratch, x, &mut way);
     let n = MOST_MOVES - k;
-    route::copy(&way, k, n, out);
+    out[..n].copy_from_slice(&way[k..]);
     n
 }

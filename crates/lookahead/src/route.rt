@@ -1,20 +1,15 @@
 // The route to a cell of the window, found backward: each time the lowest cell from which one move gives exactly the fine cost of the cell reached,
 // and so the lowest from which a route of fewest moves at the least cost goes on.
-ghost use Rattle.std.specs.Prelude.{◌≡◌, ℕ, ◌<◌, ◌≤◌, ◌+◌, ◌++◌, length, take, drop};
-ghost use Rattle.model.specs.Floor.{Sized};
+ghost use Rattle.std.specs.Prelude.{◌≡◌, ℕ, ◌<◌, length};
 ghost use Rattle.model.specs.Lookahead.{most_moves};
-ghost use Rattle.floor.specs.Moves.{flat};
 ghost use Rattle.lookahead.specs.Contract.{Asked, Near, Seen};
 ghost use Rattle.lookahead.specs.Marks.{In};
 ghost use Rattle.lookahead.specs.Costs.{Costs, Cell};
 ghost use Rattle.lookahead.specs.Way.{rising_move, Before, Led, Prior, Collected};
 
-use super::{Link, MOST_MOVES, fine};
+use super::{Link, MOST_MOVES, Scratch, fine_step};
 use answers::Job;
-use floor::{Spot, Step};
-
-// No cell.
-const NOWHERE: usize = 4096;
+use floor::{Floor, Spot, Step};
 
 // The k-th of the eight moves, by the cells that they lead to, the lowest first.
 fn rising(k: usize) -> usize
@@ -33,75 +28,37 @@ fn rising(k: usize) -> usize
     }
 }
 
-// The cell before x that the move j leads to from x, and the move from there; or nowhere.
-fn led(
-    width: usize,
-    height: usize,
-    floor: &[u8],
-    base: u32,
-    mark: &[u32],
-    cost: &[u16],
-    x: usize,
-    spot: Spot,
-    j: usize,
-) -> Link
-    requires fact_1 { Sized (flat width height floor.now) }
-    requires fact_2 { Costs (flat width height floor.now) base mark.now cost.now }
-    requires fact_3 { Cell (flat width height floor.now) base x spot mark.now }
-    requires fact_4 { j < 8 }
-    ensures { Led (flat width height floor.now) base mark.now cost.now x j result }
+// The cell before x that the move j leads to from x, and the move from there; None where it leads to no such cell.
+fn led(floor: &Floor, base: u32, scratch: &Scratch, x: usize, spot: Spot, j: usize) -> Option<Link>
+    requires costs { Costs floor.now base scratch.now.mark scratch.now.cost }
+    requires cell { Cell floor.now base x spot scratch.now.mark }
+    requires eight { j < 8 }
+    ensures { Led floor.now base scratch.now.mark scratch.now.cost x j result }
 {
-    let nowhere = Link {
-        cell: NOWHERE,
-        m: 0,
-    };
-    match floor::step_from(width, height, floor, x, spot, j) {
-        Step::To { cell, cost: v } => {
-            if mark[cell] < base {
-                return nowhere;
-            }
-            let sum = cost[cell] + fine(v);
-            if sum != cost[x] {
-                return nowhere;
-            }
-            Link {
-                cell: cell,
-                m: (j + 4) % 8,
-            }
-        }
-        Step::Wall => nowhere,
+    let Step { cell, cost: v } = fine_step(floor, x, spot, j)?;
+    if scratch.mark[cell] < base || scratch.cost[cell] + v != scratch.cost[x] {
+        return None;
     }
+    Some(Link {
+        cell,
+        m: (j + 4) % 8,
+    })
 }
 
 // The lowest cell before x, and the move from it: the first that a move leads to, the moves to the lowest cells being tried first.
-fn back(
-    width: usize,
-    height: usize,
-    floor: &[u8],
-    base: u32,
-    mark: &[u32],
-    cost: &[u16],
-    x: usize,
-) -> Link
-    requires fact_1 { Sized (flat width height floor.now) }
-    requires fact_2 { Costs (flat width height floor.now) base mark.now cost.now }
-    requires fact_3 { In base mark.now x }
-    requires fact_4 { ((y : ℕ) × Before (flat width height floor.now) base mark.now cost.now x y) }
-    ensures { Prior (flat width height floor.now) base mark.now cost.now x result }
+fn back(floor: &Floor, base: u32, scratch: &Scratch, x: usize) -> Link
+    requires costs { Costs floor.now base scratch.now.mark scratch.now.cost }
+    requires inside { In base scratch.now.mark x }
+    requires some { ((y : ℕ) × Before floor.now base scratch.now.mark scratch.now.cost x y) }
+    ensures { Prior floor.now base scratch.now.mark scratch.now.cost x result }
 {
-    let spot = floor::spot_of(width, height, floor, x);
-    let mut k = 0;
-    while k < 8 {
-        let b = led(width, height, floor, base, mark, cost, x, spot, rising(k));
-        if b.cell < NOWHERE {
-            return b;
+    let spot = floor.spot(x);
+    for k in 0..8 {
+        if let Some(link) = led(floor, base, scratch, x, spot, rising(k)) {
+            return link;
         }
-        k += 1;
     }
-    Link {
-        cell: NOWHERE,
-        m: 0,
-    }
+    unreachable!()
 }
 
 // The moves of the route from s to x, found backward, are written at the end of way; where the first of them stands.
@@ -110,36 +67,29 @@ pub(crate) fn collect(
     floor: &[u8],
     s: usize,
     base: u32,
-    mark: &[u32],
-    cost: &[u16],
+    scratch: &Scratch,
     x: usize,
     way: &mut [u8],
 ) -> usize
-    requires fact_1 { Asked job floor.now s }
-    requires fact_2 { Seen job floor.now s base mark.now cost.now }
-    requires fact_3 { Near job floor.now s x }
-    requires fact_4 { length way.old ≡ most_moves }
+    requires asked { Asked job floor.now s }
+    requires seen { Seen job floor.now s base scratch.now }
+    requires near { Near job floor.now s x }
+    requires room { length way.old ≡ most_moves }
     ensures { Collected job floor.now s x way.new result }
 {
+    let floor = Floor {
+        width: job.width,
+        height: job.height,
+        bytes: floor,
+    };
     let mut cell = x;
+    // The last move is found first, so the place counts down.
     let mut k = MOST_MOVES;
     while cell != s {
-        let l = back(job.width, job.height, floor, base, mark, cost, cell);
+        let link = back(&floor, base, scratch, cell);
         k -= 1;
-        way[k] = l.m as u8;
-        cell = l.cell;
+        way[k] = link.m as u8;
+        cell = link.cell;
     }
     k
-}
-
-// The n moves from place k of way on are copied to the front of out.
-pub(crate) fn copy(way: &[u8], k: usize, n: usize, out: &mut [u8])
-    requires { (k + n ≤ length way.now) × (length way.now ≤ most_moves) × (n ≤ length out.old) }
-    ensures { out.new ≡ take n (drop k way.now) ++ drop n out.old }
-{
-    let mut i = 0;
-    while i < n {
-        out[i] = way[k + i];
-        i += 1;
-    }
 }

@@ -16,8 +16,8 @@ use Rattle.learning.proofs.Look.{lowest-low, lowest_some}
 use Rattle.answers.specs.declared.Job.{Job}
 use Rattle.answers.specs.declared.Refusal.{Refusal}
 use Rattle.answers.specs.declared.Place.TheVariants as P
-use Rattle.answers.specs.declared.Verdict.{Verdict}
-use Rattle.answers.specs.declared.Verdict.TheVariants as Vd
+use Rattle.answers.specs.Outcomes.{Verdict}
+use Rattle.std.specs.Prelude.{Ok, Err}
 use Rattle.model.specs.Basics.{choose, between, then, refuse_at, unless, naming}
 use Rattle.model.specs.Floor.{Floor, size, Sized}
 use Rattle.model.specs.Checks.{ceiling, sizes, path_room, settings, scale, figures, deepest, finest, largest_quota}
@@ -26,25 +26,25 @@ use Rattle.model.proofs.Moves.{is_true, both, both_of}
 
 -- ---- one check after another
 
-pub not_refused : {A : Type 0} {v : Verdict} {r : Refusal} → v ≡ Vd.Done → v ≡ Vd.Refused r → A
+pub not_refused : {A : Type 0} {v : Verdict} {r : Refusal} → v ≡ Ok tt → v ≡ Err r → A
 not_refused d e = let z : ◌≡◌ {A = ℕ} 0 1 = cc in absurd (omega arith)
 
-pub then_next : {v : Verdict} (w : Verdict) → v ≡ Vd.Done → then v w ≡ w
+pub then_next : {v : Verdict} (w : Verdict) → v ≡ Ok tt → then v w ≡ w
 then_next w e = ap (λ u. then u w) e
 
-pub then_refused : {v : Verdict} {r : Refusal} (w : Verdict) → v ≡ Vd.Refused r → then v w ≡ Vd.Refused r
+pub then_refused : {v : Verdict} {r : Refusal} (w : Verdict) → v ≡ Err r → then v w ≡ Err r
 then_refused w e = ap (λ u. then u w) e
 
 -- the same of an answer that is the first check's, and of one that is what comes after it
-pub then_stops : {v a : Verdict} {r : Refusal} (w : Verdict) → a ≡ v → a ≡ Vd.Refused r → a ≡ then v w
+pub then_stops : {v a : Verdict} {r : Refusal} (w : Verdict) → a ≡ v → a ≡ Err r → a ≡ then v w
 then_stops w e q = q ∙ sym (then_refused w (sym e ∙ q))
 
-pub then_goes : {v a b : Verdict} (w : Verdict) → a ≡ v → a ≡ Vd.Done → b ≡ w → b ≡ then v w
+pub then_goes : {v a b : Verdict} (w : Verdict) → a ≡ v → a ≡ Ok tt → b ≡ w → b ≡ then v w
 then_goes w e q g = g ∙ sym (then_next w (sym e ∙ q))
 
-pub then_done : (v w : Verdict) → then v w ≡ Vd.Done → (v ≡ Vd.Done) × (w ≡ Vd.Done)
-then_done Vd.Done w e = (refl, e)
-then_done (Vd.Refused r) w e = let z : ◌≡◌ {A = ℕ} 0 1 = cc in absurd (omega arith)
+pub then_done : (v w : Verdict) → then v w ≡ Ok tt → (v ≡ Ok tt) × (w ≡ Ok tt)
+then_done (Ok _) w e = (refl, e)
+then_done (Err r) w e = let z : ◌≡◌ {A = ℕ} 0 1 = cc in absurd (omega arith)
 
 -- ---- a test tells a fact
 
@@ -57,8 +57,8 @@ pub record Tells (b : Bool) (F : Type 0) : Type 0 where
   pub shown : F → b ≡ true
 
 pub record Judges (v : Verdict) (number : ℕ) (F : Type 0) : Type 0 where
-  pub gives : v ≡ Vd.Done → F
-  pub done : F → v ≡ Vd.Done
+  pub gives : v ≡ Ok tt → F
+  pub done : F → v ≡ Ok tt
   pub refused : (F → ⊥) → v ≡ refuse_at number P.Nowhere
 
 pub le_tells : (a b : ℕ) → Tells (leb a b) (a ≤ b)
@@ -183,22 +183,22 @@ module _ (n : ℕ) (fault : ℕ → Bool) where
   pub naming-names : (number x : ℕ) → x < n → NoneBelow fault x → fault x ≡ true → naming n fault number ≡ refuse_at number (P.Cell x)
   unfolding naming
   naming-names number x h none e =
-      ap (λ (k : ℕ). choose (ltb k n) (refuse_at number (P.Cell k)) Vd.Done) (lowest_is x h none e) ∙ ap (λ b. choose b (refuse_at number (P.Cell x)) Vd.Done) (lt-ltb x n h)
+      ap (λ (k : ℕ). choose (ltb k n) (refuse_at number (P.Cell k)) (Ok tt)) (lowest_is x h none e) ∙ ap (λ b. choose b (refuse_at number (P.Cell x)) (Ok tt)) (lt-ltb x n h)
 
-  pub naming-done : (number : ℕ) → NoneBelow fault n → naming n fault number ≡ Vd.Done
+  pub naming-done : (number : ℕ) → NoneBelow fault n → naming n fault number ≡ Ok tt
   unfolding naming
   naming-done number none = by (dec_le n (lowest n fault))
     where
-      by : Dec (n ≤ lowest n fault) → choose (ltb (lowest n fault) n) (refuse_at number (P.Cell (lowest n fault))) Vd.Done ≡ Vd.Done
-      by (yes l) = ap (λ b. choose b (refuse_at number (P.Cell (lowest n fault))) Vd.Done) (le-ltb (lowest n fault) n l)
+      by : Dec (n ≤ lowest n fault) → choose (ltb (lowest n fault) n) (refuse_at number (P.Cell (lowest n fault))) (Ok tt) ≡ Ok tt
+      by (yes l) = ap (λ b. choose b (refuse_at number (P.Cell (lowest n fault))) (Ok tt)) (le-ltb (lowest n fault) n l)
       by (no l) = absurd (never (met (omega arith)) (none (lowest n fault) (omega arith)))
 
   some_named : (number x : ℕ) → x < n → fault x ≡ true → naming n fault number ≡ refuse_at number (P.Cell (lowest n fault))
   unfolding naming
   some_named number x h e =
-      ap (λ b. choose b (refuse_at number (P.Cell (lowest n fault))) Vd.Done) (lt-ltb (lowest n fault) n (omega (arith, low x h e)))
+      ap (λ b. choose b (refuse_at number (P.Cell (lowest n fault))) (Ok tt)) (lt-ltb (lowest n fault) n (omega (arith, low x h e)))
 
-  pub naming_none : (number : ℕ) → naming n fault number ≡ Vd.Done → NoneBelow fault n
+  pub naming_none : (number : ℕ) → naming n fault number ≡ Ok tt → NoneBelow fault n
   naming_none number e k h = by (fault k) refl
     where
       by : (b : Bool) → fault k ≡ b → b ≡ false
@@ -212,7 +212,7 @@ pub record Named (n : ℕ) (fault : ℕ → Bool) (number x : ℕ) (v : Verdict)
   pub first : NoneBelow fault x
   pub answer : v ≡ refuse_at number (P.Cell x)
 
-pub naming-found : (n number : ℕ) (fault : ℕ → Bool) {r : Refusal} → naming n fault number ≡ Vd.Refused r → (x : ℕ) × Named n fault number x (naming n fault number)
+pub naming-found : (n number : ℕ) (fault : ℕ → Bool) {r : Refusal} → naming n fault number ≡ Err r → (x : ℕ) × Named n fault number x (naming n fault number)
 unfolding naming
 naming-found n number fault e = by (ltb (lowest n fault) n) refl e
   where
@@ -225,7 +225,7 @@ naming-found n number fault e = by (ltb (lowest n fault) n) refl e
         below k h true q = absurd (omega (arith, low n fault k (omega arith) q))
         below k h false q = refl
 
-    by : {r : Refusal} (b : Bool) → ltb (lowest n fault) n ≡ b → choose b (refuse_at number (P.Cell (lowest n fault))) Vd.Done ≡ Vd.Refused r
+    by : {r : Refusal} (b : Bool) → ltb (lowest n fault) n ≡ b → choose b (refuse_at number (P.Cell (lowest n fault))) (Ok tt) ≡ Err r
         → (x : ℕ) × Named n fault number x (naming n fault number)
     by true q e = (lowest n fault, here (ltb-true (lowest n fault) n q))
     by false q e = let z : ◌≡◌ {A = ℕ} 0 1 = cc in absurd (omega arith)
@@ -238,7 +238,7 @@ over_same t (suc n) f g e = ap₂ min (over_same t n f g (λ k h. e k (omega ari
 pub naming_same : (n number : ℕ) (fault other : ℕ → Bool) → ((k : ℕ) → k < n → fault k ≡ other k) → naming n fault number ≡ naming n other number
 unfolding naming
 naming_same n number fault other e =
-    ap (λ (k : ℕ). choose (ltb k n) (refuse_at number (P.Cell k)) Vd.Done)
+    ap (λ (k : ℕ). choose (ltb k n) (refuse_at number (P.Cell k)) (Ok tt))
     (over_same n n (λ x. pick (fault x) x n) (λ x. pick (other x) x n) (λ k h. ap (λ b. pick b k n) (e k h)))
 
 -- 5, as a search over the table
@@ -247,11 +247,11 @@ pub figures-names : (f : Floor) (table : List ℕ) (x : ℕ) → x < size f → 
 unfolding figures
 figures-names f table x h none l = naming-names (size f) (λ y. ltb ceiling (get_or table y 0)) 5 x h none (lt-ltb ceiling (get_or table x 0) l)
 
-pub figures-done : (f : Floor) (table : List ℕ) → NoneBelow (λ y. ltb ceiling (get_or table y 0)) (size f) → figures f table ≡ Vd.Done
+pub figures-done : (f : Floor) (table : List ℕ) → NoneBelow (λ y. ltb ceiling (get_or table y 0)) (size f) → figures f table ≡ Ok tt
 unfolding figures
 figures-done f table none = naming-done (size f) (λ y. ltb ceiling (get_or table y 0)) 5 none
 
 -- every figure of an accepted table is within the ceiling
-pub figures-accepted : (f : Floor) (table : List ℕ) → figures f table ≡ Vd.Done → (x : ℕ) → x < size f → get_or table x 0 ≤ ceiling
+pub figures-accepted : (f : Floor) (table : List ℕ) → figures f table ≡ Ok tt → (x : ℕ) → x < size f → get_or table x 0 ≤ ceiling
 unfolding figures
 figures-accepted f table e x h = ltb-false ceiling (get_or table x 0) (naming_none (size f) (λ y. ltb ceiling (get_or table y 0)) 5 e x h)

@@ -10,7 +10,7 @@ use Rattle.learning.specs.Ground.{View}
 use Rattle.answers.specs.declared.Job.{Job}
 use Rattle.answers.specs.declared.State.{State}
 use Rattle.answers.specs.declared.Refusal.{Refusal}
-use Rattle.answers.specs.declared.Verdict.TheVariants as Vd
+use Rattle.std.specs.Prelude.{Ok, Err}
 use Rattle.answers.specs.declared.Answer.TheVariants as A
 use Rattle.model.specs.Checks.{ceiling}
 use Rattle.model.specs.Lookahead.{seen, ring, empty_ring, new_figure, target}
@@ -67,12 +67,12 @@ module _ (j : Job) (bytes : List ℕ) (s : State) (table path : List ℕ) where
     back-goes e f = rw (e, f, go_back_by)
 
   -- a refused call, and one that is let through
-  pub decide-refused : (moves : List ℕ) (from : ℕ) (r : Refusal) → judge j bytes s table path (length moves) from ≡ Vd.Refused r
+  pub decide-refused : (moves : List ℕ) (from : ℕ) (r : Refusal) → judge j bytes s table path (length moves) from ≡ Err r
       → decide j bytes s table path moves from ≡ record { answer = A.Refused r; state = s; table = table; path = path; moves = moves }
   unfolding decide_by
   decide-refused moves from r e = rw (e, decide_by)
 
-  pub decide_acts : (moves : List ℕ) (from : ℕ) → judge j bytes s table path (length moves) from ≡ Vd.Done
-      → decide j bytes s table path moves from ≡ outcome_of Vd.Done (act j bytes s table path) s table path moves from
+  pub decide_acts : (moves : List ℕ) (from : ℕ) → judge j bytes s table path (length moves) from ≡ Ok tt
+      → decide j bytes s table path moves from ≡ outcome_of (Ok tt) (act j bytes s table path) s table path moves from
   unfolding decide_by
   decide_acts moves from e = rw (e, decide_by)

@@ -12,11 +12,10 @@ use Rattle.learning.proofs.Routes.{route-chain}
 use Rattle.answers.specs.declared.Job.{Job}
 use Rattle.answers.specs.declared.State.{State}
 use Rattle.answers.specs.declared.Report.{Report}
-use Rattle.answers.specs.declared.Verdict.{Verdict}
+use Rattle.answers.specs.Outcomes.{Verdict, made_run}
+use Rattle.std.specs.Prelude.{Ok, Err}
 use Rattle.answers.specs.declared.Answer.{Answer}
 use Rattle.answers.specs.declared.Answer.TheVariants as A
-use Rattle.answers.specs.declared.Verdict.TheVariants as Vd
-use Rattle.answers.specs.declared.Ran.TheVariants as Rn
 use Rattle.model.specs.Floor.{size}
 use Rattle.model.specs.Checks.{deepest, ceiling, floor_of, ground_in}
 use Rattle.model.specs.Lookahead.{seen, ring, w, empty_ring, new_figure, target, route}
@@ -65,9 +64,9 @@ reported j bytes [] = refl
 reported j bytes (r ∷ rs) = ap (λ l. report j bytes r ∷ l) (reported j bytes rs)
 
 told : (j : Job) (bytes : List ℕ) (o : Course) (table path : List ℕ) (reports : List Report)
-    → run_of Vd.Done j bytes o table path reports ≡ run_of Vd.Done j bytes (unmoved_course o) table path reports
+    → run_of (Ok tt) j bytes o table path reports ≡ run_of (Ok tt) j bytes (unmoved_course o) table path reports
 told j bytes o table path reports i =
-    record { answer = Rn.Made (counted o.rides i) o.settled; table = o.table; path = o.path; reports = filed_in (reported j bytes o.rides i) reports }
+    record { answer = made_run (counted o.rides i) o.settled; table = o.table; path = o.path; reports = filed_in (reported j bytes o.rides i) reports }
 
 module _ (c c' : Choice) (j : Job) (bytes : List ℕ) where
   module _ (s : State) (table path : List ℕ) where
@@ -97,8 +96,8 @@ module _ (c c' : Choice) (j : Job) (bytes : List ℕ) where
       where
         by : (v : Verdict) → unmoved_call (outcome_of v (act_by c j bytes s table path) s table path moves from)
             ≡ unmoved_call (outcome_of v (act_by c' j bytes s table path) s table path moves from)
-        by Vd.Done = ap (λ (d : Deed). record { answer = d.answer; state = d.state; table = d.table; path = d.path; moves = [] }) act_alike
-        by (Vd.Refused r) = refl
+        by (Ok _) = ap (λ (d : Deed). record { answer = d.answer; state = d.state; table = d.table; path = d.path; moves = [] }) act_alike
+        by (Err r) = refl
 
   next_alike : (r r' : Ride) → unmoved_ride r ≡ unmoved_ride r' → unmoved_ride (next_by c j bytes r) ≡ unmoved_ride (next_by c' j bytes r')
   unfolding next_by
@@ -125,8 +124,8 @@ module _ (c c' : Choice) (j : Job) (bytes : List ℕ) where
     trials_same table path = by (open_trial j bytes start table path)
       where
         by : (v : Verdict) → trial_of v j bytes (ride_by c j bytes start table path) table path ≡ trial_of v j bytes (ride_by c' j bytes start table path) table path
-        by Vd.Done = ap (λ r. trial_of Vd.Done j bytes r table path) (ride_alike table path)
-        by (Vd.Refused r) = refl
+        by (Ok _) = ap (λ r. trial_of (Ok tt) j bytes r table path) (ride_alike table path)
+        by (Err r) = refl
 
     -- a course whose first trial was q
     abbrev after : Choice → ℕ → Ride → Course
@@ -156,11 +155,11 @@ module _ (c c' : Choice) (j : Job) (bytes : List ℕ) where
       where
         by : (v : Verdict) → run_of v j bytes (course_from_by c j bytes start trials table path) table path reports
             ≡ run_of v j bytes (course_from_by c' j bytes start trials table path) table path reports
-        by Vd.Done =
+        by (Ok _) =
             told j bytes (course_from_by c j bytes start trials table path) table path reports
-            ∙ ap (λ o. run_of Vd.Done j bytes o table path reports) (courses_alike trials table path)
+            ∙ ap (λ o. run_of (Ok tt) j bytes o table path reports) (courses_alike trials table path)
             ∙ sym (told j bytes (course_from_by c' j bytes start trials table path) table path reports)
-        by (Vd.Refused r) = refl
+        by (Err r) = refl
 
 -- ---- two choices of routes that cost w
 

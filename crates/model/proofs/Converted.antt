@@ -12,7 +12,7 @@ use lib.ListN.{length, take, length-append}
 use lib.Seq.{take_at}
 use Rattle.answers.specs.declared.Place.TheVariants as P
 use Rattle.answers.specs.declared.Settings.{Settings}
-use Rattle.answers.specs.declared.Verdict.TheVariants as Vd
+use Rattle.std.specs.Prelude.{Ok}
 use Rattle.model.specs.Basics.{choose}
 use Rattle.model.specs.FloorText.{LF}
 use Rattle.model.specs.Line.{numbers_in, after_line, settings_by, settings_of, read_line_by, default_depth, decimal_in, field, refusal_line, judge_aisle, printed, aisle_by, aisle}
@@ -142,5 +142,5 @@ module _ (line : List ℕ) (l : Ended line) where
       (line-leaves line l text ∙ sym (line-leaves (with_old_depth line) converted_ended text))
 
 -- so a line that is converted prints what it printed before
-pub formed_prints_the_same : (line : List ℕ) → line_form line ≡ Vd.Done → (text : List ℕ) → aisle_by old_depth (line ++ text) ≡ aisle (with_old_depth line ++ text)
+pub formed_prints_the_same : (line : List ℕ) → line_form line ≡ Ok tt → (text : List ℕ) → aisle_by old_depth (line ++ text) ≡ aisle (with_old_depth line ++ text)
 formed_prints_the_same line e = converted_prints_the_same line (formed-ended line ((form_judges line).gives e))

@@ -8,8 +8,8 @@ use native.Mathlib.Nat.{add-zero}
 use lib.ListN.{length, take, length-append, length-take}
 use lib.Seq.{take-append-le, get_or-take}
 use Rattle.answers.specs.declared.Place.TheVariants as P
-use Rattle.answers.specs.declared.Verdict.{Verdict}
-use Rattle.answers.specs.declared.Verdict.TheVariants as Vd
+use Rattle.answers.specs.Outcomes.{Verdict}
+use Rattle.std.specs.Prelude.{Ok, Err}
 use Rattle.model.specs.Basics.{refuse_at}
 use Rattle.model.specs.FloorText.{LF}
 use Rattle.model.specs.KeepDepth.{line_form, with_old_depth, in_front, lines_of, Unended, Copied, ahead, copy_lines, longest_line, keep_depth}
@@ -48,19 +48,19 @@ copy_stops : (line : ℕ) (l : List ℕ) (ls : List (List ℕ)) → line_form l 
 unfolding copy_lines
 copy_stops line l ls e = rw (e, copy_lines)
 
-copy_goes : (line : ℕ) (l : List ℕ) (ls : List (List ℕ)) → line_form l ≡ Vd.Done → copy_lines line (l ∷ ls) ≡ ahead (with_old_depth l) (copy_lines (suc line) ls)
+copy_goes : (line : ℕ) (l : List ℕ) (ls : List (List ℕ)) → line_form l ≡ Ok tt → copy_lines line (l ∷ ls) ≡ ahead (with_old_depth l) (copy_lines (suc line) ls)
 unfolding copy_lines
 copy_goes line l ls e = rw (e, copy_lines)
 
 -- what is told of a text that begins with a line, and of one that ends without an LF
 module _ (line : ℕ) (l rest : List ℕ) (k : Ended l) where
-  pub line-goes : line_form l ≡ Vd.Done → copy_lines line (lines_of (l ++ rest)) ≡ ahead (with_old_depth l) (copy_lines (suc line) (lines_of rest))
+  pub line-goes : line_form l ≡ Ok tt → copy_lines line (lines_of (l ++ rest)) ≡ ahead (with_old_depth l) (copy_lines (suc line) (lines_of rest))
   line-goes e = ap (copy_lines line) (lines-ended l rest k) ∙ copy_goes line l (lines_of rest) e
 
   pub line_stops : line_form l ≡ refuse_at 3 P.Nowhere → copy_lines line (lines_of (l ++ rest)) ≡ stopped line
   line_stops e = ap (copy_lines line) (lines-ended l rest k) ∙ copy_stops line l (lines_of rest) e
 
-pub none_left : (line : ℕ) → copy_lines line (lines_of []) ≡ record { written = []; verdict = Vd.Done }
+pub none_left : (line : ℕ) → copy_lines line (lines_of []) ≡ record { written = []; verdict = Ok tt }
 unfolding copy_lines lines_of
 none_left line = refl
 
@@ -91,18 +91,18 @@ long_stops line bytes rest h u = by (parted rest)
 -- every line is of the form
 abbrev pub EachFormed : List (List ℕ) → Type 0
 EachFormed [] = Unit {0}
-EachFormed (l ∷ ls) = (line_form l ≡ Vd.Done) × EachFormed ls
+EachFormed (l ∷ ls) = (line_form l ≡ Ok tt) × EachFormed ls
 
 -- Lines that were copied, the first of them being the line of that number: what is written has as many lines, each the stored one with its depth.
 pub data Copies (first : ℕ) (ls : List (List ℕ)) (c : Copied) : Type 0 where
   -- all of them, or
-  to_the_end : EachFormed ls → c.verdict ≡ Vd.Done → lines_of c.written ≡ map with_old_depth ls → Copies first ls c
+  to_the_end : EachFormed ls → c.verdict ≡ Ok tt → lines_of c.written ≡ map with_old_depth ls → Copies first ls c
   -- those before the first malformed one, whose number is told
   up_to : (before : List (List ℕ)) (l : List ℕ) (after : List (List ℕ)) → ls ≡ before ++ l ∷ after → EachFormed before → line_form l ≡ refuse_at 3 P.Nowhere
       → c.verdict ≡ refuse_at 3 (P.Line (first + length before)) → lines_of c.written ≡ map with_old_depth before → Copies first ls c
 
 -- a line of the form is copied: one line more is written
-lines_more : (first : ℕ) (l : List ℕ) (ls xs : List (List ℕ)) → line_form l ≡ Vd.Done → lines_of (copy_lines (suc first) ls).written ≡ xs
+lines_more : (first : ℕ) (l : List ℕ) (ls xs : List (List ℕ)) → line_form l ≡ Ok tt → lines_of (copy_lines (suc first) ls).written ≡ xs
     → lines_of (copy_lines first (l ∷ ls)).written ≡ with_old_depth l ∷ xs
 lines_more first l ls xs e w =
     ap (λ (c : Copied). lines_of c.written) (copy_goes first l ls e)
@@ -114,16 +114,16 @@ unfolding copy_lines lines_of
 copies first [] = to_the_end tt refl refl
 copies first (l ∷ ls) = by (line_form l) refl (copies (suc first) ls)
   where
-    told : line_form l ≡ Vd.Done → (copy_lines first (l ∷ ls)).verdict ≡ (copy_lines (suc first) ls).verdict
+    told : line_form l ≡ Ok tt → (copy_lines first (l ∷ ls)).verdict ≡ (copy_lines (suc first) ls).verdict
     told e = ap (λ (c : Copied). c.verdict) (copy_goes first l ls e)
 
     by : (v : Verdict) → line_form l ≡ v → Copies (suc first) ls (copy_lines (suc first) ls) → Copies first (l ∷ ls) (copy_lines first (l ∷ ls))
-    by (Vd.Refused r) e c =
+    by (Err r) e c =
         let m : line_form l ≡ refuse_at 3 P.Nowhere = (form_judges l).refused (λ h. not_refused ((form_judges l).done h) e) in
         let s = copy_stops first l ls m in
         up_to [] l ls refl tt m (ap (λ (c : Copied). c.verdict) s ∙ ap (λ (k : ℕ). refuse_at 3 (P.Line k)) (sym (add-zero first))) (ap (λ (c : Copied). lines_of c.written) s)
-    by Vd.Done e (to_the_end f v w) = to_the_end (e, f) (told e ∙ v) (lines_more first l ls (map with_old_depth ls) e w)
-    by Vd.Done e (up_to before b after s f m v w) =
+    by (Ok _) e (to_the_end f v w) = to_the_end (e, f) (told e ∙ v) (lines_more first l ls (map with_old_depth ls) e w)
+    by (Ok _) e (up_to before b after s f m v w) =
         let z : suc first + length before ≡ first + suc (length before) = omega arith in
         up_to (l ∷ before) b after (ap (λ x. l ∷ x) s) (e, f) m (told e ∙ v ∙ ap (λ (k : ℕ). refuse_at 3 (P.Line k)) z) (lines_more first l ls (map with_old_depth before) e w)
 

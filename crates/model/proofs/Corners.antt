@@ -11,8 +11,8 @@ use Rattle.learning.specs.Ground.{Ground, Goal, net_of, dist_of, job_of}
 use Rattle.learning.proofs.Fewer.{reaches_there, dist_there, sound_here}
 use Rattle.answers.specs.declared.Job.{Job}
 use Rattle.answers.specs.declared.Refusal.{Refusal}
-use Rattle.answers.specs.declared.Verdict.{Verdict}
-use Rattle.answers.specs.declared.Verdict.TheVariants as Vd
+use Rattle.answers.specs.Outcomes.{Verdict}
+use Rattle.std.specs.Prelude.{Err}
 use Rattle.model.specs.Floor.{Floor, Sized, column, row, free, slowly, clear, price, corner, east, south, ahead, allowed}
 use Rattle.model.specs.Grounds.{both_comm, both_first, fare_between, slowly_same, clear-ends, clear-true, price-fare, price-clear, price-free, free-inside, ground_of}
 use Rattle.model.specs.Checks.{floor_of, goals}
@@ -161,7 +161,7 @@ learned_tables_stay_sound f goals depth p q quota table = sound_here (ground_of 
 
 -- so no opening of a job, a trial or a run refuses such a table as unsound
 pub never_refused_as_unsound : (j : Job) (bytes : List ℕ) (start : ℕ) (table : List ℕ) (v : Verdict) → IsOpening j bytes start table v
-    → Sound (job_of (without_corners (floor_of j bytes) (goals j)) j.depth j.p j.q j.quota) table → (r : Refusal) → v ≡ Vd.Refused r → r.number ≢ 7
+    → Sound (job_of (without_corners (floor_of j bytes) (goals j)) j.depth j.p j.q j.quota) table → (r : Refusal) → v ≡ Err r → r.number ≢ 7
 never_refused_as_unsound j bytes start table v o s r e seven =
     let (x, place, ((reach, above), first)) = refused_as_unsound_only_when_above j bytes start table v o r e seven in
     let now = learned_tables_stay_sound (floor_of j bytes) (goals j) j.depth j.p j.q j.quota table s in

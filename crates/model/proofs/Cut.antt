@@ -14,8 +14,8 @@ use lib.ListN.{length, get_or, take, drop, length-take, replicate}
 use lib.Seq.{take-take, get_or-take}
 use Rattle.answers.specs.declared.Place.TheVariants as P
 use Rattle.answers.specs.declared.Settings.{Settings}
-use Rattle.answers.specs.declared.Verdict.{Verdict}
-use Rattle.answers.specs.declared.Verdict.TheVariants as Vd
+use Rattle.answers.specs.Outcomes.{Verdict}
+use Rattle.std.specs.Prelude.{Ok, Err}
 use Rattle.model.specs.Basics.{choose, between, then, unless}
 use Rattle.model.specs.Floor.{opening_table}
 use Rattle.model.specs.Checks.{floor_of, goals, settings}
@@ -255,8 +255,8 @@ module _ (t : List ℕ) (m : ℕ) (h : 4196 ≤ m) where
       then (settings j) (then (trials_hold s.trials) (then (verdict_same i) (open_job j (cells_same i) s.start (opening_table (floor_of j (cells_same i)) s.q (goals j)))))
 
   printed_same : (v : Verdict) (s : Settings) → printed v s (take m t) ≡ printed v s t
-  printed_same (Vd.Refused r) s = refl
-  printed_same Vd.Done s = λ i.
+  printed_same (Err r) s = refl
+  printed_same (Ok _) s = λ i.
       let j = job_in s (width-cut i) (height-cut i) in
       course_lines j (cells_same i) (course_from j (cells_same i) s.start s.trials (opening_table (floor_of j (cells_same i)) s.q (goals j)) (replicate (width-cut i * height-cut i) 0))
 

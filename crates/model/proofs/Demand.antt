@@ -20,10 +20,9 @@ use Rattle.answers.specs.declared.State.{State}
 use Rattle.answers.specs.declared.Refusal.{Refusal}
 use Rattle.answers.specs.declared.Report.{Report}
 use Rattle.answers.specs.declared.Place.TheVariants as P
-use Rattle.answers.specs.declared.Verdict.{Verdict}
-use Rattle.answers.specs.declared.Verdict.TheVariants as Vd
-use Rattle.answers.specs.declared.Tried.TheVariants as Td
-use Rattle.answers.specs.declared.Ran.TheVariants as Rn
+use Rattle.answers.specs.declared.Made.{Made}
+use Rattle.answers.specs.Outcomes.{Verdict, made_run}
+use Rattle.std.specs.Prelude.{Ok, Err}
 use Rattle.model.specs.Basics.{member, refuse_at}
 use Rattle.model.specs.Floor.{size}
 use Rattle.model.specs.Checks.{floor_of, goals, ground_in}
@@ -88,28 +87,28 @@ true-high j bytes S x e = S.low x (reaches_means j bytes x e)
 -- ---- "Take any accepted job with weight p/q."
 
 -- there is something to say it of: a trial from an accepted job is made, and its record and lists are those of its ride
-pub trial_is_made : (j : Job) (bytes : List ℕ) (start : ℕ) (table path : List ℕ) → open_trial j bytes start table path ≡ Vd.Done
+pub trial_is_made : (j : Job) (bytes : List ℕ) (start : ℕ) (table path : List ℕ) → open_trial j bytes start table path ≡ Ok tt
     → trial j bytes start table path
-    ≡ record { answer = Td.Made (report j bytes (ride j bytes start table path)); table = (ride j bytes start table path).table; path = (ride j bytes start table path).path }
+    ≡ record { answer = Ok (report j bytes (ride j bytes start table path)); table = (ride j bytes start table path).table; path = (ride j bytes start table path).path }
 unfolding trial_by
 trial_is_made j bytes start table path e = ap (λ v. trial_of v j bytes (ride j bytes start table path) table path) e
 
 -- and no other: where a trial is made, its job was accepted
-pub made_is_accepted : (j : Job) (bytes : List ℕ) (start : ℕ) (table path : List ℕ) (r : Report) → (trial j bytes start table path).answer ≡ Td.Made r
-    → (open_trial j bytes start table path ≡ Vd.Done) × (report j bytes (ride j bytes start table path) ≡ r)
+pub made_is_accepted : (j : Job) (bytes : List ℕ) (start : ℕ) (table path : List ℕ) (r : Report) → (trial j bytes start table path).answer ≡ Ok r
+    → (open_trial j bytes start table path ≡ Ok tt) × (report j bytes (ride j bytes start table path) ≡ r)
 unfolding trial_by
 made_is_accepted j bytes start table path r = by (open_trial j bytes start table path)
   where
-    by : (v : Verdict) → (trial_of v j bytes (ride j bytes start table path) table path).answer ≡ Td.Made r → (v ≡ Vd.Done) × (report j bytes (ride j bytes start table path) ≡ r)
-    by Vd.Done e = let f : report j bytes (ride j bytes start table path) ≡ r = cc in (refl, f)
-    by (Vd.Refused q) e = let z : ◌≡◌ {A = ℕ} 0 1 = cc in absurd (omega arith)
+    by : (v : Verdict) → (trial_of v j bytes (ride j bytes start table path) table path).answer ≡ Ok r → (v ≡ Ok tt) × (report j bytes (ride j bytes start table path) ≡ r)
+    by (Ok _) e = let f : report j bytes (ride j bytes start table path) ≡ r = cc in (refl, f)
+    by (Err q) e = let z : ◌≡◌ {A = ℕ} 0 1 = cc in absurd (omega arith)
 
 -- and a run: its records are those of its rides
 pub run_is_made : (j : Job) (bytes : List ℕ) (start trials : ℕ) (table path : List ℕ) (reports : List Report)
-    → open_run j bytes start table path trials (length reports) ≡ Vd.Done
+    → open_run j bytes start table path trials (length reports) ≡ Ok tt
     → run j bytes start trials table path reports
     ≡ record {
-      answer = Rn.Made (length (course_from j bytes start trials table path).rides) (course_from j bytes start trials table path).settled;
+      answer = made_run (length (course_from j bytes start trials table path).rides) (course_from j bytes start trials table path).settled;
       table = (course_from j bytes start trials table path).table;
       path = (course_from j bytes start trials table path).path;
       reports = filed_in (map (report j bytes) (course_from j bytes start trials table path).rides) reports;
@@ -118,8 +117,8 @@ unfolding run_by
 run_is_made j bytes start trials table path reports e = ap (λ v. run_of v j bytes (course_from j bytes start trials table path) table path reports) e
 
 pub made_run_is_accepted : (j : Job) (bytes : List ℕ) (start trials : ℕ) (table path : List ℕ) (reports : List Report) (n : ℕ) (b : Bool)
-    → (run j bytes start trials table path reports).answer ≡ Rn.Made n b
-    → (open_run j bytes start table path trials (length reports) ≡ Vd.Done) × (length (course_from j bytes start trials table path).rides ≡ n)
+    → (run j bytes start trials table path reports).answer ≡ made_run n b
+    → (open_run j bytes start table path trials (length reports) ≡ Ok tt) × (length (course_from j bytes start trials table path).rides ≡ n)
     × ((course_from j bytes start trials table path).settled ≡ b)
 unfolding run_by
 made_run_is_accepted j bytes start trials table path reports n b = by (open_run j bytes start table path trials (length reports))
@@ -127,31 +126,30 @@ made_run_is_accepted j bytes start trials table path reports n b = by (open_run 
     c : Course
     c = course_from j bytes start trials table path
 
-    by : (v : Verdict) → (run_of v j bytes c table path reports).answer ≡ Rn.Made n b → (v ≡ Vd.Done) × (length c.rides ≡ n) × (c.settled ≡ b)
-    by Vd.Done e =
-        let f : length c.rides ≡ n = cc in
-        let s : c.settled ≡ b = cc in
-        (refl, f, s)
-    by (Vd.Refused q) e = let z : ◌≡◌ {A = ℕ} 0 1 = cc in absurd (omega arith)
+    by : (v : Verdict) → (run_of v j bytes c table path reports).answer ≡ made_run n b → (v ≡ Ok tt) × (length c.rides ≡ n) × (c.settled ≡ b)
+    by (Ok _) e =
+        let made : ◌≡◌ {A = Made} (record { trials = length c.rides; settled = c.settled }) (record { trials = n; settled = b }) = cc in
+        (refl, ap (λ m. m.trials) made, ap (λ m. m.settled) made)
+    by (Err q) e = let z : ◌≡◌ {A = ℕ} 0 1 = cc in absurd (omega arith)
 
 -- each of its rides is an accepted trial
-pub run_trials_are_accepted : (j : Job) (bytes : List ℕ) (start trials : ℕ) (table path : List ℕ) (records : ℕ) → open_run j bytes start table path trials records ≡ Vd.Done
+pub run_trials_are_accepted : (j : Job) (bytes : List ℕ) (start trials : ℕ) (table path : List ℕ) (records : ℕ) → open_run j bytes start table path trials records ≡ Ok tt
     → Rides j bytes start table path (course_from j bytes start trials table path).rides
 run_trials_are_accepted j bytes start trials table path records e = course_rides j bytes start trials table path (ready-run j bytes start table path trials records e).ready
 
 -- an accepted job stays accepted: after any decision, from whatever state; after a trial; after a run
-pub decision_stays_accepted : (j : Job) (bytes : List ℕ) (start : ℕ) (s : State) (table path moves : List ℕ) (from : ℕ) → open_job j bytes start table ≡ Vd.Done
-    → open_job j bytes start (decide j bytes s table path moves from).table ≡ Vd.Done
+pub decision_stays_accepted : (j : Job) (bytes : List ℕ) (start : ℕ) (s : State) (table path moves : List ℕ) (from : ℕ) → open_job j bytes start table ≡ Ok tt
+    → open_job j bytes start (decide j bytes s table path moves from).table ≡ Ok tt
 decision_stays_accepted j bytes start s table path moves from e =
-    decide-table j bytes s table path (λ t. open_job j bytes start t ≡ Vd.Done) moves from e
+    decide-table j bytes s table path (λ t. open_job j bytes start t ≡ Ok tt) moves from e
     (accepted j bytes start _ (act-opened j bytes s table path (opened j bytes start table e)))
 
-pub trial_stays_accepted : (j : Job) (bytes : List ℕ) (start : ℕ) (table path : List ℕ) → open_trial j bytes start table path ≡ Vd.Done
-    → open_trial j bytes start (ride j bytes start table path).table (ride j bytes start table path).path ≡ Vd.Done
+pub trial_stays_accepted : (j : Job) (bytes : List ℕ) (start : ℕ) (table path : List ℕ) → open_trial j bytes start table path ≡ Ok tt
+    → open_trial j bytes start (ride j bytes start table path).table (ride j bytes start table path).path ≡ Ok tt
 trial_stays_accepted j bytes start table path e = accepted-trial j bytes start _ _ (ready_after j bytes start table path (ready j bytes start table path e))
 
-pub run_stays_accepted : (j : Job) (bytes : List ℕ) (start trials : ℕ) (table path : List ℕ) (records : ℕ) → open_run j bytes start table path trials records ≡ Vd.Done
-    → open_trial j bytes start (course_from j bytes start trials table path).table (course_from j bytes start trials table path).path ≡ Vd.Done
+pub run_stays_accepted : (j : Job) (bytes : List ℕ) (start trials : ℕ) (table path : List ℕ) (records : ℕ) → open_run j bytes start table path trials records ≡ Ok tt
+    → open_trial j bytes start (course_from j bytes start trials table path).table (course_from j bytes start trials table path).path ≡ Ok tt
 run_stays_accepted j bytes start trials table path records e =
     accepted-trial j bytes start _ _ (course_ready j bytes start trials table path (ready-run j bytes start table path trials records e).ready)
 
@@ -173,25 +171,25 @@ no_figure_falls_in_a_run j bytes start trials table path x = course_high j bytes
 
 -- ---- "or, where the bench can be reached from it, passes its true figure, q times the cheapest distance to the bench."
 
-pub no_figure_passes_truth_in_a_decision : (j : Job) (bytes : List ℕ) (start : ℕ) (s : State) (table path moves : List ℕ) (from : ℕ) → open_job j bytes start table ≡ Vd.Done
+pub no_figure_passes_truth_in_a_decision : (j : Job) (bytes : List ℕ) (start : ℕ) (s : State) (table path moves : List ℕ) (from : ℕ) → open_job j bytes start table ≡ Ok tt
     → (x : ℕ) → can j bytes x ≡ true → get_or (decide j bytes s table path moves from).table x 0 ≤ true_of j bytes x
 no_figure_passes_truth_in_a_decision j bytes start s table path moves from e =
     true-high j bytes (opened j bytes start _ (decision_stays_accepted j bytes start s table path moves from e)).sound
 
-pub no_figure_passes_truth_in_a_trial : (j : Job) (bytes : List ℕ) (start : ℕ) (table path : List ℕ) → open_trial j bytes start table path ≡ Vd.Done
+pub no_figure_passes_truth_in_a_trial : (j : Job) (bytes : List ℕ) (start : ℕ) (table path : List ℕ) → open_trial j bytes start table path ≡ Ok tt
     → (n x : ℕ) → can j bytes x ≡ true → get_or (ride_from j bytes n (begun start table path)).table x 0 ≤ true_of j bytes x
 no_figure_passes_truth_in_a_trial j bytes start table path e n =
     let A = ready j bytes start table path e in
     true-high j bytes (keeps j bytes start table path A (riding_from j bytes start table path A n (begun start table path) (riding_begun j bytes start table path A))).sound
 
-pub no_figure_passes_truth_in_a_run : (j : Job) (bytes : List ℕ) (start trials : ℕ) (table path : List ℕ) (records : ℕ) → open_run j bytes start table path trials records ≡ Vd.Done
+pub no_figure_passes_truth_in_a_run : (j : Job) (bytes : List ℕ) (start trials : ℕ) (table path : List ℕ) (records : ℕ) → open_run j bytes start table path trials records ≡ Ok tt
     → (x : ℕ) → can j bytes x ≡ true → get_or (course_from j bytes start trials table path).table x 0 ≤ true_of j bytes x
 no_figure_passes_truth_in_a_run j bytes start trials table path records e =
     true-high j bytes (course_ready j bytes start trials table path (ready-run j bytes start table path trials records e).ready).opened.sound
 
 -- ---- of a trial
 
-module _ (j : Job) (bytes : List ℕ) (start : ℕ) (table path : List ℕ) (e : open_trial j bytes start table path ≡ Vd.Done) where
+module _ (j : Job) (bytes : List ℕ) (start : ℕ) (table path : List ℕ) (e : open_trial j bytes start table path ≡ Ok tt) where
   -- "Every trial reaches the bench in fewer than K × (R + 1) decisions."
   pub trial_reaches_the_bench : (member (ride j bytes start table path).state.current (goals j) ≡ true) × ((ride j bytes start table path).decisions < K j bytes * (R j bytes table + 1))
   trial_reaches_the_bench =
@@ -238,7 +236,7 @@ pub data EachPromised (j : Job) (bytes : List ℕ) (start : ℕ) : List ℕ → 
   and_then : {table path : List ℕ} {r : Ride} {rs : List Ride} → Promised j bytes start table path r → EachPromised j bytes start r.table r.path rs
       → EachPromised j bytes start table path (r ∷ rs)
 
-pub trial_is_promised : (j : Job) (bytes : List ℕ) (start : ℕ) (table path : List ℕ) → open_trial j bytes start table path ≡ Vd.Done
+pub trial_is_promised : (j : Job) (bytes : List ℕ) (start : ℕ) (table path : List ℕ) → open_trial j bytes start table path ≡ Ok tt
     → Promised j bytes start table path (ride j bytes start table path)
 unfolding ride_by
 trial_is_promised j bytes start table path e = record {
@@ -256,7 +254,7 @@ pub rides_are_promised : (j : Job) (bytes : List ℕ) (start : ℕ) {table path 
 rides_are_promised j bytes start over = no_more
 rides_are_promised j bytes start (trip {table = table} {path = path} e more) = and_then (trial_is_promised j bytes start table path e) (rides_are_promised j bytes start more)
 
-pub run_trials_are_promised : (j : Job) (bytes : List ℕ) (start trials : ℕ) (table path : List ℕ) (records : ℕ) → open_run j bytes start table path trials records ≡ Vd.Done
+pub run_trials_are_promised : (j : Job) (bytes : List ℕ) (start trials : ℕ) (table path : List ℕ) (records : ℕ) → open_run j bytes start table path trials records ≡ Ok tt
     → EachPromised j bytes start table path (course_from j bytes start trials table path).rides
 run_trials_are_promised j bytes start trials table path records e = rides_are_promised j bytes start (run_trials_are_accepted j bytes start trials table path records e)
 
@@ -272,7 +270,7 @@ module _ (j : Job) (bytes : List ℕ) (start : ℕ) (table : List ℕ) where
     abbrev ends : Ends 6 (soundness j bytes start table) v
     ends = ends_with_soundness j bytes start table o
 
-    pub refused_for_no_way_only_when_none_exists : (r : Refusal) → v ≡ Vd.Refused r → r.number ≡ 6 → NoWay
+    pub refused_for_no_way_only_when_none_exists : (r : Refusal) → v ≡ Err r → r.number ≡ 6 → NoWay
     refused_for_no_way_only_when_none_exists r e six z c n g way =
         six_means j bytes start table (ends.only (omega (arith, ap turn_of six)) e) six (c, (z, subst T (sym g) tt, (n, way)))
 
@@ -282,7 +280,7 @@ module _ (j : Job) (bytes : List ℕ) (start : ℕ) (table : List ℕ) where
         ends.just h ∙ six_is j bytes start table (λ (c, (z, g, (n, way))). none z c n (is_true _ g) way)
 
     -- and a table is refused as unsound only when some cell is above its true figure." It names the lowest such cell
-    pub refused_as_unsound_only_when_above : (r : Refusal) → v ≡ Vd.Refused r → r.number ≡ 7 → (x : ℕ) × (r.place ≡ P.Cell x) × Lowest j bytes table x
+    pub refused_as_unsound_only_when_above : (r : Refusal) → v ≡ Err r → r.number ≡ 7 → (x : ℕ) × (r.place ≡ P.Cell x) × Lowest j bytes table x
     unfolding turn_of
     refused_as_unsound_only_when_above r e seven = seven_means j bytes start table (ends.only (omega (arith, ap turn_of seven)) e) seven
 

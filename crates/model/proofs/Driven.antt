@@ -14,8 +14,8 @@ use Rattle.learning.specs.Ground.{View, net_of}
 use Rattle.learning.specs.Route.{Chain, ended, step}
 use Rattle.answers.specs.declared.Job.{Job}
 use Rattle.answers.specs.declared.State.{State}
-use Rattle.answers.specs.declared.Verdict.{Verdict}
-use Rattle.answers.specs.declared.Verdict.TheVariants as Vd
+use Rattle.answers.specs.Outcomes.{Verdict}
+use Rattle.std.specs.Prelude.{Ok, Err}
 use Rattle.answers.specs.declared.Answer.{Answer}
 use Rattle.answers.specs.declared.Answer.TheVariants as A
 use Rattle.model.specs.Basics.{member}
@@ -90,7 +90,7 @@ record Passed (j : Job) (bytes : List ℕ) (s : State) (path : List ℕ) (places
   here : free (floor_of j bytes) s.current ≡ true
   sound : Sound j bytes s.current path s.length
 
-passed : (j : Job) (bytes : List ℕ) (s : State) (table path : List ℕ) (room from : ℕ) → judge j bytes s table path room from ≡ Vd.Done → Passed j bytes s path room from
+passed : (j : Job) (bytes : List ℕ) (s : State) (table path : List ℕ) (room from : ℕ) → judge j bytes s table path room from ≡ Ok tt → Passed j bytes s path room from
 unfolding judge
 passed j bytes s table path room from e =
     let f = floor_of j bytes in
@@ -226,7 +226,7 @@ module _ (j : Job) (bytes : List ℕ) (s : State) (table path : List ℕ) where
             past (act-learns j bytes s table path e f ∙ learn-back j bytes s table path v new (target_here j bytes s table) g h) (go_back_drives new)
 
   -- a decision that passes its checks drives the cart by its moves
-  pub act_drives : (room from : ℕ) → judge j bytes s table path room from ≡ Vd.Done → Driven j bytes s (act j bytes s table path)
+  pub act_drives : (room from : ℕ) → judge j bytes s table path room from ≡ Ok tt → Driven j bytes s (act j bytes s table path)
   act_drives room from e = deed_drives (passed j bytes s table path room from e)
 
 -- ---- the call: what its answer says of the moves is what then stands in the lent list
@@ -265,11 +265,11 @@ module _ (j : Job) (bytes : List ℕ) (s : State) (table path moves : List ℕ) 
       Says o = Names o.answer t n → (o.state.current ≡ t) × Moved (floor_of j bytes) s.current t n d.cost from moves o.moves
 
       by : (v : Verdict) → judge j bytes s table path (length moves) from ≡ v → Says (decide j bytes s table path moves from)
-      by (Vd.Refused r) e = subst Says (sym (decide-refused j bytes s table path moves from r e)) none
+      by (Err r) e = subst Says (sym (decide-refused j bytes s table path moves from r e)) none
         where
           none : Names (A.Refused r) t n → (s.current ≡ t) × Moved (floor_of j bytes) s.current t n d.cost from moves moves
           none = elim [ ]
-      by Vd.Done e = subst Says (sym (decide_acts j bytes s table path moves from e)) goes
+      by (Ok _) e = subst Says (sym (decide_acts j bytes s table path moves from e)) goes
         where
           goes : Names d.answer t n → (d.state.current ≡ t) × Moved (floor_of j bytes) s.current t n d.cost from moves (laid moves from d.way)
           goes h =
@@ -284,7 +284,7 @@ module _ (j : Job) (bytes : List ℕ) (s : State) (table path moves : List ℕ) 
 abbrev pub DrivenFrom : (start : ℕ) → Job → List ℕ → Ride → Type 0
 DrivenFrom start j bytes r = Drives (floor_of j bytes) start r.moves r.state.current r.travel
 
-module _ (j : Job) (bytes : List ℕ) (start : ℕ) (table path : List ℕ) (e : open_trial j bytes start table path ≡ Vd.Done) where
+module _ (j : Job) (bytes : List ℕ) (start : ℕ) (table path : List ℕ) (e : open_trial j bytes start table path ≡ Ok tt) where
   abbrev Drove : Ride → Type 0
   Drove r = DrivenFrom start j bytes r
 

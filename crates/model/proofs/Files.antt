@@ -12,7 +12,7 @@ use lib.ListN.{length, get_or, take, drop, length-append, length-drop}
 use lib.Seq.{length-take-le}
 use Rattle.answers.specs.declared.Goals.{Goals}
 use Rattle.answers.specs.declared.Place.TheVariants as P
-use Rattle.answers.specs.declared.Verdict.TheVariants as Vd
+use Rattle.std.specs.Prelude.{Ok}
 use Rattle.model.specs.Basics.{choose, refuse_at, unless, naming}
 use Rattle.model.specs.Floor.{Floor, Sized, size, free, opening, goals_of}
 use Rattle.model.specs.Checks.{most_goals, ceiling, figures, Benched}
@@ -26,7 +26,7 @@ use Rattle.model.proofs.Accepted.{then_done, Tells, Judges, le_tells, eq_tells, 
 use Rattle.model.proofs.Lists.{every_tells}
 use Rattle.model.proofs.Benches.{bench_judges, InOrder, goals_judges, benched}
 
-unless-done : (b : Bool) (number : ℕ) → unless b number ≡ Vd.Done → b ≡ true
+unless-done : (b : Bool) (number : ℕ) → unless b number ≡ Ok tt → b ≡ true
 unless-done true number e = refl
 unless-done false number e = let z : ◌≡◌ {A = ℕ} 0 1 = cc in absurd (omega arith)
 
@@ -39,7 +39,7 @@ pub record Openable (f : Floor) (q : ℕ) (g : Goals) (n : ℕ) : Type 0 where
   pub benches : Benched (size f) (goals_of g)
   pub cells : n ≡ size f
 
-pub openable : (f : Floor) (q : ℕ) (g : Goals) (n : ℕ) → open_table f q g n ≡ Vd.Done → Openable f q g n
+pub openable : (f : Floor) (q : ℕ) (g : Goals) (n : ℕ) → open_table f q g n ≡ Ok tt → Openable f q g n
 unfolding open_table
 openable f q g n e =
     let (one, after_one) = then_done _ _ e in
@@ -315,12 +315,12 @@ length-file f q gs table =
 
 -- what an accepted table met, but for 28; and 28
 pub record Readable (f : Floor) (q : ℕ) (g : Goals) (file : List ℕ) (n : ℕ) : Type 0 where
-  pub opens : open_table f q g n ≡ Vd.Done
-  pub checked : check_trailer file ≡ Vd.Done
-  pub same : same_job f q (goals_of g) file ≡ Vd.Done
-  pub records : judge_records f q (goals_of g) (count_in file) 0 0 (find_records file) ≡ Vd.Done
+  pub opens : open_table f q g n ≡ Ok tt
+  pub checked : check_trailer file ≡ Ok tt
+  pub same : same_job f q (goals_of g) file ≡ Ok tt
+  pub records : judge_records f q (goals_of g) (count_in file) 0 0 (find_records file) ≡ Ok tt
 
-pub read-gives : (f : Floor) (q : ℕ) (g : Goals) (file : List ℕ) (n : ℕ) → read_verdict f q g file n ≡ Vd.Done → Readable f q g file n × (length file ≤ back_in file)
+pub read-gives : (f : Floor) (q : ℕ) (g : Goals) (file : List ℕ) (n : ℕ) → read_verdict f q g file n ≡ Ok tt → Readable f q g file n × (length file ≤ back_in file)
 unfolding read_verdict
 read-gives f q g file n e =
     let a = then_done _ _ e in
@@ -329,8 +329,8 @@ read-gives f q g file n e =
     let d = then_done _ _ c.1 in
     (record { opens = a.0; checked = b.0; same = d.0; records = d.1 }, (ahead_judges file).gives c.0)
 
-pub write-gives : (f : Floor) (q : ℕ) (g : Goals) (table : List ℕ) (room : ℕ) → write_verdict f q g table room ≡ Vd.Done
-    → (open_table f q g (length table) ≡ Vd.Done) × (figures f table ≡ Vd.Done) × (naming (size f) (unlike f q (goals_of g) table) 16 ≡ Vd.Done)
+pub write-gives : (f : Floor) (q : ℕ) (g : Goals) (table : List ℕ) (room : ℕ) → write_verdict f q g table room ≡ Ok tt
+    → (open_table f q g (length table) ≡ Ok tt) × (figures f table ≡ Ok tt) × (naming (size f) (unlike f q (goals_of g) table) 16 ≡ Ok tt)
     × (length (file_of f q (goals_of g) table) ≤ room)
 unfolding write_verdict file_room
 write-gives f q g table room e =

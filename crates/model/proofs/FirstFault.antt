@@ -10,8 +10,8 @@ use lib.Seq.{drop-drop}
 use Rattle.answers.specs.declared.Goals.{Goals}
 use Rattle.answers.specs.declared.Refusal.{Refusal}
 use Rattle.answers.specs.declared.Place.TheVariants as P
-use Rattle.answers.specs.declared.Verdict.{Verdict}
-use Rattle.answers.specs.declared.Verdict.TheVariants as Vd
+use Rattle.answers.specs.Outcomes.{Verdict}
+use Rattle.std.specs.Prelude.{Ok, Err}
 use Rattle.model.specs.Basics.{refuse_at}
 use Rattle.model.specs.Floor.{Floor, size, opening, goals_of}
 use Rattle.model.specs.Checks.{ceiling}
@@ -67,7 +67,7 @@ module _ (f : Floor) (q : ℕ) (gs part : List ℕ) where
   abbrev Named : Refusal → ℕ → Type 0
   Named r n = (j : ℕ) × (r.place ≡ P.Record j) × FirstFault f q gs part n j r.number
 
-  judged_means : (n i : ℕ) {r : Refusal} → ((j : ℕ) → j < i → Fine j) → judged_from n i ≡ Vd.Refused r → Named r (i + n)
+  judged_means : (n i : ℕ) {r : Refusal} → ((j : ℕ) → j < i → Fine j) → judged_from n i ≡ Err r → Named r (i + n)
   unfolding judge_records
   judged_means zero i earlier e = not_refused refl e
   judged_means (suc n) i {r} earlier e =
@@ -80,7 +80,7 @@ module _ (f : Floor) (q : ℕ) (gs part : List ℕ) where
 
       named : {k : ℕ} → Faulty f q gs (low_at part i) (record_at part i) k → Named r (i + suc n)
       named {k} h =
-          let same : Vd.Refused r ≡ refuse_at k (P.Record i) = sym e ∙ stops n i h in
+          let same : Err r ≡ refuse_at k (P.Record i) = sym e ∙ stops n i h in
           let number : r.number ≡ k = cc in
           (i, cc, record { one_of = omega arith; faulty = rw number h; none_earlier = earlier })
 
@@ -126,13 +126,13 @@ module _ (f : Floor) (q : ℕ) (g : Goals) (file : List ℕ) (n : ℕ) where
   none_ahead = omega arith
 
   -- A refusal by 15 or a number after it in the order of checks names the first faulty record, by the number of its first fault.
-  pub refused_record_means : {r : Refusal} → read_verdict f q g file n ≡ Vd.Refused r → turn_of 15 ≤ turn_of r.number
+  pub refused_record_means : {r : Refusal} → read_verdict f q g file n ≡ Err r → turn_of 15 ≤ turn_of r.number
       → (i : ℕ) × (r.place ≡ P.Record i) × FirstFault f q gs (find_records file) (count_in file) i r.number
   refused_record_means {r} e h =
       subst (Named f q gs (find_records file) r) none_ahead (judged_means f q gs (find_records file) (count_in file) 0 (λ j l. absurd (omega arith)) (ends_with_records.only h e))
 
   -- And the other way: a file that 1, 3, 4, 27, 13, 28 and 14 let through is refused for its first faulty record, by the number of its first fault.
-  pub faulty_record_is_refused : open_table f q g n ≡ Vd.Done → check_trailer file ≡ Vd.Done → check_ahead file ≡ Vd.Done → same_job f q gs file ≡ Vd.Done
+  pub faulty_record_is_refused : open_table f q g n ≡ Ok tt → check_trailer file ≡ Ok tt → check_ahead file ≡ Ok tt → same_job f q gs file ≡ Ok tt
       → {i k : ℕ} → FirstFault f q gs (find_records file) (count_in file) i k → read_verdict f q g file n ≡ refuse_at k (P.Record i)
   unfolding read_verdict
   faulty_record_is_refused opened checked whole same {i} {k} first =
@@ -140,11 +140,11 @@ module _ (f : Floor) (q : ℕ) (g : Goals) (file : List ℕ) (n : ℕ) where
       ∙ judged_is f q gs (find_records file) (count_in file) 0 i k (omega arith) (subst (λ m. FirstFault f q gs (find_records file) m i k) (sym none_ahead) first)
 
   -- "15 is no longer answered"
-  pub fifteen_is_not_answered : {r : Refusal} → read_verdict f q g file n ≡ Vd.Refused r → ¬ (r.number ≡ 15)
+  pub fifteen_is_not_answered : {r : Refusal} → read_verdict f q g file n ≡ Err r → ¬ (r.number ≡ 15)
   fifteen_is_not_answered e h = let (i, p, first) = refused_record_means e (omega (arith, ap turn_of h)) in omega (arith, h, faulty_numbers f q gs _ _ first.faulty)
 
 -- The order of 21 and 22 shows in no record on the floor, since no figure has both faults: the greatest opening figure lies below the ceiling.
-pub low_is_not_high : (f : Floor) (q : ℕ) (g : Goals) (n : ℕ) → open_table f q g n ≡ Vd.Done → (part : List ℕ) → cell_in part < size f
+pub low_is_not_high : (f : Floor) (q : ℕ) (g : Goals) (n : ℕ) → open_table f q g n ≡ Ok tt → (part : List ℕ) → cell_in part < size f
     → figure_in part ≤ opening f q (goals_of g) (cell_in part) → ¬ (ceiling < figure_in part)
 low_is_not_high f q g n e part inside low high =
     let o = openable f q g n e in

@@ -10,7 +10,7 @@ use borrow.Author.Tests.{le-leb, lt-leb, leb-true, leb-false, eq-eqb, ne_eqb, eq
 use lib.Dec.{leb, eqb}
 use lib.ListN.{length, get_or, take, drop, length-append, length-drop, length-map, take-append-drop, get_or-eq_default}
 use lib.Seq.{length-take-le, take_at, drop_at, get_or_at, split_at, drop-cons, drop-append-add}
-use Rattle.answers.specs.declared.Verdict.TheVariants as Vd
+use Rattle.std.specs.Prelude.{Ok}
 use Rattle.model.specs.Basics.{choose, between, every}
 use Rattle.model.specs.Floor.{plain_byte, blocked_byte, slow_byte}
 use Rattle.model.specs.FloorText.{LF, is_digit, size_in, size_bytes, is_letter, byte_of, row_holds, rows, cells_of}
@@ -202,7 +202,7 @@ module _ (w : ℕ) where
   length-letters : (bytes : List ℕ) → w ≤ length bytes → length (map letter_of (take w bytes)) ≡ w
   length-letters bytes h = length-map (take w bytes) letter_of ∙ length-take-le w bytes h
 
-  pub rows-accepted : (n line : ℕ) (bytes : List ℕ) → n * w ≤ length bytes → rows w n line (rows_of w n bytes) ≡ Vd.Done
+  pub rows-accepted : (n line : ℕ) (bytes : List ℕ) → n * w ≤ length bytes → rows w n line (rows_of w n bytes) ≡ Ok tt
   unfolding rows rows_of
   rows-accepted zero line bytes h = refl
   rows-accepted (suc n) line bytes h =
@@ -226,7 +226,7 @@ module _ (w : ℕ) where
       ∙ sym (map-append as_read (take w bytes) (drop w bytes)) ∙ ap (map as_read) (take-append-drop w bytes)
 
   -- accepted rows of these letters alone are written again
-  pub rows_again : (n line : ℕ) (t : List ℕ) → rows w n line t ≡ Vd.Done → every is_row_byte t ≡ true → rows_of w n (cells_of w n t) ≡ t
+  pub rows_again : (n line : ℕ) (t : List ℕ) → rows w n line t ≡ Ok tt → every is_row_byte t ≡ true → rows_of w n (cells_of w n t) ≡ t
   unfolding rows cells_of rows_of
   rows_again zero line [] e a = refl
   rows_again zero line (b ∷ t) e a = let z : ◌≡◌ {A = ℕ} 0 1 = cc (rw (ne_eqb (length (b ∷ t)) 0 (λ e. omega arith)) at e) in absurd (omega arith)

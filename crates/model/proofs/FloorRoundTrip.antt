@@ -9,9 +9,8 @@ use borrow.Author.Tests.{le-leb, eq-eqb, eqb-true}
 use lib.Dec.{leb, eqb}
 use lib.ListN.{length, drop}
 use lib.Seq.{drop_at, drop-drop}
-use Rattle.answers.specs.declared.Verdict.{Verdict}
-use Rattle.answers.specs.declared.Verdict.TheVariants as Vd
-use Rattle.answers.specs.declared.FloorRead.TheVariants as Fr
+use Rattle.answers.specs.Outcomes.{Verdict, read_sizes}
+use Rattle.std.specs.Prelude.{Ok}
 use Rattle.model.specs.Basics.{every, unless}
 use Rattle.model.specs.Floor.{Floor, size, Sized}
 use Rattle.model.specs.FloorText.{type_and_height, and_width, and_map, begins, size_in, size_bytes, height_in, after_height, width_in, after_width, rows_in, header}
@@ -68,7 +67,7 @@ module _ (f : Floor) (s : Sized f) where
   rows-found : rows_in (text_of f) ≡ in_rows
   rows-found = ap (drop 4) width_passed
 
-  header-accepted : header (text_of f) ≡ Vd.Done
+  header-accepted : header (text_of f) ≡ Ok tt
   unfolding header text_of
   header-accepted =
       ap (λ (b : Bool). unless b 11)
@@ -76,7 +75,7 @@ module _ (f : Floor) (s : Sized f) where
       (ap (begins and_width) height_passed ∙ begins_front and_width (size_line f.width ++ (and_map ++ in_rows)))) (le-leb 1 (width_in (text_of f)) (omega (arith, width_read, s.wide))))
       (ap (begins and_map) width_passed ∙ begins_front and_map in_rows))
 
-  text-accepted : (room : ℕ) → size f ≤ room → floor_verdict (text_of f) room ≡ Vd.Done
+  text-accepted : (room : ℕ) → size f ≤ room → floor_verdict (text_of f) room ≡ Ok tt
   unfolding floor_verdict
   text-accepted room h =
       then_next _ header-accepted
@@ -86,17 +85,17 @@ module _ (f : Floor) (s : Sized f) where
 -- "Also write floor text from a floor, with `.`, `S` and `@`, so that it reads back the same; bytes above 2 mean blocked, are written `@` and read back as 1": whatever buffer with
 -- room is read into, the answer is the floor's sizes, and its bytes are as `as_read` says, with nothing beyond them touched.
 pub written_floor_reads_back : (f : Floor) → Sized f → (buffer : List ℕ) → size f ≤ length buffer
-    → read_floor (text_of f) buffer ≡ record { answer = Fr.Sizes f.width f.height; buffer = map as_read f.bytes ++ drop (size f) buffer }
+    → read_floor (text_of f) buffer ≡ record { answer = read_sizes f.width f.height; buffer = map as_read f.bytes ++ drop (size f) buffer }
 unfolding read_floor
 written_floor_reads_back f s buffer h =
     let cells : cells_of f.width f.height (rows_of f.width f.height f.bytes) ≡ map as_read f.bytes =
     rows-read f.width f.height f.bytes (s.cells ∙ mul_comm f.width f.height) in
     ap (λ (v : Verdict). floor_from v (text_of f) buffer) (text-accepted f s (length buffer) h)
     ∙ (λ i. record {
-      answer = Fr.Sizes (width_read f s i) (height-read f s i);
+      answer = read_sizes (width_read f s i) (height-read f s i);
       buffer = cells_of (width_read f s i) (height-read f s i) (rows-found f s i) ++ drop (width_read f s i * height-read f s i) buffer;
     })
-    ∙ ap (λ (bytes : List ℕ). record { answer = Fr.Sizes f.width f.height; buffer = bytes ++ drop (size f) buffer }) cells
+    ∙ ap (λ (bytes : List ℕ). record { answer = read_sizes f.width f.height; buffer = bytes ++ drop (size f) buffer }) cells
 
 -- ---- a text that was accepted
 
@@ -104,7 +103,7 @@ written_floor_reads_back f s buffer h =
 abbrev pub floor_in : List ℕ → Floor
 floor_in text = record { width = width_in text; height = height_in text; bytes = cells_of (width_in text) (height_in text) (rows_in text) }
 
-module _ (text : List ℕ) (room : ℕ) (e : floor_verdict text room ≡ Vd.Done) where
+module _ (text : List ℕ) (room : ℕ) (e : floor_verdict text room ≡ Ok tt) where
   -- what its header and its rows have shown
   lines : (begins type_and_height text ≡ true) × (1 ≤ height_in text) × (begins and_width (after_height text) ≡ true) × (1 ≤ width_in text) × (begins and_map (after_width text) ≡ true)
   unfolding floor_verdict header
@@ -114,7 +113,7 @@ module _ (text : List ℕ) (room : ℕ) (e : floor_verdict text room ≡ Vd.Done
       let h = (unless_judges _ 11 tells).gives (then_done _ _ e).0 in
       (h.0.0.0.0, h.0.0.0.1, h.0.0.1, h.0.1, h.1)
 
-  rows-held : rows (width_in text) (height_in text) 5 (rows_in text) ≡ Vd.Done
+  rows-held : rows (width_in text) (height_in text) 5 (rows_in text) ≡ Ok tt
   unfolding floor_verdict
   rows-held =
       let (head, after) = then_done (header text) _ e in
@@ -131,7 +130,7 @@ module _ (text : List ℕ) (room : ℕ) (e : floor_verdict text room ≡ Vd.Done
   }
 
 -- And the other way: what is written of a floor that was read of `.`, `S` and `@` alone is the text that it was read from.
-pub read_floor_writes_again : (text : List ℕ) (room : ℕ) → floor_verdict text room ≡ Vd.Done → every is_row_byte (rows_in text) ≡ true → text_of (floor_in text) ≡ text
+pub read_floor_writes_again : (text : List ℕ) (room : ℕ) → floor_verdict text room ≡ Ok tt → every is_row_byte (rows_in text) ≡ true → text_of (floor_in text) ≡ text
 unfolding text_of
 read_floor_writes_again text room e a =
     let w = width_in text in

@@ -10,7 +10,7 @@ use lib.Dec.{leb, eqb}
 use lib.ListN.{length, get_or, take, drop, length-append, length-drop, length-map}
 use lib.Seq.{length-take-le}
 use Rattle.answers.specs.declared.Place.TheVariants as P
-use Rattle.answers.specs.declared.Verdict.TheVariants as Vd
+use Rattle.std.specs.Prelude.{Ok}
 use Rattle.model.specs.Basics.{every, refuse_at}
 use Rattle.model.specs.Floor.{Floor, Sized}
 use Rattle.model.specs.FloorText.{LF, and_width, and_map, size_bytes, is_letter, row_holds, rows, cells_of}
@@ -42,15 +42,15 @@ unfolding rows
 rows_more w n line t e = rw (rows, e)
 
 -- of rows that were accepted the first holds, and so do the others
-pub rows_first : (w n line : ℕ) (t : List ℕ) → rows w (suc n) line t ≡ Vd.Done → (row_holds w t ≡ true) × (rows w n (suc line) (drop (suc w) t) ≡ Vd.Done)
+pub rows_first : (w n line : ℕ) (t : List ℕ) → rows w (suc n) line t ≡ Ok tt → (row_holds w t ≡ true) × (rows w n (suc line) (drop (suc w) t) ≡ Ok tt)
 rows_first w n line t e = by (row_holds w t) refl
   where
-    by : (b : Bool) → row_holds w t ≡ b → (row_holds w t ≡ true) × (rows w n (suc line) (drop (suc w) t) ≡ Vd.Done)
+    by : (b : Bool) → row_holds w t ≡ b → (row_holds w t ≡ true) × (rows w n (suc line) (drop (suc w) t) ≡ Ok tt)
     by true z = (z, sym (rows_more w n line t z) ∙ e)
     by false z = let y : ◌≡◌ {A = ℕ} 0 1 = cc (rows-fault w (suc n) line t z (omega arith)) in absurd (omega arith)
 
 -- rows that were accepted are all there
-pub rows_there : (w n line : ℕ) (t : List ℕ) → rows w n line t ≡ Vd.Done → n * (w + 1) ≤ length t
+pub rows_there : (w n line : ℕ) (t : List ℕ) → rows w n line t ≡ Ok tt → n * (w + 1) ≤ length t
 rows_there w zero line t e = omega arith
 rows_there w (suc n) line t e =
     let (first, others) = rows_first w n line t e in
@@ -105,7 +105,7 @@ pub sized_needs_room : (f : Floor) → Sized f → (room : ℕ) → text_verdict
 unfolding text_verdict
 sized_needs_room f s room = then_next _ ((sizes_judges f (length f.bytes)).done (s, s.cells))
 
-pub text-gives : (f : Floor) (room : ℕ) → text_verdict f room ≡ Vd.Done → Sized f × (length (text_of f) ≤ room)
+pub text-gives : (f : Floor) (room : ℕ) → text_verdict f room ≡ Ok tt → Sized f × (length (text_of f) ≤ room)
 unfolding text_verdict
 text-gives f room e =
     let (sized, roomy) = then_done (sizes f (length f.bytes)) _ e in

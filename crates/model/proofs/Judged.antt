@@ -18,7 +18,7 @@ use Rattle.learning.proofs.Trials.{Keeps}
 use Rattle.learning.proofs.Never.{path_aside}
 use Rattle.answers.specs.declared.Job.{Job}
 use Rattle.answers.specs.declared.State.{State}
-use Rattle.answers.specs.declared.Verdict.TheVariants as Vd
+use Rattle.std.specs.Prelude.{Ok}
 use Rattle.model.specs.Basics.{every, member, distinct, unless}
 use Rattle.model.specs.Floor.{size, free}
 use Rattle.model.specs.Grounds.{price-free}
@@ -70,7 +70,7 @@ module _ (j : Job) (bytes : List ℕ) (H : Held j bytes) where
         (all_and (all_init (on_path s path) s.current k.reach)
         (all_and (path_aside (learning_job j bytes) k.linked) (distinct_last (on_path s path) s.current k.distinct)))
 
-    state-holds : state_holds j bytes s path ≡ Vd.Done
+    state-holds : state_holds j bytes s path ≡ Ok tt
     unfolding state_holds
     state-holds =
         ap (λ b. unless b 8)
@@ -79,7 +79,7 @@ module _ (j : Job) (bytes : List ℕ) (H : Held j bytes) where
         (distinct-true (distinct-init (on_path s path) s.current k.distinct)))
 
     pub judged : ((x : ℕ) → x < size (floor_of j bytes) → get_or table x 0 ≤ ceiling) → (places from : ℕ) → from + least_room ≤ places
-        → judge j bytes s table path places from ≡ Vd.Done
+        → judge j bytes s table path places from ≡ Ok tt
     unfolding judge moves_room figures
     judged fits places from more =
         let f = floor_of j bytes in

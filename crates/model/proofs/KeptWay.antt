@@ -13,7 +13,7 @@ use Rattle.learning.specs.Ground.{leg_of}
 use Rattle.learning.proofs.Walks.{widen}
 use Rattle.learning.proofs.Travel.{path_walk}
 use Rattle.answers.specs.declared.Job.{Job}
-use Rattle.answers.specs.declared.Verdict.TheVariants as Vd
+use Rattle.std.specs.Prelude.{Ok}
 use Rattle.model.specs.Basics.{member}
 use Rattle.model.specs.Checks.{goals}
 use Rattle.model.specs.Lookahead.{seen, w}
@@ -45,7 +45,7 @@ legs_lead {J} L (x ∷ xs) c (also h r) (link (g, e) k) =
     let (n, walk) = ((L.windows x g h).cheapest (first xs c) near).met in
     link (n, widen (λ y l. tt) walk) (legs_lead L xs c r k)
 
-pub trial_keeps_a_way : (j : Job) (bytes : List ℕ) (start : ℕ) (table path : List ℕ) → open_trial j bytes start table path ≡ Vd.Done → KeptWay j bytes start (ride j bytes start table path)
+pub trial_keeps_a_way : (j : Job) (bytes : List ℕ) (start : ℕ) (table path : List ℕ) → open_trial j bytes start table path ≡ Ok tt → KeptWay j bytes start (ride j bytes start table path)
 unfolding kept leg_of
 trial_keeps_a_way j bytes start table path e =
     let R = ready j bytes start table path e in

@@ -17,7 +17,7 @@ use Rattle.learning.proofs.Route.{closed-low}
 use Rattle.learning.proofs.Spread.{list_at, second-true}
 use Rattle.learning.proofs.Ground.{on_floor, dist-least}
 use Rattle.answers.specs.declared.Job.{Job}
-use Rattle.answers.specs.declared.Verdict.TheVariants as Vd
+use Rattle.std.specs.Prelude.{Ok}
 use Rattle.model.specs.Basics.{member}
 use Rattle.model.specs.Floor.{Floor, size, Sized, column, row, free, apart, tariff, clear, octile, opening, opening_table, straight, diagonal}
 use Rattle.model.specs.Grounds.{ground_of}
@@ -173,7 +173,7 @@ module _ (j : Job) (bytes : List ℕ) where
 
   -- nor by 5, so a job opens with it just where a walk exists
   pub opening-opens : (start : ℕ) → Sized (floor_of j bytes) → j.q ≤ 16 → free (floor_of j bytes) start ≡ true → AllFree (floor_of j bytes) (goals j) → InOrder j.goals
-      → CanReach j bytes start → accepts j bytes start opened ≡ Vd.Done
+      → CanReach j bytes start → accepts j bytes start opened ≡ Ok tt
   unfolding accepts
   opening-opens start z fine here benches order r =
       let f = floor_of j bytes in

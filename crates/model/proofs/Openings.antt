@@ -12,7 +12,7 @@ use Rattle.learning.specs.Trial.{Lawful, CanReach, Sound}
 use Rattle.learning.specs.Ground.{dist_of}
 use Rattle.learning.proofs.Ground.{lawful}
 use Rattle.answers.specs.declared.Job.{Job}
-use Rattle.answers.specs.declared.Verdict.TheVariants as Vd
+use Rattle.std.specs.Prelude.{Ok}
 use Rattle.model.specs.Floor.{size, Sized, free}
 use Rattle.model.specs.Checks.{ceiling, floor_of, goals, ground_in, sizes, path_room, settings, places, goals_hold, figures}
 use Rattle.model.specs.Opening.{accepts, open_job, open_trial, reports_room, trials_hold, open_run}
@@ -60,7 +60,7 @@ not_both true b h = h refl
 not_both false b h = refl
 
 module _ (j : Job) (bytes : List ℕ) (start : ℕ) (table : List ℕ) where
-  from_accepts : Sized (floor_of j bytes) → length table ≡ size (floor_of j bytes) → Settings j → accepts j bytes start table ≡ Vd.Done → Opened j bytes start table
+  from_accepts : Sized (floor_of j bytes) → length table ≡ size (floor_of j bytes) → Settings j → accepts j bytes start table ≡ Ok tt → Opened j bytes start table
   unfolding accepts
   from_accepts z l s e =
       let f = floor_of j bytes in
@@ -84,7 +84,7 @@ module _ (j : Job) (bytes : List ℕ) (start : ℕ) (table : List ℕ) where
         reach = way;
       }
 
-  to_accepts : Opened j bytes start table → accepts j bytes start table ≡ Vd.Done
+  to_accepts : Opened j bytes start table → accepts j bytes start table ≡ Ok tt
   unfolding accepts figures
   to_accepts o =
       let f = floor_of j bytes in
@@ -93,7 +93,7 @@ module _ (j : Job) (bytes : List ℕ) (start : ℕ) (table : List ℕ) where
       ∙ then_next _ (naming-done (size f) (λ x. ltb ceiling (get_or table x 0)) 5 (λ x h. le-ltb ceiling (get_or table x 0) (o.fits x h)))
       ∙ sound j bytes start table o.reach (λ x (r, h). omega (arith, o.sound.low x r))
 
-  pub opened : open_job j bytes start table ≡ Vd.Done → Opened j bytes start table
+  pub opened : open_job j bytes start table ≡ Ok tt → Opened j bytes start table
   unfolding open_job
   opened e =
       let (z, rest) = then_done (sizes (floor_of j bytes) (length table)) _ e in
@@ -101,14 +101,14 @@ module _ (j : Job) (bytes : List ℕ) (start : ℕ) (table : List ℕ) where
       let h = (sizes_judges (floor_of j bytes) (length table)).gives z in
       from_accepts h.0 h.1 ((settings_judges j).gives s) a
 
-  pub accepted : Opened j bytes start table → open_job j bytes start table ≡ Vd.Done
+  pub accepted : Opened j bytes start table → open_job j bytes start table ≡ Ok tt
   unfolding open_job
   accepted o =
       then_next _ ((sizes_judges (floor_of j bytes) (length table)).done (o.held.sized, o.long))
       ∙ then_next _ ((settings_judges j).done o.held.settings) ∙ to_accepts o
 
   module _ (path : List ℕ) where
-    pub ready : open_trial j bytes start table path ≡ Vd.Done → Ready j bytes start table path
+    pub ready : open_trial j bytes start table path ≡ Ok tt → Ready j bytes start table path
     unfolding open_trial
     ready e =
         let f = floor_of j bytes in
@@ -118,7 +118,7 @@ module _ (j : Job) (bytes : List ℕ) (start : ℕ) (table : List ℕ) where
         let h = (sizes_judges f (length table)).gives z in
         record { opened = from_accepts h.0 h.1 ((settings_judges j).gives s) a; room = (path_judges f (length path)).gives r }
 
-    pub accepted-trial : Ready j bytes start table path → open_trial j bytes start table path ≡ Vd.Done
+    pub accepted-trial : Ready j bytes start table path → open_trial j bytes start table path ≡ Ok tt
     unfolding open_trial
     accepted-trial o =
         let f = floor_of j bytes in
@@ -126,7 +126,7 @@ module _ (j : Job) (bytes : List ℕ) (start : ℕ) (table : List ℕ) where
         ∙ then_next _ ((path_judges f (length path)).done o.room)
         ∙ then_next _ ((settings_judges j).done o.opened.held.settings) ∙ to_accepts o.opened
 
-    pub ready-run : (trials records : ℕ) → open_run j bytes start table path trials records ≡ Vd.Done → ReadyRun j bytes start table path trials records
+    pub ready-run : (trials records : ℕ) → open_run j bytes start table path trials records ≡ Ok tt → ReadyRun j bytes start table path trials records
     unfolding open_run
     ready-run trials records e =
         let f = floor_of j bytes in

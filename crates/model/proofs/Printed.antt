@@ -10,8 +10,8 @@ use Rattle.answers.specs.declared.Job.{Job}
 use Rattle.answers.specs.declared.Settings.{Settings}
 use Rattle.answers.specs.declared.Refusal.{Refusal}
 use Rattle.answers.specs.declared.Place.TheVariants as P
-use Rattle.answers.specs.declared.Verdict.{Verdict}
-use Rattle.answers.specs.declared.Verdict.TheVariants as Vd
+use Rattle.answers.specs.Outcomes.{Verdict}
+use Rattle.std.specs.Prelude.{Ok, Err}
 use Rattle.model.specs.Floor.{opening_table}
 use Rattle.model.specs.Checks.{floor_of, goals, settings}
 use Rattle.model.specs.Opening.{trials_hold}
@@ -49,7 +49,7 @@ pub data Prints (input : List ℕ) : Type 0 where
       → EachPromised (job_read s (after_line input)) (floor_read s (after_line input)) s.start (table_read s (after_line input)) (path_read s (after_line input)) (course_read s (after_line input)).rides
       → Prints input
 
-course_promised : (s : Settings) (text : List ℕ) → judge_aisle s text ≡ Vd.Done
+course_promised : (s : Settings) (text : List ℕ) → judge_aisle s text ≡ Ok tt
     → EachPromised (job_read s text) (floor_read s text) s.start (table_read s text) (path_read s text) (course_read s text).rides
 unfolding judge_aisle
 course_promised s text e =
@@ -71,5 +71,5 @@ aisle-prints input = by (read_line input) refl
         told = asked_is input s e
 
         next : (v : Verdict) → judge_aisle s (after_line input) ≡ v → Prints input
-        next (Vd.Refused r) f = a_refusal r (told ∙ ap (λ v. printed v s (after_line input)) f)
-        next Vd.Done f = trials s e (told ∙ ap (λ v. printed v s (after_line input)) f) (course_promised s (after_line input) f)
+        next (Err r) f = a_refusal r (told ∙ ap (λ v. printed v s (after_line input)) f)
+        next (Ok _) f = trials s e (told ∙ ap (λ v. printed v s (after_line input)) f) (course_promised s (after_line input) f)

@@ -10,7 +10,7 @@ use lib.Dec.{ltb, eqb}
 use borrow.Author.Tests.{ltb-false, eqb-true, eqb-false, not-false, le-ltb, eq-eqb}
 use lib.ListN.{length, get_or, set, take, drop, length-set, length-drop}
 use lib.Seq.{drop-cons, get_or-drop, get_or-set_same, get_or-set_other, ext_get_or}
-use Rattle.answers.specs.declared.Verdict.TheVariants as Vd
+use Rattle.std.specs.Prelude.{Ok}
 use Rattle.model.specs.Basics.{choose}
 use Rattle.model.specs.Floor.{Floor, size, free, opening}
 use Rattle.model.specs.Checks.{ceiling}
@@ -113,15 +113,15 @@ module _ (f : Floor) (q : ℕ) (gs : List ℕ) where
         }
 
     -- the records of the cells from x on are lawful
-    pub written-judged : (m x i low : ℕ) → x + m ≤ size f → low ≤ x → judge_records f q gs (length (changed f q gs table m x)) i low (records_of table (changed f q gs table m x)) ≡ Vd.Done
+    pub written-judged : (m x i low : ℕ) → x + m ≤ size f → low ≤ x → judge_records f q gs (length (changed f q gs table m x)) i low (records_of table (changed f q gs table m x)) ≡ Ok tt
     unfolding changed records_of judge_records
     written-judged zero x i low h l = refl
     written-judged (suc m) x i low h l =
         by (eqb (get_or table x 0) (opening f q gs x)) refl (λ i low l. written-judged m (suc x) i low (omega arith) l)
       where
         by : (b : Bool) → eqb (get_or table x 0) (opening f q gs x) ≡ b
-            → ((i low : ℕ) → low ≤ suc x → judge_records f q gs (length (changed f q gs table m (suc x))) i low (records_of table (changed f q gs table m (suc x))) ≡ Vd.Done)
-            → judge_records f q gs (length (changed f q gs table (suc m) x)) i low (records_of table (changed f q gs table (suc m) x)) ≡ Vd.Done
+            → ((i low : ℕ) → low ≤ suc x → judge_records f q gs (length (changed f q gs table m (suc x))) i low (records_of table (changed f q gs table m (suc x))) ≡ Ok tt)
+            → judge_records f q gs (length (changed f q gs table (suc m) x)) i low (records_of table (changed f q gs table (suc m) x)) ≡ Ok tt
         by true e r = rw (changed_same f q gs table m x (eqb-true _ _ e)) (r i low (omega arith))
         by false e r =
             let cells = changed f q gs table m (suc x) in
@@ -175,25 +175,25 @@ module _ (f : Floor) (q : ℕ) (gs : List ℕ) where
   -- ---- what the reader accepts
 
   -- the first of the accepted records is lawful, and the others are accepted after it
-  first : (n i low : ℕ) (part : List ℕ) → judge_records f q gs (suc n) i low part ≡ Vd.Done → Lawful f q gs low part
+  first : (n i low : ℕ) (part : List ℕ) → judge_records f q gs (suc n) i low part ≡ Ok tt → Lawful f q gs low part
   first n i low part e = by (record_fault f q gs low part) refl
     where
       by : (k : ℕ) → record_fault f q gs low part ≡ k → Lawful f q gs low part
       by zero z = lawful f q gs low part z
       by (suc k) z = let w = judge-stop f q gs low part n i (suc k) z (λ y. omega arith) in let y : ◌≡◌ {A = ℕ} 0 1 = cc in absurd (omega arith)
 
-  others : (n i low : ℕ) (part : List ℕ) → judge_records f q gs (suc n) i low part ≡ Vd.Done → judge_records f q gs n (suc i) (suc (cell_in part)) (drop 6 part) ≡ Vd.Done
+  others : (n i low : ℕ) (part : List ℕ) → judge_records f q gs (suc n) i low part ≡ Ok tt → judge_records f q gs n (suc i) (suc (cell_in part)) (drop 6 part) ≡ Ok tt
   others n i low part e = sym (judge_more f q gs low part n i (no_fault f q gs low part (first n i low part e))) ∙ e
 
   -- they are accepted from any bound that the first one's cell meets
-  raised : (n i low x : ℕ) (part : List ℕ) → judge_records f q gs (suc n) i low part ≡ Vd.Done → x ≤ cell_in part → judge_records f q gs (suc n) i x part ≡ Vd.Done
+  raised : (n i low x : ℕ) (part : List ℕ) → judge_records f q gs (suc n) i low part ≡ Ok tt → x ≤ cell_in part → judge_records f q gs (suc n) i x part ≡ Ok tt
   raised n i low x part e h =
       let l = first n i low part e in
       let w : Lawful f q gs x part = record { inside = l.inside; open-cell = l.open-cell; rising = h; above = l.above; within = l.within } in
       judge_more f q gs x part n i (no_fault f q gs x part w) ∙ others n i low part e
 
   -- accepted records leave the cells below the bound as they are, and the length
-  applied-below : (n i low : ℕ) (part t : List ℕ) → judge_records f q gs n i low part ≡ Vd.Done → (k : ℕ) → k < low → get_or (applied n part t) k 0 ≡ get_or t k 0
+  applied-below : (n i low : ℕ) (part t : List ℕ) → judge_records f q gs n i low part ≡ Ok tt → (k : ℕ) → k < low → get_or (applied n part t) k 0 ≡ get_or t k 0
   unfolding applied
   applied-below zero i low part t e k h = refl
   applied-below (suc n) i low part t e k h =
@@ -211,7 +211,7 @@ module _ (f : Floor) (q : ℕ) (gs : List ℕ) where
     pub count : length (changed f q gs table m x) ≡ n
     pub bytes : records_of table (changed f q gs table m x) ≡ part
 
-  pub again : (m x n i : ℕ) (part t : List ℕ) → x + m ≡ size f → length t ≡ size f → judge_records f q gs n i x part ≡ Vd.Done → length part ≡ 6 * n → Bytes part
+  pub again : (m x n i : ℕ) (part t : List ℕ) → x + m ≡ size f → length t ≡ size f → judge_records f q gs n i x part ≡ Ok tt → length part ≡ 6 * n → Bytes part
       → ((k : ℕ) → x ≤ k → k < size f → get_or t k 0 ≡ opening f q gs k) → Again m x n part (applied n part t)
   unfolding changed records_of applied judge_records
   again zero x zero i [] t h a e l b o = record { count = refl; bytes = refl }
@@ -227,8 +227,8 @@ module _ (f : Floor) (q : ℕ) (gs : List ℕ) where
       (bytes_drop 6 part b) u)
     where
       by : Dec (suc x ≤ cell_in part)
-          → (judge_records f q gs (suc n) i (suc x) part ≡ Vd.Done → ((k : ℕ) → suc x ≤ k → k < size f → get_or t k 0 ≡ opening f q gs k) → Again m (suc x) (suc n) part (applied (suc n) part t))
-          → (judge_records f q gs n (suc i) (suc x) (drop 6 part) ≡ Vd.Done → ((k : ℕ) → suc x ≤ k → k < size f → get_or (set t (cell_in part) (figure_in part)) k 0 ≡ opening f q gs k)
+          → (judge_records f q gs (suc n) i (suc x) part ≡ Ok tt → ((k : ℕ) → suc x ≤ k → k < size f → get_or t k 0 ≡ opening f q gs k) → Again m (suc x) (suc n) part (applied (suc n) part t))
+          → (judge_records f q gs n (suc i) (suc x) (drop 6 part) ≡ Ok tt → ((k : ℕ) → suc x ≤ k → k < size f → get_or (set t (cell_in part) (figure_in part)) k 0 ≡ opening f q gs k)
           → Again m (suc x) n (drop 6 part) (applied n (drop 6 part) (set t (cell_in part) (figure_in part))))
           → Again (suc m) x (suc n) part (applied (suc n) part t)
       by (yes p) r q' =
@@ -241,7 +241,7 @@ module _ (f : Floor) (q : ℕ) (gs : List ℕ) where
           let c : cell_in part ≡ x = omega (arith, w.rising) in
           let v = figure_in part in
           let t' = set t (cell_in part) v in
-          let j : judge_records f q gs n (suc i) (suc x) (drop 6 part) ≡ Vd.Done = subst (λ (z : ℕ). judge_records f q gs n (suc i) (suc z) (drop 6 part) ≡ Vd.Done) c (others n i x part e) in
+          let j : judge_records f q gs n (suc i) (suc x) (drop 6 part) ≡ Ok tt = subst (λ (z : ℕ). judge_records f q gs n (suc i) (suc z) (drop 6 part) ≡ Ok tt) c (others n i x part e) in
           let g = q' j (λ k l₂ p₂. get_or-set_other t (cell_in part) k v 0 (λ z. omega arith) ∙ o k (omega arith) p₂) in
           let y : get_or (applied n (drop 6 part) t') x 0 ≡ v =
           applied-below n (suc i) (suc x) (drop 6 part) t' j x (omega arith) ∙ (ap (λ (z : ℕ). get_or t' z 0) (sym c) ∙ get_or-set_same t (cell_in part) v 0 (omega (arith, w.inside))) in
@@ -260,7 +260,7 @@ module _ (f : Floor) (q : ℕ) (gs : List ℕ) where
       by true = le-ltb (opening f q gs x) (opening f q gs x) (omega arith)
       by false = ap not (eq-eqb (opening f q gs x) (opening f q gs x) refl)
 
-  pub applied-fine : (n i low : ℕ) (part t : List ℕ) → judge_records f q gs n i low part ≡ Vd.Done → length t ≡ size f → ((x : ℕ) → x < size f → Fine f q gs x (get_or t x 0))
+  pub applied-fine : (n i low : ℕ) (part t : List ℕ) → judge_records f q gs n i low part ≡ Ok tt → length t ≡ size f → ((x : ℕ) → x < size f → Fine f q gs x (get_or t x 0))
       → (x : ℕ) → x < size f → Fine f q gs x (get_or (applied n part t) x 0)
   unfolding applied
   applied-fine zero i low part t e a fine = fine

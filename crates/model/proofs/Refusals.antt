@@ -13,8 +13,8 @@ use Rattle.learning.specs.Look.{lowest}
 use Rattle.answers.specs.declared.Job.{Job}
 use Rattle.answers.specs.declared.Refusal.{Refusal}
 use Rattle.answers.specs.declared.Place.TheVariants as P
-use Rattle.answers.specs.declared.Verdict.{Verdict}
-use Rattle.answers.specs.declared.Verdict.TheVariants as Vd
+use Rattle.answers.specs.Outcomes.{Verdict}
+use Rattle.std.specs.Prelude.{Ok, Err}
 use Rattle.model.specs.Basics.{choose, then, refuse_at, naming}
 use Rattle.model.specs.Floor.{Floor}
 use Rattle.model.specs.Checks.{floor_of, goals, sizes, path_room, settings, figures}
@@ -32,10 +32,10 @@ ahead-between = (omega arith, omega arith)
 
 -- nothing is refused by a number ahead of n; and a check all of whose numbers are
 abbrev pub NothingAhead : ℕ → Verdict → Type 0
-NothingAhead n v = (r : Refusal) → v ≡ Vd.Refused r → turn_of n ≤ turn_of r.number
+NothingAhead n v = (r : Refusal) → v ≡ Err r → turn_of n ≤ turn_of r.number
 
 pub record Early (n : ℕ) (v : Verdict) : Type 0 where
-  pub ahead : (r : Refusal) → v ≡ Vd.Refused r → turn_of r.number < turn_of n
+  pub ahead : (r : Refusal) → v ≡ Err r → turn_of r.number < turn_of n
 
 pub early : {n : ℕ} {v : Verdict} {number : ℕ} {F : Type 0} → Judges v number F → turn_of number < turn_of n → Early n v
 early {number = number} j h = record {
@@ -46,25 +46,25 @@ early-naming : (n : ℕ) (fault : ℕ → Bool) (number : ℕ) → turn_of numbe
 unfolding naming
 early-naming n fault number h = by (ltb (lowest n fault) n)
   where
-    by : (b : Bool) → Early 6 (choose b (refuse_at number (P.Cell (lowest n fault))) Vd.Done)
+    by : (b : Bool) → Early 6 (choose b (refuse_at number (P.Cell (lowest n fault))) (Ok tt))
     by true = record { ahead = λ r e. let f : number ≡ r.number = cc in omega (arith, h, ap turn_of f) }
     by false = record { ahead = λ r e. not_refused refl e }
 
 pub early_then : {n : ℕ} (a : Verdict) {b : Verdict} → Early n a → Early n b → Early n (then a b)
-early_then Vd.Done g h = h
-early_then (Vd.Refused s) g h = g
+early_then (Ok _) g h = h
+early_then (Err s) g h = g
 
 -- A check v that ends with the check w, after others whose numbers come ahead of n: a refusal from n on is w's, and where nothing ahead is refused the answer is w's.
 pub record Ends (n : ℕ) (w v : Verdict) : Type 0 where
-  pub only : {r : Refusal} → turn_of n ≤ turn_of r.number → v ≡ Vd.Refused r → w ≡ Vd.Refused r
+  pub only : {r : Refusal} → turn_of n ≤ turn_of r.number → v ≡ Err r → w ≡ Err r
   pub just : NothingAhead n v → v ≡ w
 
 pub last : {n : ℕ} (w : Verdict) → Ends n w w
 last w = record { only = λ h e. e; just = λ h. refl }
 
 pub after : {n : ℕ} (a : Verdict) {w v : Verdict} → Early n a → Ends n w v → Ends n w (then a v)
-after Vd.Done early g = g
-after (Vd.Refused s) early g = record { only = λ {r} h e. absurd (omega (arith, early.ahead r e)); just = λ h. absurd (omega (arith, h s refl, early.ahead s refl)) }
+after (Ok _) early g = g
+after (Err s) early g = record { only = λ {r} h e. absurd (omega (arith, early.ahead r e)); just = λ h. absurd (omega (arith, h s refl, early.ahead s refl)) }
 
 -- what one of the three openings answers
 pub data IsOpening (j : Job) (bytes : List ℕ) (start : ℕ) (table : List ℕ) : Verdict → Type 0 where

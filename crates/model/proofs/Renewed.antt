@@ -12,8 +12,8 @@ use lib.ListN.{length, get_or, drop, length-append, length-drop, take-append-dro
 use lib.Seq.{drop-drop}
 use Rattle.answers.specs.declared.Goals.{Goals}
 use Rattle.answers.specs.declared.Place.TheVariants as P
-use Rattle.answers.specs.declared.Verdict.{Verdict}
-use Rattle.answers.specs.declared.Verdict.TheVariants as Vd
+use Rattle.answers.specs.Outcomes.{Verdict}
+use Rattle.std.specs.Prelude.{Ok, Err}
 use Rattle.model.specs.Basics.{choose, at_end, then, refuse_at, unless}
 use Rattle.model.specs.Floor.{Floor, goals_of, opening_table}
 use Rattle.model.specs.Opening.{open_table}
@@ -177,7 +177,7 @@ verdict_before f q g file figures = then (open_table f q g figures) (then (check
 abbrev pub table_before : Floor → ℕ → Goals → (file table : List ℕ) → List ℕ
 table_before f q g file table = read_of (verdict_before f q g file (length table)) f q g file table
 
-pub before_gives : (f : Floor) (q : ℕ) (g : Goals) (file : List ℕ) (n : ℕ) → verdict_before f q g file n ≡ Vd.Done → Readable f q g file n
+pub before_gives : (f : Floor) (q : ℕ) (g : Goals) (file : List ℕ) (n : ℕ) → verdict_before f q g file n ≡ Ok tt → Readable f q g file n
 before_gives f q g file n e =
     let a = then_done _ _ e in
     let b = then_done _ _ a.1 in
@@ -186,7 +186,7 @@ before_gives f q g file n e =
 
 module _ (f : Floor) (q : ℕ) (g : Goals) where
   -- 28 is answered where bytes stand ahead, and nothing before it in the order of checks is refused
-  pub bytes_ahead_are_refused : (file : List ℕ) (n : ℕ) → open_table f q g n ≡ Vd.Done → check_trailer file ≡ Vd.Done → back_in file < length file
+  pub bytes_ahead_are_refused : (file : List ℕ) (n : ℕ) → open_table f q g n ≡ Ok tt → check_trailer file ≡ Ok tt → back_in file < length file
       → read_verdict f q g file n ≡ refuse_at 28 P.Nowhere
   unfolding read_verdict
   bytes_ahead_are_refused file n o c h = then_next _ o ∙ (then_next _ c ∙ then_refused _ ((ahead_judges file).refused (λ w. omega arith)))
@@ -197,7 +197,7 @@ module _ (f : Floor) (q : ℕ) (g : Goals) where
   read_as_before file n h = ap (λ v. then (open_table f q g n) (then (check_trailer file) v)) (then_next _ ((ahead_judges file).done h))
 
   -- "The same figures": reading the new file, for any floor and job, gives the verdict and the table that reading the old file's last table gave
-  module _ (file : List ℕ) (b : Bytes file) (c : check_trailer file ≡ Vd.Done) where
+  module _ (file : List ℕ) (b : Bytes file) (c : check_trailer file ≡ Ok tt) where
     r : Renews file (renewed file)
     r = renews file b ((trailer_judges file).gives c)
 
@@ -214,8 +214,8 @@ module _ (f : Floor) (q : ℕ) (g : Goals) where
         ap (λ v. read_of v f q g (renewed file) table) (renewed_is_judged_as_before (length table)) ∙ by (verdict_before f q g file (length table))
       where
         by : (v : Verdict) → read_of v f q g (renewed file) table ≡ read_of v f q g file table
-        by Vd.Done = (λ i. applied (r.count i) (r.records i) (opening_table f q (goals_of g)))
-        by (Vd.Refused x) = refl
+        by (Ok _) = (λ i. applied (r.count i) (r.records i) (opening_table f q (goals_of g)))
+        by (Err x) = refl
 
 -- ---- the last part of a stream
 
@@ -236,7 +236,7 @@ unfolding renew_verdict
 longest_has_room file room b h = by (check_trailer file) refl
   where
     by : (v : Verdict) → check_trailer file ≡ v → then v (file_room (length (renewed file)) room) ≡ v
-    by (Vd.Refused r) e = refl
-    by Vd.Done e =
+    by (Err r) e = refl
+    by (Ok _) e =
         let few = half-small (ending file) (bytes_drop (length file - 12) file b) 2 in
         (room_judges (length (renewed file)) room).done (omega (arith, few, renewed-long file ((trailer_judges file).gives e)))

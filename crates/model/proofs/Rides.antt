@@ -19,7 +19,7 @@ use Rattle.learning.proofs.Trials.{Keeps, keeps-opened, keeps-trial, trial_on}
 use Rattle.learning.proofs.Bounds.{potential, step_falls, potential-opened, trial-learns, stays-sound, decisions-bound, kept-bound}
 use Rattle.learning.proofs.Travel.{trial-cost}
 use Rattle.answers.specs.declared.Job.{Job}
-use Rattle.answers.specs.declared.Verdict.TheVariants as Vd
+use Rattle.std.specs.Prelude.{Ok}
 use Rattle.model.specs.Floor.{size, least_price, dearest_price}
 use Rattle.model.specs.Checks.{ceiling, floor_of, ground_in, farthest, finest, largest_quota}
 use Rattle.model.specs.Decision.{at_goal, judge, act, least_room}
@@ -92,7 +92,7 @@ module _ (j : Job) (bytes : List ℕ) (start : ℕ) (table path : List ℕ) (R :
     room = omega (arith, g.places, R.room)
 
     -- a decision call would be let through
-    pub judges : (places from : ℕ) → from + least_room ≤ places → judge j bytes r.state r.table r.path places from ≡ Vd.Done
+    pub judges : (places from : ℕ) → from + least_room ≤ places → judge j bytes r.state r.table r.path places from ≡ Ok tt
     judges = judged j bytes H r.state r.table r.path keeps room g.fits
 
     module _ (aside : at_goal j bytes r.state.current ≡ false) where
@@ -254,7 +254,7 @@ module _ (j : Job) (bytes : List ℕ) (start : ℕ) (table path : List ℕ) (R :
 -- rides one after another, each from what the one before it left, and each accepted as a trial
 pub data Rides (j : Job) (bytes : List ℕ) (start : ℕ) : List ℕ → List ℕ → List Ride → Type 0 where
   over : {table path : List ℕ} → Rides j bytes start table path []
-  trip : {table path : List ℕ} {rs : List Ride} → open_trial j bytes start table path ≡ Vd.Done
+  trip : {table path : List ℕ} {rs : List Ride} → open_trial j bytes start table path ≡ Ok tt
       → Rides j bytes start (ride j bytes start table path).table (ride j bytes start table path).path rs
       → Rides j bytes start table path (ride j bytes start table path ∷ rs)
 

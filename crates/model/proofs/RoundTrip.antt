@@ -14,8 +14,8 @@ use lib.Seq.{drop-drop, get_or-drop, ext_get_or}
 use Rattle.learning.specs.Ground.{list_of}
 use Rattle.learning.proofs.Spread.{list_at, list_length}
 use Rattle.answers.specs.declared.Goals.{Goals}
-use Rattle.answers.specs.declared.Verdict.{Verdict}
-use Rattle.answers.specs.declared.Verdict.TheVariants as Vd
+use Rattle.answers.specs.Outcomes.{Verdict}
+use Rattle.std.specs.Prelude.{Ok}
 use Rattle.model.specs.Floor.{Floor, size, opening, opening_table, goals_of}
 use Rattle.model.specs.Checks.{most_goals, ceiling}
 use Rattle.model.specs.Opening.{open_table}
@@ -52,12 +52,12 @@ module _ (f : Floor) (q : ℕ) (g : Goals) where
   gs = goals_of g
 
   -- the checks of the reader, and of the writer, all passed
-  read_all : (file : List ℕ) (n : ℕ) → Readable f q g file n → length file ≤ back_in file → read_verdict f q g file n ≡ Vd.Done
+  read_all : (file : List ℕ) (n : ℕ) → Readable f q g file n → length file ≤ back_in file → read_verdict f q g file n ≡ Ok tt
   unfolding read_verdict
   read_all file n r w = then_next _ r.opens ∙ (then_next _ r.checked ∙ (then_next _ ((ahead_judges file).done w) ∙ (then_next _ r.same ∙ r.records)))
 
-  write_all : (table : List ℕ) (room : ℕ) → open_table f q g (length table) ≡ Vd.Done → ((x : ℕ) → x < size f → Fine f q gs x (get_or table x 0)) → length (file_of f q gs table) ≤ room
-      → write_verdict f q g table room ≡ Vd.Done
+  write_all : (table : List ℕ) (room : ℕ) → open_table f q g (length table) ≡ Ok tt → ((x : ℕ) → x < size f → Fine f q gs x (get_or table x 0)) → length (file_of f q gs table) ≤ room
+      → write_verdict f q g table room ≡ Ok tt
   unfolding write_verdict file_room unlike
   write_all table room o fine l =
       then_next _ o
@@ -67,7 +67,7 @@ module _ (f : Floor) (q : ℕ) (g : Goals) where
 
   -- ---- a written table
 
-  module _ (table : List ℕ) (room : ℕ) (e : write_verdict f q g table room ≡ Vd.Done) where
+  module _ (table : List ℕ) (room : ℕ) (e : write_verdict f q g table room ≡ Ok tt) where
     abbrev cells : List ℕ
     cells = changed f q gs table (size f) 0
 
@@ -103,7 +103,7 @@ module _ (f : Floor) (q : ℕ) (g : Goals) where
     named = (subst (Names f gs file) (sym (ap (λ n. eqb n 1) down.sound.0.edition_is)) down.names, down.scale)
 
     -- it is accepted,
-    written-accepted : (n : ℕ) → n ≡ length table → read_verdict f q g (file_of f q gs table) n ≡ Vd.Done
+    written-accepted : (n : ℕ) → n ≡ length table → read_verdict f q g (file_of f q gs table) n ≡ Ok tt
     unfolding file_of
     written-accepted n z =
         read_all file n
@@ -170,7 +170,7 @@ module _ (f : Floor) (q : ℕ) (g : Goals) where
         (λ k h l. opening_at k l)
 
     -- the writer accepts it, where it has room
-    accepted_writable : (room : ℕ) → second_long + 6 * count_in file ≤ room → write_verdict f q g made room ≡ Vd.Done
+    accepted_writable : (room : ℕ) → second_long + 6 * count_in file ≤ room → write_verdict f q g made room ≡ Ok tt
     accepted_writable room h =
         let a : length made ≡ size f = applied-length f q gs (count_in file) part (opening_table f q gs) ∙ length-opening in
         let z : n₀ ≡ length made = open-job.cells ∙ sym a in
@@ -225,17 +225,17 @@ module _ (f : Floor) (q : ℕ) (g : Goals) where
 -- ---- the round trip
 
 -- "A written table reads back the same": for the same floor, goals and q it is accepted and gives the same table.
-pub written_table_reads_back : (f : Floor) (q : ℕ) (g : Goals) (table : List ℕ) (room : ℕ) → write_verdict f q g table room ≡ Vd.Done → (other : List ℕ) → length other ≡ length table
-    → (read_verdict f q g (file_of f q (goals_of g) table) (length other) ≡ Vd.Done) × (read_table f q g (file_of f q (goals_of g) table) other ≡ table)
+pub written_table_reads_back : (f : Floor) (q : ℕ) (g : Goals) (table : List ℕ) (room : ℕ) → write_verdict f q g table room ≡ Ok tt → (other : List ℕ) → length other ≡ length table
+    → (read_verdict f q g (file_of f q (goals_of g) table) (length other) ≡ Ok tt) × (read_table f q g (file_of f q (goals_of g) table) other ≡ table)
 written_table_reads_back f q g table room e other z = (written-accepted f q g table room e (length other) z, written_reads_back f q g table room e other z)
 
 module _ (f : Floor) (q : ℕ) (g : Goals) (file table : List ℕ) (b : Bytes file) where
   -- "writes edition 2 from the last table alone, the same figures": what renewing gives is what writing the last table gives, wherever that was accepted
-  pub last_table_writes_renewed : verdict_before f q g file (length table) ≡ Vd.Done → file_of f q (goals_of g) (table_before f q g file table) ≡ renewed file
+  pub last_table_writes_renewed : verdict_before f q g file (length table) ≡ Ok tt → file_of f q (goals_of g) (table_before f q g file table) ≡ renewed file
   last_table_writes_renewed e =
       ap (λ v. file_of f q (goals_of g) (read_of v f q g file table)) e ∙ written_is_renewed f q g file (length table) (before_gives f q g file (length table) e) b
 
-  module _ (e : read_verdict f q g file (length table) ≡ Vd.Done) where
+  module _ (e : read_verdict f q g file (length table) ≡ Ok tt) where
     accepted : Readable f q g file (length table) × (length file ≤ back_in file)
     accepted = read-gives f q g file (length table) e
 
@@ -258,5 +258,5 @@ module _ (f : Floor) (q : ℕ) (g : Goals) (file table : List ℕ) (b : Bytes fi
     accepted_table_keeps_its_records = ap find_records renewed_again ∙ (renews file b held_so).records
 
     -- What the reader accepts, the writer accepts where it has room.
-    pub accepted_table_is_writable : (room : ℕ) → second_long + 6 * count_in file ≤ room → write_verdict f q g (read_table f q g file table) room ≡ Vd.Done
+    pub accepted_table_is_writable : (room : ℕ) → second_long + 6 * count_in file ≤ room → write_verdict f q g (read_table f q g file table) room ≡ Ok tt
     accepted_table_is_writable room h = again_is (λ t. write_verdict f q g t room) ∙ accepted_writable f q g file (length table) accepted.0 b room h

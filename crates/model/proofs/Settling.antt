@@ -22,8 +22,8 @@ use Rattle.learning.proofs.OneTrial.{second_trial_learns_nothing}
 use Rattle.learning.proofs.Rounds.{rounds_last, rounds_still, rounds-ready, learners_few, one_learns_nothing}
 use Rattle.answers.specs.declared.Job.{Job}
 use Rattle.answers.specs.declared.Report.{Report}
-use Rattle.answers.specs.declared.Verdict.TheVariants as Vd
-use Rattle.answers.specs.declared.Ran.TheVariants as Rn
+use Rattle.answers.specs.Outcomes.{made_run}
+use Rattle.std.specs.Prelude.{Ok}
 use Rattle.model.specs.Decision.{at_goal}
 use Rattle.model.specs.Opening.{open_trial, open_run}
 use Rattle.model.specs.Ride.{Ride, ride, kept, Course, course_from, run}
@@ -37,7 +37,7 @@ use Rattle.model.proofs.Demand.{distance, R, R_is, trial_stays_accepted, trial_t
 
 -- ---- one trial from an accepted job
 
-module _ (j : Job) (bytes : List ℕ) (start : ℕ) (table path : List ℕ) (accepted : open_trial j bytes start table path ≡ Vd.Done) where
+module _ (j : Job) (bytes : List ℕ) (start : ℕ) (table path : List ℕ) (accepted : open_trial j bytes start table path ≡ Ok tt) where
   A : Ready j bytes start table path
   A = ready j bytes start table path accepted
 
@@ -53,8 +53,8 @@ module _ (j : Job) (bytes : List ℕ) (start : ℕ) (table path : List ℕ) (acc
       )
 
   -- and the lists that it leaves are accepted from every other start that was: so trips from several starts take from one R
-  pub other_starts_stay_accepted : (other : ℕ) → open_trial j bytes other table path ≡ Vd.Done
-      → open_trial j bytes other (ride j bytes start table path).table (ride j bytes start table path).path ≡ Vd.Done
+  pub other_starts_stay_accepted : (other : ℕ) → open_trial j bytes other table path ≡ Ok tt
+      → open_trial j bytes other (ride j bytes start table path).table (ride j bytes start table path).path ≡ Ok tt
   other_starts_stay_accepted other e =
       let B = ready j bytes other table path e in
       let after = ready_after j bytes start table path A in
@@ -91,7 +91,7 @@ module _ (j : Job) (bytes : List ℕ) (start : ℕ) (table path : List ℕ) (acc
 
 module _ (j : Job) (bytes : List ℕ) (start : ℕ) where
   abbrev Accepted : Lists → Type 0
-  Accepted x = open_trial j bytes start x.table x.path ≡ Vd.Done
+  Accepted x = open_trial j bytes start x.table x.path ≡ Ok tt
 
   abbrev left_to_learn : Lists → ℕ
   left_to_learn x = R j bytes x.table
@@ -123,12 +123,12 @@ module _ (j : Job) (bytes : List ℕ) (start : ℕ) where
       by (yes q) = ap (λ (n : ℕ). of (lists_after j bytes start n x)) (sym q)
       by (no q) = ap of (rounds_still (leaves j bytes start) (suc i) k x (omega arith) still ∙ one) ∙ again
 
-  module _ (table path : List ℕ) (accepted : open_trial j bytes start table path ≡ Vd.Done) where
+  module _ (table path : List ℕ) (accepted : open_trial j bytes start table path ≡ Ok tt) where
     abbrev lent : Lists
     lent = record { table = table; path = path }
 
     -- each of them is accepted
-    pub each_is_accepted : (i : ℕ) → open_trial j bytes start (lists_after j bytes start i lent).table (lists_after j bytes start i lent).path ≡ Vd.Done
+    pub each_is_accepted : (i : ℕ) → open_trial j bytes start (lists_after j bytes start i lent).table (lists_after j bytes start i lent).path ≡ Ok tt
     each_is_accepted i = rounds-ready (leaves j bytes start) (learns j bytes start) left_to_learn Accepted on falls i lent accepted
 
     -- "at most R of them learn (R taken at the first trial's start)"
@@ -196,10 +196,10 @@ module _ (j : Job) (bytes : List ℕ) (start : ℕ) where
 
 module _ (j : Job) (bytes : List ℕ) where
   abbrev AllAccepted : Tour → Type 0
-  AllAccepted x = (m : ℕ) → open_trial j bytes (x.starts m) x.lists.table x.lists.path ≡ Vd.Done
+  AllAccepted x = (m : ℕ) → open_trial j bytes (x.starts m) x.lists.table x.lists.path ≡ Ok tt
 
   -- wherever they start, at most R of them learn
-  pub at_most_R_trips_learn_wherever_they_start : (table path : List ℕ) (starts : ℕ → ℕ) → ((m : ℕ) → open_trial j bytes (starts m) table path ≡ Vd.Done)
+  pub at_most_R_trips_learn_wherever_they_start : (table path : List ℕ) (starts : ℕ → ℕ) → ((m : ℕ) → open_trial j bytes (starts m) table path ≡ Ok tt)
       → (n : ℕ) → tour_trips_that_learn j bytes n (record { lists = record { table = table; path = path }; starts = starts }) ≤ R j bytes table
   at_most_R_trips_learn_wherever_they_start table path starts accepted n =
       omega (
@@ -242,21 +242,21 @@ module _ (j : Job) (bytes : List ℕ) (start : ℕ) where
           later zero h z = absurd (eqb-false r.learned 0 q z)
           later (suc i) h z = let (s, l) = C.by_then i (omega arith) z in (s, omega arith)
 
-  module _ (trials : ℕ) (table path : List ℕ) (reports : List Report) (accepted : open_run j bytes start table path trials (length reports) ≡ Vd.Done) where
+  module _ (trials : ℕ) (table path : List ℕ) (reports : List Report) (accepted : open_run j bytes start table path trials (length reports) ≡ Ok tt) where
     abbrev from : Lists
     from = record { table = table; path = path }
 
-    opens : open_trial j bytes start table path ≡ Vd.Done
+    opens : open_trial j bytes start table path ≡ Ok tt
     opens = accepted-trial j bytes start table path (ready-run j bytes start table path trials (length reports) accepted).ready
 
-    run_settles_by : (i : ℕ) → i < trials → (trip j bytes start i from).learned ≡ 0 → (n : ℕ) × (n ≤ suc i) × ((run j bytes start trials table path reports).answer ≡ Rn.Made n true)
+    run_settles_by : (i : ℕ) → i < trials → (trip j bytes start i from).learned ≡ 0 → (n : ℕ) × (n ≤ suc i) × ((run j bytes start trials table path reports).answer ≡ made_run n true)
     run_settles_by i h z =
         let n = length (course_from j bytes start trials table path).rides in
         let (settled, few) = (course_comes trials from).by_then i h z in
-        (n, few, ap (λ o. o.answer) (run_is_made j bytes start trials table path reports accepted) ∙ ap (Rn.Made n) settled)
+        (n, few, ap (λ o. o.answer) (run_is_made j bytes start trials table path reports accepted) ∙ ap (made_run n) settled)
 
     -- with more than R trials asked for `run` answers settled, after R + 1 at the most
-    pub run_of_more_than_R_trials_settles : R j bytes table < trials → (n : ℕ) × (n ≤ R j bytes table + 1) × ((run j bytes start trials table path reports).answer ≡ Rn.Made n true)
+    pub run_of_more_than_R_trials_settles : R j bytes table < trials → (n : ℕ) × (n ≤ R j bytes table + 1) × ((run j bytes start trials table path reports).answer ≡ made_run n true)
     run_of_more_than_R_trials_settles h =
         let (i, l, z) = one_of_R_and_1_learns_nothing j bytes start table path opens in
         let (n, few, told) = run_settles_by i (omega arith) z in
@@ -264,5 +264,5 @@ module _ (j : Job) (bytes : List ℕ) (start : ℕ) where
 
     -- and with quota 0, at depth 1 or with weight 1/1, with more than one asked for, after two at the most
     pub run_with_quota_0_settles_in_two : j.quota ≡ 0 → (j.depth ≡ 1) ⊎ (j.p ≡ j.q) → 1 < trials
-        → (n : ℕ) × (n ≤ 2) × ((run j bytes start trials table path reports).answer ≡ Rn.Made n true)
+        → (n : ℕ) × (n ≤ 2) × ((run j bytes start trials table path reports).answer ≡ made_run n true)
     run_with_quota_0_settles_in_two none which h = run_settles_by 1 h (with_quota_0_the_second_trip_is_final j bytes start table path opens none which)

@@ -14,8 +14,8 @@ use Rattle.learning.proofs.Ground.{on_floor, reach_of_lem, reach-true}
 use Rattle.answers.specs.declared.Job.{Job}
 use Rattle.answers.specs.declared.Refusal.{Refusal}
 use Rattle.answers.specs.declared.Place.TheVariants as P
-use Rattle.answers.specs.declared.Verdict.{Verdict}
-use Rattle.answers.specs.declared.Verdict.TheVariants as Vd
+use Rattle.answers.specs.Outcomes.{Verdict}
+use Rattle.std.specs.Prelude.{Ok, Err}
 use Rattle.model.specs.Basics.{then, refuse_at, unless, naming}
 use Rattle.model.specs.Floor.{size}
 use Rattle.model.specs.Checks.{floor_of, ground_in}
@@ -34,7 +34,7 @@ Above j bytes table x = CanReach j bytes x × (j.q * dist_of (ground_in j bytes)
 abbrev pub Lowest : Job → (bytes table : List ℕ) → ℕ → Type 0
 Lowest j bytes table x = Above j bytes table x × ((y : ℕ) → y < x → ¬ Above j bytes table y)
 
-same_refusal : {r s : Refusal} → Vd.Refused r ≡ Vd.Refused s → r ≡ s
+same_refusal : {r s : Refusal} → ◌≡◌ {A = Verdict} (Err r) (Err s) → r ≡ s
 same_refusal e = cc
 
 -- whether a cell can reach a goal, as the opening computes it
@@ -81,7 +81,7 @@ module _ (j : Job) (bytes : List ℕ) where
     six_is h = shape ∙ ap (λ b. then (unless b 6) searched) (reaches_not start h)
 
     -- what a refusal past the start has found
-    refused-named : {r : Refusal} → CanReach j bytes start → soundness j bytes start table ≡ Vd.Refused r
+    refused-named : {r : Refusal} → CanReach j bytes start → soundness j bytes start table ≡ Err r
         → (x : ℕ) × Lowest j bytes table x × (r ≡ record { number = 7; place = P.Cell x })
     unfolding searched
     refused-named reach e =
@@ -89,11 +89,11 @@ module _ (j : Job) (bytes : List ℕ) where
         (x, (fault-told x n.faulty, λ y h a. never (fault-shown y a) (n.first y h)), same_refusal (sym e ∙ from_reached reach ∙ n.answer))
 
     -- and only then
-    pub six_means : {r : Refusal} → soundness j bytes start table ≡ Vd.Refused r → r.number ≡ 6 → ¬ CanReach j bytes start
+    pub six_means : {r : Refusal} → soundness j bytes start table ≡ Err r → r.number ≡ 6 → ¬ CanReach j bytes start
     six_means e q reach = let (x, l, g) = refused-named reach e in omega (arith, ap (λ (y : Refusal). y.number) g)
 
     -- 7 names the lowest cell that is above its true figure
-    pub seven_means : {r : Refusal} → soundness j bytes start table ≡ Vd.Refused r → r.number ≡ 7
+    pub seven_means : {r : Refusal} → soundness j bytes start table ≡ Err r → r.number ≡ 7
         → (x : ℕ) × (r.place ≡ P.Cell x) × Lowest j bytes table x
     seven_means {r} e q = by (reaches j bytes (distances j bytes) start) refl
       where
@@ -105,11 +105,11 @@ module _ (j : Job) (bytes : List ℕ) where
             absurd (omega (arith, ap (λ (y : Refusal). y.number) g))
 
     -- neither: every figure of a cell that can reach a goal is at most the true one
-    pub sound : CanReach j bytes start → ((x : ℕ) → ¬ Above j bytes table x) → soundness j bytes start table ≡ Vd.Done
+    pub sound : CanReach j bytes start → ((x : ℕ) → ¬ Above j bytes table x) → soundness j bytes start table ≡ Ok tt
     unfolding searched
     sound r low = from_reached r ∙ naming-done (size (floor_of j bytes)) fault 7 (λ x h. fault_not x (low x))
 
-    pub sound_only : soundness j bytes start table ≡ Vd.Done → CanReach j bytes start × ((x : ℕ) → ¬ Above j bytes table x)
+    pub sound_only : soundness j bytes start table ≡ Ok tt → CanReach j bytes start × ((x : ℕ) → ¬ Above j bytes table x)
     unfolding searched
     sound_only e = by (reaches j bytes (distances j bytes) start) refl
       where
@@ -124,5 +124,5 @@ module _ (j : Job) (bytes : List ℕ) where
     seven_is reach x above = by (soundness j bytes start table) refl
       where
         by : (v : Verdict) → soundness j bytes start table ≡ v → (y : ℕ) × (soundness j bytes start table ≡ refuse_at 7 (P.Cell y)) × Lowest j bytes table y
-        by Vd.Done e = absurd ((sound_only e).1 x above)
-        by (Vd.Refused r) e = let (y, l, g) = refused-named reach e in (y, e ∙ ap Vd.Refused g, l)
+        by (Ok _) e = absurd ((sound_only e).1 x above)
+        by (Err r) e = let (y, l, g) = refused-named reach e in (y, e ∙ ap Err g, l)

@@ -18,8 +18,8 @@ use Rattle.learning.proofs.Look.{answer}
 use Rattle.learning.proofs.Decision.{raised-sound}
 use Rattle.answers.specs.declared.Job.{Job}
 use Rattle.answers.specs.declared.State.{State}
-use Rattle.answers.specs.declared.Verdict.{Verdict}
-use Rattle.answers.specs.declared.Verdict.TheVariants as Vd
+use Rattle.answers.specs.Outcomes.{Verdict}
+use Rattle.std.specs.Prelude.{Ok, Err}
 use Rattle.model.specs.Basics.{choose}
 use Rattle.model.specs.Checks.{ceiling, ground_in}
 use Rattle.model.specs.Lookahead.{seen, ring, empty_ring}
@@ -167,8 +167,8 @@ module _ (j : Job) (bytes : List ℕ) (s : State) (table path : List ℕ) where
   decide-table P moves from old new = by (judge j bytes s table path (length moves) from)
     where
       by : (v : Verdict) → P (outcome_of v (act j bytes s table path) s table path moves from).table
-      by Vd.Done = new
-      by (Vd.Refused r) = old
+      by (Ok _) = new
+      by (Err r) = old
 
 -- ---- so it is with a ride and a course
 

@@ -3,8 +3,8 @@ use Rattle.std.specs.Prelude.{ℕ, ◌-◌, Bool, true, false, not, ◌&&◌, �
 use Rattle.learning.specs.Look.{lowest}
 use Rattle.answers.specs.declared.Place.{Place}
 use Rattle.answers.specs.declared.Place.TheVariants as P
-use Rattle.answers.specs.declared.Verdict.{Verdict}
-use Rattle.answers.specs.declared.Verdict.TheVariants as Vd
+use Rattle.answers.specs.Outcomes.{Verdict}
+use Rattle.std.specs.Prelude.{Ok, Err}
 
 -- a where the test passes, else b
 abbrev pub choose : {A : Type 0} → Bool → A → A → A
@@ -42,17 +42,17 @@ at_end n xs = drop (length xs - n) xs
 
 -- one check after another: the first refusal stands
 abbrev pub then : Verdict → Verdict → Verdict
-then Vd.Done v = v
-then (Vd.Refused r) v = Vd.Refused r
+then (Ok _) v = v
+then (Err r) v = Err r
 
 -- a refusal by its number, and where
 abbrev pub refuse_at : ℕ → Place → Verdict
-refuse_at number place = Vd.Refused (record { number = number; place = place })
+refuse_at number place = Err (record { number = number; place = place })
 
 abbrev pub unless : Bool → ℕ → Verdict
-unless true number = Vd.Done
+unless true number = Ok tt
 unless false number = refuse_at number P.Nowhere
 
 -- refused where one of the cells 0 to n - 1 has the fault: it names the lowest
 unfoldable pub naming : (n : ℕ) → (ℕ → Bool) → ℕ → Verdict
-naming n fault number = let x = lowest n fault in choose (ltb x n) (refuse_at number (P.Cell x)) Vd.Done
+naming n fault number = let x = lowest n fault in choose (ltb x n) (refuse_at number (P.Cell x)) (Ok tt)

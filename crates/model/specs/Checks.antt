@@ -3,7 +3,7 @@ use Rattle.std.specs.Prelude.{ℕ, suc, ◌*◌, ◌≤◌, ◌<◌, ◌&&◌, L
 use Rattle.learning.specs.Ground.{Ground}
 use Rattle.answers.specs.declared.Goals.{Goals}
 use Rattle.answers.specs.declared.Job.{Job}
-use Rattle.answers.specs.declared.Verdict.{Verdict}
+use Rattle.answers.specs.Outcomes.{Verdict}
 use Rattle.model.specs.Basics.{between, every, rising, unless, naming}
 use Rattle.model.specs.Floor.{Floor, size, dearest_price, free, goals_of}
 use Rattle.model.specs.Grounds.{ground_of}

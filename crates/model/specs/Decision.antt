@@ -5,8 +5,8 @@ use Rattle.learning.specs.Path.{before}
 use Rattle.answers.specs.declared.Job.{Job}
 use Rattle.answers.specs.declared.State.{State}
 use Rattle.answers.specs.declared.Place.TheVariants as P
-use Rattle.answers.specs.declared.Verdict.{Verdict}
-use Rattle.answers.specs.declared.Verdict.TheVariants as Vd
+use Rattle.answers.specs.Outcomes.{Verdict}
+use Rattle.std.specs.Prelude.{Ok, Err}
 use Rattle.answers.specs.declared.Answer.{Answer}
 use Rattle.answers.specs.declared.Answer.TheVariants as A
 use Rattle.model.specs.Basics.{choose, every, distinct, then, unless}
@@ -166,9 +166,9 @@ abbrev pub laid : List ℕ → ℕ → List ℕ → List ℕ
 laid moves from way = take from moves ++ (way ++ drop (from + length way) moves)
 
 abbrev pub outcome_of : Verdict → Deed → State → (table path moves : List ℕ) → ℕ → Outcome
-outcome_of Vd.Done d s table path moves from =
+outcome_of (Ok _) d s table path moves from =
     record { answer = d.answer; state = d.state; table = d.table; path = d.path; moves = laid moves from d.way }
-outcome_of (Vd.Refused r) d s table path moves from = record { answer = A.Refused r; state = s; table = table; path = path; moves = moves }
+outcome_of (Err r) d s table path moves from = record { answer = A.Refused r; state = s; table = table; path = path; moves = moves }
 
 unfoldable pub decide_by : Choice → Job → List ℕ → State → (table path moves : List ℕ) → ℕ → Outcome
 decide_by choice j bytes s table path moves from =

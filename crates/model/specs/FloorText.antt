@@ -1,10 +1,8 @@
 -- Floor text, by the octile grid benchmark format: `type octile`, `height n`, `width n`, `map`, then the rows, each line ended by LF.
 use Rattle.std.specs.Prelude.{ℕ, zero, suc, ◌+◌, ◌-◌, ◌*◌, Bool, true, false, ◌&&◌, ◌||◌, List, [], ◌∷◌, ◌++◌, map, leb, eqb, length, get_or, take, drop}
 use Rattle.answers.specs.declared.Place.TheVariants as P
-use Rattle.answers.specs.declared.Verdict.{Verdict}
-use Rattle.answers.specs.declared.Verdict.TheVariants as Vd
-use Rattle.answers.specs.declared.FloorRead.{FloorRead}
-use Rattle.answers.specs.declared.FloorRead.TheVariants as Fr
+use Rattle.answers.specs.Outcomes.{Verdict, FloorRead, read_sizes}
+use Rattle.std.specs.Prelude.{Ok, Err}
 use Rattle.model.specs.Basics.{choose, between, every, then, refuse_at, unless}
 use Rattle.model.specs.Floor.{plain_byte, blocked_byte, slow_byte}
 
@@ -84,7 +82,7 @@ row_holds width text = leb (suc width) (length text) && every is_letter (take wi
 
 -- 12: n rows and nothing after them, the first on the given line; names the first faulty line
 unfoldable pub rows : (width n line : ℕ) → (text : List ℕ) → Verdict
-rows width zero line text = choose (eqb (length text) 0) Vd.Done (refuse_at 12 (P.Line line))
+rows width zero line text = choose (eqb (length text) 0) (Ok tt) (refuse_at 12 (P.Line line))
 rows width (suc n) line text =
     elim (row_holds width text) [ true ↦ rows width n (suc line) (drop (suc width) text) | false ↦ refuse_at 12 (P.Line line) ]
 
@@ -106,11 +104,11 @@ pub record FloorOutcome : Type 0 where
   pub buffer : List ℕ
 
 abbrev pub floor_from : Verdict → (text buffer : List ℕ) → FloorOutcome
-floor_from Vd.Done text buffer = record {
-  answer = Fr.Sizes (width_in text) (height_in text);
+floor_from (Ok _) text buffer = record {
+  answer = read_sizes (width_in text) (height_in text);
   buffer = cells_of (width_in text) (height_in text) (rows_in text) ++ drop (width_in text * height_in text) buffer;
 }
-floor_from (Vd.Refused r) text buffer = record { answer = Fr.Refused r; buffer = buffer }
+floor_from (Err r) text buffer = record { answer = Err r; buffer = buffer }
 
 unfoldable pub read_floor : (text buffer : List ℕ) → FloorOutcome
 read_floor text buffer = floor_from (floor_verdict text (length buffer)) text buffer

@@ -1,6 +1,6 @@
 -- Floor text written from a floor: "with `.`, `S` and `@`, so that it reads back the same; bytes above 2 mean blocked, are written `@` and read back as 1."
 use Rattle.std.specs.Prelude.{ℕ, zero, suc, List, [], ◌∷◌, ◌++◌, map, eqb, length, take, drop}
-use Rattle.answers.specs.declared.Verdict.{Verdict}
+use Rattle.answers.specs.Outcomes.{Verdict}
 use Rattle.model.specs.Basics.{choose, then}
 use Rattle.model.specs.Floor.{Floor, plain_byte, slow_byte}
 use Rattle.model.specs.Checks.{sizes}

@@ -3,8 +3,8 @@ use Rattle.std.specs.Prelude.{ℕ, suc, ◌-◌, ◌*◌, ◌<◌, ◌≡◌, Bo
 use Rattle.std.proofs.Math.Option.{Option, none, some}
 use Rattle.answers.specs.declared.Place.TheVariants as P
 use Rattle.answers.specs.declared.Settings.{Settings}
-use Rattle.answers.specs.declared.Verdict.{Verdict}
-use Rattle.answers.specs.declared.Verdict.TheVariants as Vd
+use Rattle.answers.specs.Outcomes.{Verdict}
+use Rattle.std.specs.Prelude.{Ok, Err}
 use Rattle.model.specs.Basics.{choose, refuse_at, then, unless}
 use Rattle.model.specs.FloorText.{LF}
 use Rattle.model.specs.Line.{numbers_in, after_line, settings_of, field}
@@ -69,12 +69,12 @@ ahead copy c = record { written = copy ++ c.written; verdict = c.verdict }
 
 -- A refusal is told "with its line number; nothing is written from that line on."
 abbrev pub copy_by : Verdict → (line : ℕ) → (copy : List ℕ) → Copied → Copied
-copy_by Vd.Done line copy rest = ahead copy rest
-copy_by (Vd.Refused r) line copy rest = record { written = []; verdict = refuse_at r.number (P.Line line) }
+copy_by (Ok _) line copy rest = ahead copy rest
+copy_by (Err r) line copy rest = record { written = []; verdict = refuse_at r.number (P.Line line) }
 
 -- lines in their order, the first of them being the line of that number
 unfoldable pub copy_lines : (line : ℕ) → List (List ℕ) → Copied
-copy_lines line [] = record { written = []; verdict = Vd.Done }
+copy_lines line [] = record { written = []; verdict = Ok tt }
 copy_lines line (l ∷ ls) = copy_by (line_form l) line (with_old_depth l) (copy_lines (suc line) ls)
 
 -- The longest line that is of the form: seven numbers of seven digits, each with the space or LF after it. Whoever has seen so many bytes of a line without its LF has seen that it is malformed.

@@ -6,8 +6,8 @@ use Rattle.answers.specs.declared.Place.{Place}
 use Rattle.answers.specs.declared.Place.TheVariants as P
 use Rattle.answers.specs.declared.Refusal.{Refusal}
 use Rattle.answers.specs.declared.Settings.{Settings}
-use Rattle.answers.specs.declared.Verdict.{Verdict}
-use Rattle.answers.specs.declared.Verdict.TheVariants as Vd
+use Rattle.answers.specs.Outcomes.{Verdict}
+use Rattle.std.specs.Prelude.{Ok, Err}
 use Rattle.model.specs.Basics.{choose, then}
 use Rattle.model.specs.Floor.{one_goal, opening_table}
 use Rattle.model.specs.Checks.{floor_of, goals, settings, largest_quota}
@@ -122,8 +122,8 @@ judge_aisle s text =
     (open_job j bytes s.start (opening_table (floor_of j bytes) s.q (goals j)))))
 
 abbrev pub printed : Verdict → Settings → (text : List ℕ) → List ℕ
-printed (Vd.Refused r) s text = refusal_line r
-printed Vd.Done s text =
+printed (Err r) s text = refusal_line r
+printed (Ok _) s text =
     let j = job_in s (width_in text) (height_in text) in
     let bytes = cells_of (width_in text) (height_in text) (rows_in text) in
     let table = opening_table (floor_of j bytes) s.q (goals j) in

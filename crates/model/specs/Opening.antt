@@ -3,8 +3,8 @@ use Rattle.std.specs.Prelude.{ℕ, ◌*◌, Bool, ◌&&◌, List, leb, ltb, leng
 use Rattle.learning.specs.Ground.{dists_of, reach_in, dist_in}
 use Rattle.answers.specs.declared.Goals.{Goals}
 use Rattle.answers.specs.declared.Job.{Job}
-use Rattle.answers.specs.declared.Verdict.{Verdict}
-use Rattle.answers.specs.declared.Verdict.TheVariants as Vd
+use Rattle.answers.specs.Outcomes.{Verdict}
+use Rattle.std.specs.Prelude.{Ok, Err}
 use Rattle.model.specs.Basics.{between, then, unless, naming}
 use Rattle.model.specs.Floor.{Floor, size, goals_of, opening_table}
 use Rattle.model.specs.Checks.{floor_of, goals, ground_in, sizes, path_room, settings, scale, benches, places, goals_hold, figures}
@@ -63,5 +63,5 @@ unfoldable pub open_table : Floor → (q : ℕ) → Goals → (figures : ℕ) �
 open_table f q g figures = then (sizes f figures) (then (scale q) (then (benches f (goals_of g)) (goals_hold g)))
 
 abbrev pub filled : Verdict → Floor → (q : ℕ) → Goals → (table : List ℕ) → List ℕ
-filled Vd.Done f q g table = opening_table f q (goals_of g)
-filled (Vd.Refused r) f q g table = table
+filled (Ok _) f q g table = opening_table f q (goals_of g)
+filled (Err r) f q g table = table

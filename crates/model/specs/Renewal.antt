@@ -1,6 +1,6 @@
 -- A table file renewed: "a program takes such a file and writes edition 2 from the last table alone, the same figures". No floor is at hand, so no table is judged.
 use Rattle.std.specs.Prelude.{ℕ, ◌+◌, ◌*◌, List, [], ◌∷◌, ◌++◌, eqb, length, get_or}
-use Rattle.answers.specs.declared.Verdict.{Verdict}
+use Rattle.answers.specs.Outcomes.{Verdict}
 use Rattle.model.specs.Basics.{choose, then}
 use Rattle.model.specs.TableFile.{half_at, first_long, second_long, trailer, scale_in, edition_in, count_in, check_trailer, find_records, trailer_of}
 use Rattle.model.specs.Writing.{file_room, WriteOutcome, write_of}

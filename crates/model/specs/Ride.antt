@@ -7,12 +7,8 @@ use Rattle.learning.specs.Trial as learning
 use Rattle.answers.specs.declared.Job.{Job}
 use Rattle.answers.specs.declared.State.{State}
 use Rattle.answers.specs.declared.Report.{Report}
-use Rattle.answers.specs.declared.Verdict.{Verdict}
-use Rattle.answers.specs.declared.Verdict.TheVariants as Vd
-use Rattle.answers.specs.declared.Tried.{Tried}
-use Rattle.answers.specs.declared.Tried.TheVariants as Td
-use Rattle.answers.specs.declared.Ran.{Ran}
-use Rattle.answers.specs.declared.Ran.TheVariants as Rn
+use Rattle.answers.specs.Outcomes.{Verdict, Tried, Ran, made_run}
+use Rattle.std.specs.Prelude.{Ok, Err}
 use Rattle.model.specs.Checks.{ground_in}
 use Rattle.model.specs.Decision.{Deed, Choice, act_by, at_goal, on_path}
 use Rattle.model.specs.Lookahead.{route}
@@ -84,8 +80,8 @@ pub record TrialOutcome : Type 0 where
   pub path : List ℕ
 
 abbrev pub trial_of : Verdict → Job → List ℕ → Ride → (table path : List ℕ) → TrialOutcome
-trial_of Vd.Done j bytes r table path = record { answer = Td.Made (report j bytes r); table = r.table; path = r.path }
-trial_of (Vd.Refused r') j bytes r table path = record { answer = Td.Refused r'; table = table; path = path }
+trial_of (Ok _) j bytes r table path = record { answer = Ok (report j bytes r); table = r.table; path = r.path }
+trial_of (Err r') j bytes r table path = record { answer = Err r'; table = table; path = path }
 
 unfoldable pub trial_by : Choice → Job → List ℕ → (start : ℕ) → (table path : List ℕ) → TrialOutcome
 trial_by choice j bytes start table path = trial_of (open_trial j bytes start table path) j bytes (ride_by choice j bytes start table path) table path
@@ -120,9 +116,9 @@ pub record RunOutcome : Type 0 where
   pub reports : List Report
 
 abbrev pub run_of : Verdict → Job → List ℕ → Course → (table path : List ℕ) → List Report → RunOutcome
-run_of Vd.Done j bytes c table path reports =
-    record { answer = Rn.Made (length c.rides) c.settled; table = c.table; path = c.path; reports = filed_in (map (report j bytes) c.rides) reports }
-run_of (Vd.Refused r) j bytes c table path reports = record { answer = Rn.Refused r; table = table; path = path; reports = reports }
+run_of (Ok _) j bytes c table path reports =
+    record { answer = made_run (length c.rides) c.settled; table = c.table; path = c.path; reports = filed_in (map (report j bytes) c.rides) reports }
+run_of (Err r) j bytes c table path reports = record { answer = Err r; table = table; path = path; reports = reports }
 
 unfoldable pub run_by : Choice → Job → List ℕ → (start trials : ℕ) → (table path : List ℕ) → List Report → RunOutcome
 run_by choice j bytes start trials table path reports =

@@ -3,8 +3,8 @@
 use Rattle.std.specs.Prelude.{ℕ, zero, suc, ◌+◌, ◌-◌, ◌*◌, ◌/◌, ◌%◌, Bool, true, false, not, ◌&&◌, ◌||◌, List, [], ◌∷◌, ◌++◌, leb, ltb, eqb, length, get_or, set, take, drop}
 use Rattle.answers.specs.declared.Goals.{Goals}
 use Rattle.answers.specs.declared.Place.TheVariants as P
-use Rattle.answers.specs.declared.Verdict.{Verdict}
-use Rattle.answers.specs.declared.Verdict.TheVariants as Vd
+use Rattle.answers.specs.Outcomes.{Verdict}
+use Rattle.std.specs.Prelude.{Ok, Err}
 use Rattle.model.specs.Basics.{choose, every, at_end, then, refuse_at, unless, naming}
 use Rattle.model.specs.Floor.{Floor, size, free, goals_of, opening, opening_table}
 use Rattle.model.specs.Checks.{ceiling, figures}
@@ -131,7 +131,7 @@ record_fault f q gs low part =
 
 -- n records, the first of them numbered i: names the first faulty one
 unfoldable pub judge_records : Floor → ℕ → List ℕ → (n i low : ℕ) → (part : List ℕ) → Verdict
-judge_records f q gs zero i low part = Vd.Done
+judge_records f q gs zero i low part = Ok tt
 judge_records f q gs (suc n) i low part =
     let fault = record_fault f q gs low part in
     elim (eqb fault 0) [
@@ -158,8 +158,8 @@ read_verdict f q g file figures =
 
 -- The reader: the table after. Every cell without a record has its opening figure; a refusal leaves the table as lent.
 abbrev pub read_of : Verdict → Floor → ℕ → Goals → (file table : List ℕ) → List ℕ
-read_of Vd.Done f q g file table = applied (count_in file) (find_records file) (opening_table f q (goals_of g))
-read_of (Vd.Refused r) f q g file table = table
+read_of (Ok _) f q g file table = applied (count_in file) (find_records file) (opening_table f q (goals_of g))
+read_of (Err r) f q g file table = table
 
 unfoldable pub read_table : Floor → ℕ → Goals → (file table : List ℕ) → List ℕ
 read_table f q g file table = read_of (read_verdict f q g file (length table)) f q g file table

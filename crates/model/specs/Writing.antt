@@ -1,10 +1,8 @@
 -- What writing answers and leaves, be it a table file or a floor text.
 use Rattle.std.specs.Prelude.{ℕ, ◌≡◌, List, ◌++◌, leb, length, drop}
 use Rattle.answers.specs.Says.{says_written}
-use Rattle.answers.specs.declared.Verdict.{Verdict}
-use Rattle.answers.specs.declared.Verdict.TheVariants as Vd
-use Rattle.answers.specs.declared.Written.{Written}
-use Rattle.answers.specs.declared.Written.TheVariants as Wr
+use Rattle.answers.specs.Outcomes.{Verdict, Written}
+use Rattle.std.specs.Prelude.{Ok, Err}
 use Rattle.model.specs.Basics.{unless}
 
 -- 17: no room
@@ -17,8 +15,8 @@ pub record WriteOutcome : Type 0 where
   pub buffer : List ℕ
 
 abbrev pub write_of : Verdict → (file buffer : List ℕ) → WriteOutcome
-write_of Vd.Done file buffer = record { answer = Wr.Length (length file); buffer = file ++ drop (length file) buffer }
-write_of (Vd.Refused r) file buffer = record { answer = Wr.Refused r; buffer = buffer }
+write_of (Ok _) file buffer = record { answer = Ok (length file); buffer = file ++ drop (length file) buffer }
+write_of (Err r) file buffer = record { answer = Err r; buffer = buffer }
 
 -- what a call that writes promises: the answer by its number and values, and the buffer as it is left
 pub record Writes (o : WriteOutcome) (r : Written) (after : List ℕ) : Type 0 where

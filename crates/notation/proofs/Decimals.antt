@@ -3,14 +3,14 @@
 use Prim.Native.Nat.{ℕ, zero, suc, ◌+◌, ◌*◌, ◌/◌, ◌%◌, ◌≤◌, ◌<◌}
 use mathlib.Core.Path.{◌≡◌, refl, sym, ap, ◌∙◌}
 use mathlib.Core.Bool.{Bool, true, false}
-use mathlib.Core.List.{List, [], ◌∷◌, ◌++◌}
+use mathlib.Core.List.{List, [], ◌∷◌, ◌++◌, append_assoc}
 use native.Mathlib.Nat.{add-suc, add-zero, suc-add}
 use native.Mathlib.Decide.{dec_le}
-use native.Mathlib.Numerals.{add-one}
 use native.Mathlib.Omega.{arith}
+use borrow.Rule.Slice.PartMut.{put_mid}
 use lib.Dec.{leb}
-use lib.ListN.{length, get_or, set, take, drop, length-append}
-use lib.Seq.{sets, sets-eq, take_all, take_at, take-suc, length-take-le}
+use lib.ListN.{length, set, take, drop, length-append}
+use lib.Seq.{sets, sets-eq, take_at, drop-drop, length-take-le}
 use Rattle.model.specs.Line.{decimal_in, decimal, field}
 use Rattle.model.proofs.Digits.{one_digit, last_digit}
 use Rattle.notation.specs.Printing.{Printed}
@@ -37,13 +37,16 @@ enough (suc a) (suc b) n h k = go (dec_le n 9) (enough a b (n / 10) (tens_down (
     go (yes l) e = one_digit (suc a) n l ∙ sym (one_digit (suc b) n l)
     go (no l) e = last_digit (suc a) n (omega arith) ∙ ap (λ ds. ds ++ (48 + n % 10) ∷ []) e ∙ sym (last_digit (suc b) n (omega arith))
 
-digit_one : (n : ℕ) → n ≤ 9 → decimal n ≡ (48 + n) ∷ []
+pub digit_one : (n : ℕ) → n ≤ 9 → decimal n ≡ (48 + n) ∷ []
 digit_one n h = one_digit 19 n h
 
 -- a machine word
-digit_last : (n : ℕ) → 9 < n → n < 18446744073709551616 → decimal n ≡ decimal (n / 10) ++ (48 + n % 10) ∷ []
+pub digit_last : (n : ℕ) → 9 < n → n < 18446744073709551616 → decimal n ≡ decimal (n / 10) ++ (48 + n % 10) ∷ []
 unfolding tens
 digit_last n h k = last_digit 19 n h ∙ ap (λ ds. ds ++ (48 + n % 10) ∷ []) (enough 18 19 (n / 10) (omega arith) (omega arith))
+
+pub digits_more : (n : ℕ) → 9 < n → n < 18446744073709551616 → length (decimal n) ≡ length (decimal (n / 10)) + 1
+digits_more n h k = ap length (digit_last n h k) ∙ length-append (decimal (n / 10)) ((48 + n % 10) ∷ [])
 
 few : (most n : ℕ) → length (decimal_in most n) ≤ most
 unfolding decimal_in
@@ -61,26 +64,6 @@ digits_few n = few 20 n
 sets-append : (l : List ℕ) (i : ℕ) (xs ys : List ℕ) → sets l i (xs ++ ys) ≡ sets (sets l i xs) (i + length xs) ys
 sets-append l i [] ys = ap (λ k. sets l k ys) (sym (add-zero i))
 sets-append l i (x ∷ xs) ys = sets-append (set l i x) (suc i) xs ys ∙ ap (λ k. sets (sets (set l i x) (suc i) xs) k ys) (suc-add i (length xs) ∙ sym (add-suc i (length xs)))
-
--- what the two ways out print, and the room that they need
-module _ (out : List ℕ) (at n : ℕ) where
-  pub printed_one : n ≤ 9 → Printed out at (decimal n) (set out at (48 + n)) (at + 1)
-  printed_one h = record { written = ap (sets out at) (sym (digit_one n h)); next = ap (λ ds. at + length ds) (sym (digit_one n h)) }
-
-  pub printed_more : (mid : List ℕ) (end : ℕ) → 9 < n → n < 18446744073709551616 → Printed out at (decimal (n / 10)) mid end
-      → Printed out at (decimal n) (set mid end (48 + n % 10)) (end + 1)
-  printed_more mid end h k P =
-      let e = digit_last n h k in record {
-        written = ap (λ l. set l end (48 + n % 10)) P.written ∙ ap (λ i. set (sets out at (decimal (n / 10))) i (48 + n % 10)) P.next
-            ∙ sym (sets-append out at (decimal (n / 10)) ((48 + n % 10) ∷ [])) ∙ ap (sets out at) (sym e);
-        next = omega (arith, P.next, ap length e, length-append (decimal (n / 10)) ((48 + n % 10) ∷ []));
-      }
-
-  pub room_one : n ≤ 9 → at + length (decimal n) ≤ length out → at < length out
-  room_one h r = omega (arith, ap length (digit_one n h))
-
-  pub room_more : 9 < n → n < 18446744073709551616 → at + length (decimal n) ≤ length out → at + length (decimal (n / 10)) + 1 ≤ length out
-  room_more h k r = omega (arith, ap length (digit_last n h k), length-append (decimal (n / 10)) ((48 + n % 10) ∷ []))
 
 -- one thing after another
 pub printed_then : {out mid out' : List ℕ} {at end end' : ℕ} (xs ys : List ℕ) → Printed out at xs mid end → Printed mid end ys out' end' → Printed out at (xs ++ ys) out' end'
@@ -101,12 +84,6 @@ printed_front {out} {out'} {at} {end} xs P h =
 pub field_few : (n : ℕ) → length (field n) ≤ 21
 field_few n = omega (arith, digits_few n)
 
--- while bytes are written one by one
-pub bytes_more : (out s mid : List ℕ) (at i : ℕ) → i < length s → at + length s ≤ length out → mid ≡ sets out at (take i s) → set mid (at + i) (get_or s i 0) ≡ sets out at (take (i + 1) s)
-bytes_more out s mid at i h r e =
-    let n : length (take i s) ≡ i = length-take-le i s (omega arith) in
-    ap (λ l. set l (at + i) (get_or s i 0)) e ∙ ap (λ k. set (sets out at (take i s)) (at + k) (get_or s i 0)) (sym n)
-    ∙ sym (sets-append out at (take i s) (get_or s i 0 ∷ [])) ∙ ap (sets out at) (sym (take-suc s i 0 h) ∙ ap (λ k. take k s) (sym (add-one i)))
-
-pub bytes_all : (out s mid : List ℕ) (at i : ℕ) → length s ≤ i → i ≤ length s → mid ≡ sets out at (take i s) → Printed out at s mid (at + i)
-bytes_all out s mid at i h k e = record { written = e ∙ ap (sets out at) (take_all i s h); next = omega arith }
+-- bytes copied over a part of a list
+pub copied : (out s ys : List ℕ) (at k : ℕ) → ys ≡ s → k ≡ length s → at + length s ≤ length out → put_mid at k out ys ≡ sets out at s
+copied out s ys at k e f h = rw (e, f, drop-drop (length s) at out) (sym (sets-eq s out at h ∙ append_assoc (take at out) s (drop (at + length s) out)))

@@ -1,4 +1,4 @@
--- Laws of notation: Runs of digits that are read, Decimals of numbers that are printed, and Puts of bytes.
-pub mod Puts
+-- Laws of notation: Runs of digits that are read, Decimals of numbers, and what a printer Prints.
 pub mod Runs
 pub mod Decimals
+pub mod Prints

@@ -1,4 +1,4 @@
--- What the functions of notation promise: Runs of digits that are read, Printing, and Puts of bytes.
-pub mod Puts
+-- What the functions of notation promise: Runs of digits that are read, Printing, and what a printer Prints.
 pub mod Runs
 pub mod Printing
+pub mod Prints

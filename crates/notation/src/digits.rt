@@ -13,10 +13,7 @@ pub struct Run {
 fn is_digit(b: u8) -> bool
     ensures { result ≡ is_digit b }
 {
-    if b < 48 {
-        return false;
-    }
-    b <= 57
+    b.is_ascii_digit()
 }
 
 // The value with one digit more.
@@ -24,7 +21,7 @@ fn with_digit(most: usize, value: usize, b: u8) -> usize
     requires { (most ≤ 4294967295) × (value ≤ most + 1) × (is_digit b ≡ true) }
     ensures { (result ≡ with_digit most value b) × (result ≤ most + 1) }
 {
-    let n = 10 * value + crate::wide8(b - 48);
+    let n = 10 * value + usize::from(b - b'0');
     if most < n {
         return most + 1;
     }
@@ -37,20 +34,15 @@ pub fn read(text: &[u8], at: usize, most: usize) -> Run
     ensures { result ≡ run_at most text.now at }
 {
     let mut value = 0;
-    let mut i = at;
-    while i < text.len() {
+    for i in at..text.len() {
         let b = text[i];
         if !is_digit(b) {
-            return Run {
-                value: value,
-                after: i,
-            };
+            return Run { value, after: i };
         }
         value = with_digit(most, value, b);
-        i += 1;
     }
     Run {
-        value: value,
-        after: i,
+        value,
+        after: at.max(text.len()),
     }
 }

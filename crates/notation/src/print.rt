@@ -1,50 +1,70 @@
 // Numbers and words written into a lent list, one after another.
-ghost use Rattle.std.specs.Prelude.{◌+◌, ◌≤◌, ◌<◌, length, [], ◌∷◌};
+ghost use Rattle.std.specs.Prelude.{◌≡◌, ◌+◌, ◌≤◌, length, [], ◌∷◌};
 ghost use Rattle.model.specs.Line.{decimal as decimal_of, field as field_of};
-ghost use Rattle.notation.specs.Printing.{Printed};
+ghost use Rattle.model.specs.TableFile.{half, word};
+ghost use Rattle.notation.specs.Prints.{Prints, HasRoom};
 
-// The number n from the place `at` on; the place after it.
-pub fn decimal(out: &mut [u8], at: usize, n: usize) -> usize
-    requires { at + length (decimal_of n) ≤ length out.old }
-    ensures { Printed out.old at (decimal_of n) out.new result }
-{
-    if n <= 9 {
-        out[at] = (48 + n) as u8;
-        return at + 1;
+// Bytes written into a lent list, one after another: those before `at` are written.
+#[derive(Drop)]
+pub struct Printer<'a> {
+    pub out: &'a mut [u8],
+    pub at: usize,
+}
+
+impl<'a> Printer<'a> {
+    // One byte.
+    pub fn byte(&mut self, b: u8)
+        requires { HasRoom self.old 1 }
+        ensures { Prints self.old (b ∷ []) self.new }
+    {
+        self.out[self.at] = b;
+        self.at += 1;
     }
-    let end = decimal(out, at, n / 10);
-    out[end] = (48 + n % 10) as u8;
-    end + 1
-}
 
-// A space and the number n.
-pub fn field(out: &mut [u8], at: usize, n: usize) -> usize
-    requires { at + 21 ≤ length out.old }
-    ensures printed { Printed out.old at (field_of n) out.new result }
-    ensures upper_bound { result ≤ at + 21 }
-{
-    out[at] = 32;
-    decimal(out, at + 1, n)
-}
-
-// The bytes of s.
-pub fn bytes(out: &mut [u8], at: usize, s: &[u8]) -> usize
-    requires { at + length s.now ≤ length out.old }
-    ensures { Printed out.old at s.now out.new result }
-{
-    let mut i = 0;
-    while i < s.len() {
-        out[at + i] = s[i];
-        i += 1;
+    // The bytes of s.
+    pub fn bytes(&mut self, s: &[u8])
+        requires { HasRoom self.old (length s.now) }
+        ensures { Prints self.old s.now self.new }
+    {
+        let end = self.at + s.len();
+        self.out[self.at..end].copy_from_slice(s);
+        self.at = end;
     }
-    at + i
-}
 
-// One byte.
-pub fn byte(out: &mut [u8], at: usize, b: u8) -> usize
-    requires { at < length out.old }
-    ensures { Printed out.old at (b ∷ []) out.new result }
-{
-    out[at] = b;
-    at + 1
+    // The number n.
+    pub fn decimal(&mut self, n: usize)
+        requires { HasRoom self.old (length (decimal_of n)) }
+        ensures { Prints self.old (decimal_of n) self.new }
+    {
+        if 9 < n {
+            self.decimal(n / 10);
+        }
+        self.byte(48 + (n % 10) as u8);
+    }
+
+    // A space and the number n.
+    pub fn field(&mut self, n: usize)
+        requires { HasRoom self.old 21 }
+        ensures printed { Prints self.old (field_of n) self.new }
+        ensures short { self.new.at ≤ self.old.at + 21 }
+    {
+        self.byte(b' ');
+        self.decimal(n);
+    }
+
+    // The number n in 2 bytes, big-endian, and in 4.
+    pub fn half(&mut self, n: usize)
+        requires { HasRoom self.old 2 }
+        ensures { Prints self.old (half n) self.new }
+    {
+        self.bytes(&[(n / 256 % 256) as u8, (n % 256) as u8]);
+    }
+
+    pub fn word(&mut self, n: usize)
+        requires { HasRoom self.old 4 }
+        ensures { Prints self.old (word n) self.new }
+    {
+        self.half(n / 65536);
+        self.half(n);
+    }
 }

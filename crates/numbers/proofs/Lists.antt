@@ -1,94 +1,77 @@
--- Lists that are read, whatever the width of their entries: one turn of the loop, its start and its ends.
+-- Lists that are read, whatever their entries: one turn of the loop, its start and its ends.
 -- Reading on from here gives what reading the whole list gives. Assumes nothing.
-use Prim.Native.Nat.{ℕ, zero, suc, ◌+◌, ◌-◌, ◌≤◌, ◌<◌}
-use mathlib.Core.Path.{◌≡◌, refl, sym, ap, ◌∙◌}
-use mathlib.Core.Bool.{Bool, true, false}
-use mathlib.Core.List.{List}
-use native.Mathlib.Numerals.{add-one}
-use native.Mathlib.Omega.{arith}
+use Rattle.std.proofs.Common.{◌≡◌, ℕ, suc, ◌+◌, ◌-◌, ◌≤◌, ◌<◌, List, ◌++◌, length, map, drop, take, set, length-set, Option, Some, None, refl, sym, ◌∙◌, arith, add-one, take-append-drop}
+use Rattle.std.proofs.lemmas.List.{length-map, length-take-le, map-set, set-append_left}
+use Rattle.std.proofs.lemmas.Option.{none-some, same_Some}
 use borrow.Author.Tests.{le-leb, lt-leb}
-use lib.ListN.{length, set, take, length-set}
-use lib.Seq.{length-take-le}
-use Rattle.numbers.specs.declared.Cursor.{Cursor}
-use Rattle.numbers.specs.Reading.{failed, number_in, Filled, filled, fill_from, read_list, Read}
+use Rattle.notation.specs.declared.digits.Run.{Run}
+use Rattle.numbers.specs.Reading.{number_in, value_of, place_after, Filled, fill_from, read_list, Read}
 
--- one turn of reading a list, and its end
-module _ (most : ℕ) (input : List ℕ) (i : ℕ) (d : Cursor) (list : List ℕ) where
-  no_turn : filled (record { ok = d.ok; at = d.at; value = i }) list ≡ fill_from most input zero i d list
+-- what a call for one number answers, and where it leaves the reader
+module _ (at : ℕ) where
+  pub answered_none : (o : Option Run) → None ≡ value_of o → (at' : ℕ) → at' ≡ place_after at o → (o ≡ None) × (at' ≡ at)
+  answered_none None e at' p = (refl, p)
+  answered_none (Some r) e at' p = absurd (none-some r.value e)
+
+  pub answered_some : (o : Option Run) (v : ℕ) → Some v ≡ value_of o → (at' : ℕ) → at' ≡ place_after at o → o ≡ Some (record { value = v; after = at' })
+  answered_some None v e at' p = absurd (none-some v (sym e))
+  answered_some (Some r) v e at' p = rw (same_Some v r.value e, p)
+
+read_by : (f : Filled) (o : Option ℕ) (at : ℕ) (list : List ℕ) → record { answer = o; at = at; list = list } ≡ f → Read f o at list
+read_by f o at list e = rw (← e) (record { answer = refl; place = refl; entries = refl })
+
+module _ {A : Type 0} (number : A → ℕ) (most : ℕ) (input : List ℕ) (start : ℕ) (list : List A) (n : ℕ) where
+  -- what is read of the whole list
+  abbrev whole : Filled
+  whole = read_list most input start n (map number list)
+
+  -- the list, with the first n entries written so far
+  abbrev so_far : List A → List ℕ
+  so_far items = map number (items ++ drop n list)
+
+  pub filling_long : length list < n → Read whole None start (map number list)
+  unfolding read_list
+  filling_long h = read_by whole None start (map number list) (sym (rw (length-map, lt-leb n (length list) h)))
+
+  -- i of the n entries are read: reading on from here gives what reading the whole list gives
+  pub record Filling (items : List A) (at i : ℕ) : Type 0 where
+    pub few : i ≤ n
+    pub same : length items ≡ n
+    pub left : fill_from most input (n - i) i at (so_far items) ≡ whole
+
+  pub filling : n ≤ length list → Filling (take n list) start 0
+  unfolding read_list
+  filling h =
+      let z : n - 0 ≡ n = omega arith in
+      record { few = omega arith; same = length-take-le n list h; left = rw (z, take-append-drop, length-map, le-leb n (length list) h) }
+
+module _ {A : Type 0} {number : A → ℕ} {most : ℕ} {input : List ℕ} {start : ℕ} {list : List A} {n : ℕ} {items : List A} {at i : ℕ}
+    (g : Filling number most input start list n items at i) where
+  pub filling_all : n ≤ i → Read (whole number most input start list n) (Some n) at (so_far number most input start list n items)
   unfolding fill_from
-  no_turn = refl
+  filling_all h =
+      let z : n - i ≡ 0 = omega arith in
+      let e : i ≡ n = omega (arith, g.few) in
+      read_by _ (Some n) at _ (rw (z, e) at g.left)
 
-  turned : ℕ → Cursor → Bool → Filled
-  turned n e t = elim t [ true ↦ fill_from most input n (suc i) e (set list i e.value) | false ↦ filled failed list ]
+  -- one number more, as a call for it answers
+  module _ (h : i < n) {answer : Option ℕ} {at' : ℕ} (value : answer ≡ value_of (number_in most input at)) (place : at' ≡ place_after at (number_in most input at)) where
+    turn : fill_from most input (suc (n - suc i)) i at (so_far number most input start list n items) ≡ whole number most input start list n
+    turn = let z : suc (n - suc i) ≡ n - i = omega arith in rw z g.left
 
-  one_turn : (n : ℕ) (e : Cursor) → e ≡ number_in most input d → turned n e e.ok ≡ fill_from most input (suc n) i d list
-  unfolding fill_from turned
-  one_turn n e same = ap (λ x. turned n x x.ok) same
+    pub filling_off : answer ≡ None → Read (whole number most input start list n) None at' (so_far number most input start list n items)
+    unfolding fill_from
+    filling_off n = let e = answered_none at (number_in most input at) (sym n ∙ value) at' place in rw e.1 (read_by _ None at _ (rw (fill_from, e.0) at turn))
 
-  module _ (n : ℕ) (e : Cursor) (same : e ≡ number_in most input d) where
-    bad-turn : e.ok ≡ false → filled failed list ≡ fill_from most input (suc n) i d list
-    unfolding turned
-    bad-turn t = ap (turned n e) (sym t) ∙ one_turn n e same
-
-    good_turn : e.ok ≡ true → fill_from most input n (suc i) e (set list i e.value) ≡ fill_from most input (suc n) i d list
-    unfolding turned
-    good_turn t = ap (turned n e) (sym t) ∙ one_turn n e same
-
--- a list that is read, where the cursor is told in another way
-pub read_after : (most : ℕ) (input list : List ℕ) {mid : List ℕ} {c d r : Cursor} → c ≡ d → Read (read_list most input c list) r mid → Read (read_list most input d list) r mid
-read_after most input list e x = rw e at x
-
--- a list so far, i of as many entries as the cursor says: reading on from here gives what reading the whole list gives
-pub record Filling (most : ℕ) (input : List ℕ) (c : Cursor) (list : List ℕ) (count : ℕ) (mid : List ℕ) (d : Cursor) (i : ℕ) : Type 0 where
-  pub all : count ≡ c.value
-  pub few : i ≤ count
-  pub room : count ≤ length list
-  pub same : length mid ≡ length list
-  pub left : fill_from most input (c.value - i) i d mid ≡ read_list most input c list
-
-module _ (most : ℕ) (input : List ℕ) (c : Cursor) (list : List ℕ) where
-  read : (mid : List ℕ) (r : Cursor) → filled r mid ≡ read_list most input c list → Read (read_list most input c list) r mid
-  read mid r e = record { cursor = ap (λ x. x.cursor) e; entries = ap (λ x. x.list) e }
-
-  pub filling-long : length list < c.value → Read (read_list most input c list) failed list
-  unfolding read_list
-  filling-long h = read list failed (sym (rw (lt-leb c.value (length list) h)))
-
-  pub filling : c.value ≤ length list → Filling most input c list c.value list c 0
-  unfolding read_list
-  filling h = let z : c.value - 0 ≡ c.value = omega arith in record {
-    all = refl;
-    few = omega arith;
-    room = h;
-    same = refl;
-    left = ap (λ n. fill_from most input n 0 c list) z ∙ sym (rw (le-leb c.value (length list) h));
-  }
-
--- read on: to the end, where its count is that of its entries, or one turn more
-module _ {most : ℕ} {input : List ℕ} {c : Cursor} {list : List ℕ} {count : ℕ} {mid : List ℕ} {d : Cursor} {i : ℕ} (g : Filling most input c list count mid d i) where
-  pub filling_all : {r : Cursor} → count ≤ i → r ≡ record { ok = d.ok; at = d.at; value = count }
-      → Read (read_list most input c list) r mid × ((r.value ≤ length mid) × (r.value ≡ length (take r.value mid)))
-  filling_all h e =
-      let z : zero ≡ c.value - i = omega (arith, g.all) in
-      let n : count ≡ i = omega (arith, g.few) in
-      let fits : count ≤ length mid = omega (arith, g.room, g.same) in
-      rw e (
-        read most input c list mid _ (ap (λ n. filled (record { ok = d.ok; at = d.at; value = n }) mid) n ∙ no_turn most input i d mid ∙ ap (λ n. fill_from most input n i d mid) z ∙ g.left),
-        (fits, sym (length-take-le count mid fits)),
-      )
-
-  module _ (h : i < count) (e : Cursor) (same-e : e ≡ number_in most input d) where
-    turn : fill_from most input (suc (c.value - (i + 1))) i d mid ≡ read_list most input c list
-    turn = let z : suc (c.value - (i + 1)) ≡ c.value - i = omega (arith, g.all) in ap (λ n. fill_from most input n i d mid) z ∙ g.left
-
-    pub filling_off : e.ok ≡ false → Read (read_list most input c list) failed mid
-    filling_off t = read most input c list mid failed (bad-turn most input i d mid (c.value - (i + 1)) e same-e t ∙ turn)
-
-    pub filling_more : e.ok ≡ true → Filling most input c list count (set mid i e.value) e (i + 1)
-    filling_more t = record {
-      all = g.all;
-      few = omega arith;
-      room = g.room;
-      same = length-set mid i e.value ∙ g.same;
-      left = ap (λ k. fill_from most input (c.value - (i + 1)) k e (set mid i e.value)) (add-one i) ∙ good_turn most input i d mid (c.value - (i + 1)) e same-e t ∙ turn;
-    }
+    pub filling_more : (x : A) → answer ≡ Some (number x) → Filling number most input start list n (set items i x) at' (i + 1)
+    unfolding fill_from
+    filling_more x v =
+        let e = answered_some at (number_in most input at) (number x) (sym v ∙ value) at' place in
+        let l : i < length items = omega (arith, g.same) in
+        let s : so_far number most input start list n (set items i x) ≡ set (so_far number most input start list n items) i (number x) =
+        rw (← set-append_left items (drop n list) i x l, map-set) in
+        record {
+          few = omega arith;
+          same = length-set items i x ∙ g.same;
+          left = rw (s, add-one i) (rw (fill_from, e) at turn);
+        }

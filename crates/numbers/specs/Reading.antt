@@ -1,10 +1,9 @@
 -- Decimal numbers between blanks: what stands at a place of an input, and the lists that are read from it.
-use Rattle.std.specs.Prelude.{ℕ, zero, suc, ◌+◌, ◌-◌, ◌*◌, ◌≡◌, Bool, true, false, ◌&&◌, ◌||◌, List, [], ◌∷◌, eqb, leb, length, set, drop}
+use Rattle.std.specs.Prelude.{ℕ, zero, suc, ◌+◌, ◌-◌, ◌*◌, ◌≡◌, Bool, true, false, ◌&&◌, ◌||◌, List, [], ◌∷◌, eqb, leb, length, set, drop, Option, Some, None}
+use Rattle.std.specs.List.{list_all}
 use Rattle.model.specs.Basics.{choose}
 use Rattle.model.specs.FloorText.{LF, is_digit}
-use Rattle.numbers.specs.declared.Cursor.{Cursor}
-use Rattle.numbers.specs.declared.Item.{Item}
-use Rattle.numbers.specs.declared.Item.TheVariants.{Number, End, Malformed}
+use Rattle.notation.specs.declared.digits.Run.{Run}
 
 -- space or LF
 abbrev pub is_blank : ℕ → Bool
@@ -14,73 +13,74 @@ is_blank b = eqb b 32 || eqb b LF
 abbrev pub greatest : ℕ
 greatest = 4294967295
 
--- The number that goes on at the front of a list, which stands at the place `at`; `value` is that of its digits so far. A blank ends it,
--- and so does the end; another byte is malformed, and so is a number above the greatest
-unfoldable pub digits_from : (at value : ℕ) → List ℕ → Item
-digits_from at value [] = Number value at
+-- The number that goes on at the front of a list, which stands at the place `at`, and the place after it; `value` is that of its digits so far. A blank
+-- ends it, and so does the end; another byte is malformed, and so is a number above the greatest
+unfoldable pub digits_from : (at value : ℕ) → List ℕ → Option Run
+digits_from at value [] = Some (record { value = value; after = at })
 digits_from at value (b ∷ bs) =
     elim (is_blank b) [
-      | true ↦ Number value at
-      | false ↦ elim (is_digit b && leb (10 * value + (b - 48)) greatest) [ true ↦ digits_from (suc at) (10 * value + (b - 48)) bs | false ↦ Malformed ]
+      | true ↦ Some (record { value = value; after = at })
+      | false ↦ elim (is_digit b && leb (10 * value + (b - 48)) greatest) [ true ↦ digits_from (suc at) (10 * value + (b - 48)) bs | false ↦ None ]
     ]
 
 -- the first number of a list, after any blanks
-unfoldable pub number_from : (at : ℕ) → List ℕ → Item
-number_from at [] = End
+unfoldable pub number_from : (at : ℕ) → List ℕ → Option Run
+number_from at [] = None
 number_from at (b ∷ bs) = elim (is_blank b) [ true ↦ number_from (suc at) bs | false ↦ digits_from at 0 (b ∷ bs) ]
 
 -- what stands at a place of an input
-abbrev pub number_at : List ℕ → ℕ → Item
+abbrev pub number_at : List ℕ → ℕ → Option Run
 number_at input at = number_from at (drop at input)
 
--- a cursor after a fault
-abbrev pub failed : Cursor
-failed = record { ok = false; at = 0; value = 0 }
-
-abbrev pub at_most : ℕ → Item → Cursor
-at_most most (Number v after) = choose (leb v most) (record { ok = true; at = after; value = v }) failed
-at_most most End = failed
-at_most most Malformed = failed
+abbrev pub at_most : ℕ → Option Run → Option Run
+at_most most (Some r) = choose (leb r.value most) (Some r) None
+at_most most None = None
 
 -- one number more, at most `most`
-unfoldable pub number_in : (most : ℕ) (input : List ℕ) → Cursor → Cursor
-number_in most input c = choose c.ok (at_most most (number_at input c.at)) failed
+unfoldable pub number_in : (most : ℕ) (input : List ℕ) (at : ℕ) → Option Run
+number_in most input at = at_most most (number_at input at)
 
-abbrev pub is_end : Item → Bool
-is_end (Number v after) = false
-is_end End = true
-is_end Malformed = false
+-- what is answered of it, and the place then: that after the number, or where it was looked for
+abbrev pub value_of : Option Run → Option ℕ
+value_of (Some r) = Some r.value
+value_of None = None
 
--- all was well, and nothing is left
-unfoldable pub ended_at : (input : List ℕ) → Cursor → Bool
-ended_at input c = c.ok && is_end (number_at input c.at)
+abbrev pub place_after : ℕ → Option Run → ℕ
+place_after at (Some r) = r.after
+place_after at None = at
 
--- a lent list with what was read, and the cursor after it
+-- nothing but blanks is left
+abbrev pub ended_at : (input : List ℕ) (at : ℕ) → Bool
+ended_at input at = list_all is_blank (drop at input)
+
+-- what is answered of a list, its length or nothing after a fault; the place then, which after a fault is where the number was looked for; and the lent
+-- list with what was read
 pub record Filled : Type 0 where
-  pub cursor : Cursor
+  pub answer : Option ℕ
+  pub at : ℕ
   pub list : List ℕ
 
-abbrev pub filled : Cursor → List ℕ → Filled
-filled c list = record { cursor = c; list = list }
+abbrev pub faulty : ℕ → List ℕ → Filled
+faulty at list = record { answer = None; at = at; list = list }
 
 -- n numbers more, stored from the place i on
-unfoldable pub fill_from : (most : ℕ) (input : List ℕ) (n i : ℕ) → Cursor → List ℕ → Filled
-fill_from most input zero i c list = filled (record { ok = c.ok; at = c.at; value = i }) list
-fill_from most input (suc n) i c list =
-    let d = number_in most input c in
-    elim d.ok [ true ↦ fill_from most input n (suc i) d (set list i d.value) | false ↦ filled failed list ]
+unfoldable pub fill_from : (most : ℕ) (input : List ℕ) (n i at : ℕ) → List ℕ → Filled
+fill_from most input zero i at list = record { answer = Some i; at = at; list = list }
+fill_from most input (suc n) i at list = elim (number_in most input at) [ Some r ↦ fill_from most input n (suc i) r.after (set list i r.value) | None ↦ faulty at list ]
 
--- a list of as many entries as the cursor's value says, each at most `most`; none where the lent list has no room for them
-unfoldable pub read_list : (most : ℕ) (input : List ℕ) → Cursor → List ℕ → Filled
-read_list most input c list = choose (leb c.value (length list)) (fill_from most input c.value 0 c list) (filled failed list)
+-- a list of n entries, each at most `most`; none where the lent list has no room for them
+unfoldable pub read_list : (most : ℕ) (input : List ℕ) (at n : ℕ) → List ℕ → Filled
+read_list most input at n list = choose (leb n (length list)) (fill_from most input n 0 at list) (faulty at list)
 
--- a list: its length, and its entries; and n numbers, whose count the input does not say
-abbrev pub list_at : (most : ℕ) (input : List ℕ) → Cursor → List ℕ → Filled
-list_at most input c list = read_list most input (number_in greatest input c) list
+-- a list: its length, and its entries
+abbrev pub list_after : (most : ℕ) (input : List ℕ) (at : ℕ) → Option Run → List ℕ → Filled
+list_after most input at (Some r) list = read_list most input r.after r.value list
+list_after most input at None list = faulty at list
 
-abbrev pub several_at : (input : List ℕ) → Cursor → ℕ → List ℕ → Filled
-several_at input c n list = read_list greatest input (record { ok = c.ok; at = c.at; value = n }) list
+abbrev pub list_at : (most : ℕ) (input : List ℕ) (at : ℕ) → List ℕ → Filled
+list_at most input at list = list_after most input at (number_in greatest input at) list
 
-pub record Read (f : Filled) (r : Cursor) (list : List ℕ) : Type 0 where
-  pub cursor : r ≡ f.cursor
+pub record Read (f : Filled) (result : Option ℕ) (at : ℕ) (list : List ℕ) : Type 0 where
+  pub answer : result ≡ f.answer
+  pub place : at ≡ f.at
   pub entries : list ≡ f.list

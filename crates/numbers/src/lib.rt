@@ -4,268 +4,226 @@
 
 pub mod print;
 
-ghost use Rattle.std.specs.Prelude.{◌≡◌, true, false, ◌≤◌, length, take, drop};
-ghost use Rattle.numbers.specs.Reading.{is_blank, greatest, digits_from, number_at, failed, number_in, ended_at, Read, read_list, list_at, several_at};
+ghost use Rattle.std.specs.Prelude.{◌≡◌, ◌≤◌, ℕ, length, map, drop, position, not, IfSome};
+ghost use Rattle.numbers.specs.Reading.{is_blank, greatest, digits_from, number_at, number_in, value_of, place_after, ended_at, Read, read_list, list_at};
 
-// What stands at a place of the input: a number and the place after it, nothing but blanks, or what is no number.
-#[derive(Clone, Copy)]
-enum Item {
-    Number { value: usize, after: usize },
-    End,
-    Malformed,
+use notation::digits::{self, Run};
+
+// The greatest number that is read.
+const GREATEST: usize = 4294967295;
+
+// What the entries of a list may be: numbers, up to the greatest that is read into such a list.
+pub trait Entry: Copy {
+    ghost number: { Self → ℕ };
+
+    ghost MOST: { ℕ };
+
+    const MOST: usize;
+
+    fn from_number(n: usize) -> Self
+        requires { n ≤ MOST }
+        ensures { number result ≡ n };
+
+    fn number(self) -> usize
+        ensures { result ≡ number self };
 }
 
-// How far an input is read: the place of what comes next, whether all was well, and the number or the list's length read last.
+impl Entry for u8 {
+    ghost number = { λ x. x };
+
+    ghost MOST = { 255 };
+
+    const MOST: usize = u8::MAX as usize;
+
+    fn from_number(n: usize) -> u8 {
+        n as u8
+    }
+
+    fn number(self) -> usize {
+        usize::from(self)
+    }
+}
+
+impl Entry for u16 {
+    ghost number = { λ x. x };
+
+    ghost MOST = { 65535 };
+
+    const MOST: usize = u16::MAX as usize;
+
+    fn from_number(n: usize) -> u16 {
+        n as u16
+    }
+
+    fn number(self) -> usize {
+        usize::from(self)
+    }
+}
+
+impl Entry for u32 {
+    ghost number = { λ x. x };
+
+    ghost MOST = { 4294967295 };
+
+    const MOST: usize = u32::MAX as usize;
+
+    fn from_number(n: usize) -> u32 {
+        n as u32
+    }
+
+    fn number(self) -> usize {
+        self as usize
+    }
+}
+
+impl Entry for u64 {
+    ghost number = { λ x. x };
+
+    ghost MOST = { 4294967295 };
+
+    const MOST: usize = GREATEST;
+
+    fn from_number(n: usize) -> u64 {
+        n as u64
+    }
+
+    fn number(self) -> usize {
+        self as usize
+    }
+}
+
+impl Entry for usize {
+    ghost number = { λ x. x };
+
+    ghost MOST = { 4294967295 };
+
+    const MOST: usize = GREATEST;
+
+    fn from_number(n: usize) -> usize {
+        n
+    }
+
+    fn number(self) -> usize {
+        self
+    }
+}
+
+// An input, read up to a place.
 #[derive(Clone, Copy)]
-pub struct Cursor {
-    pub ok: bool,
+pub struct Reader<'a> {
+    pub input: &'a [u8],
     pub at: usize,
-    pub value: usize,
-}
-
-// At the front of the input.
-pub fn start() -> Cursor
-    ensures { result ≡ record { ok = true; at = 0; value = 0 } }
-{
-    Cursor {
-        ok: true,
-        at: 0,
-        value: 0,
-    }
-}
-
-// Nothing is read after a fault.
-fn fail() -> Cursor
-    ensures { result ≡ failed }
-{
-    Cursor {
-        ok: false,
-        at: 0,
-        value: 0,
-    }
-}
-
-// A list of n entries comes next.
-fn expect(c: Cursor, n: usize) -> Cursor
-    ensures { result ≡ record { ok = c.ok; at = c.at; value = n } }
-{
-    Cursor {
-        ok: c.ok,
-        at: c.at,
-        value: n,
-    }
+    ghost within: { at ≤ length input.now },
 }
 
 // A space or LF.
 fn is_blank(b: u8) -> bool
     ensures { result ≡ is_blank b }
 {
-    if b == 32 {
-        return true;
-    }
-    b == 10
+    b == b' ' || b == b'\n'
+}
+
+// How many blanks stand ahead of anything else, if anything else is left.
+fn blanks(rest: &[u8]) -> Option<usize>
+    ensures { result ≡ position (λ b. not (is_blank b)) rest.now }
+{
+    rest.iter().position(|b| !is_blank(*b))
 }
 
 // The number whose first digit stands at a place. It ends at a blank or with the input.
-fn digits(input: &[u8], at: usize) -> Item
+#[tactic(auto, using(crate::proofs::Laws::digits_over, crate::proofs::Laws::digits_end, crate::proofs::Laws::digits_blank, crate::proofs::Laws::digits_bad))]
+fn digits(input: &[u8], at: usize) -> Option<Run>
     ensures { result ≡ digits_from at 0 (drop at input.now) }
 {
-    let run = notation::digits::read(input, at, 4294967295);
-    let after = run.after;
-    if 4294967295 < run.value {
-        return Item::Malformed;
+    let run = digits::read(input, at, GREATEST);
+    if GREATEST < run.value {
+        return None;
     }
-    if input.len() <= after {
-        return Item::Number {
-            value: run.value,
-            after: after,
-        };
+    match input.get(run.after) {
+        Some(b) if !is_blank(*b) => None,
+        _ => Some(run),
     }
-    if is_blank(input[after]) {
-        return Item::Number {
-            value: run.value,
-            after: after,
-        };
-    }
-    Item::Malformed
 }
 
-// What stands at a place, after any blanks.
-fn next(input: &[u8], at: usize) -> Item
-    ensures { result ≡ number_at input.now at }
-{
-    let mut i = at;
-    while i < input.len() {
-        if !is_blank(input[i]) {
-            return digits(input, i);
+impl<'a> Reader<'a> {
+    // At the front of an input.
+    pub fn new(input: &'a [u8]) -> Self
+        ensures input { result.input.now ≡ input.now }
+        ensures front { result.at ≡ 0 }
+    {
+        Reader { input, at: 0 }
+    }
+
+    // What is not read yet.
+    fn rest(&self) -> &'a [u8]
+        ensures { result.now ≡ drop self.now.at self.now.input.now }
+    {
+        &self.input[self.at..]
+    }
+
+    // The number that stands next, and the place after it.
+    #[tactic(auto, using(crate::proofs::Laws::nothing_next, crate::proofs::Laws::something_next))]
+    fn item(&self) -> Option<Run>
+        ensures { result ≡ number_at self.now.input.now self.now.at }
+    {
+        let blanks = blanks(self.rest())?;
+        digits(self.input, self.at + blanks)
+    }
+
+    // The next number, which is to be at most `most`.
+    #[tactic(auto, unfolding(crate::specs::Reading::number_in))]
+    pub fn number(&mut self, most: usize) -> Option<usize>
+        ensures value { result ≡ value_of (number_in most self.old.input.now self.old.at) }
+        ensures place { self.new.at ≡ place_after self.old.at (number_in most self.old.input.now self.old.at) }
+        ensures input { self.new.input ≡ self.old.input }
+        ensures within_most { IfSome result (λ n. n ≤ most) }
+    {
+        let run = self.item()?;
+        if most < run.value {
+            return None;
         }
-        i += 1;
+        self.at = run.after;
+        Some(run.value)
     }
-    Item::End
-}
 
-// The next number, which is to be at most `most`.
-pub fn number(input: &[u8], c: Cursor, most: usize) -> Cursor
-    ensures value { result ≡ number_in most input.now c }
-    ensures value_le_most { result.value ≤ most }
-{
-    if !c.ok {
-        return fail();
+    // The next number, whatever it is: it may be the length of a list.
+    pub fn length(&mut self) -> Option<usize>
+        ensures value { result ≡ value_of (number_in greatest self.old.input.now self.old.at) }
+        ensures place { self.new.at ≡ place_after self.old.at (number_in greatest self.old.input.now self.old.at) }
+        ensures input { self.new.input ≡ self.old.input }
+    {
+        self.number(GREATEST)
     }
-    let n = next(input, c.at);
-    match n {
-        Item::Number { value, after } => {
-            if most < value {
-                return fail();
-            }
-            Cursor {
-                ok: true,
-                at: after,
-                value: value,
-            }
+
+    // Whether nothing but blanks is left.
+    pub fn ended(&self) -> bool
+        ensures { result ≡ ended_at self.now.input.now self.now.at }
+    {
+        self.rest().iter().all(|b| is_blank(*b))
+    }
+
+    // n entries, from the front of a list on; how many.
+    pub fn several<T: Entry>(&mut self, n: usize, list: &mut [T]) -> Option<usize>
+        ensures read { Read (read_list T.MOST self.old.input.now self.old.at n (map T.number list.old)) result self.new.at (map T.number list.new) }
+        ensures input { self.new.input ≡ self.old.input }
+        ensures fits { IfSome result (λ n. n ≤ length list.new) }
+    {
+        if list.len() < n {
+            return None;
         }
-        Item::End => fail(),
-        Item::Malformed => fail(),
-    }
-}
-
-// The next number, whatever it is: it may be the length of a list.
-pub fn length(input: &[u8], c: Cursor) -> Cursor
-    ensures { result ≡ number_in greatest input.now c }
-{
-    number(input, c, 4294967295)
-}
-
-// Whether all was well and nothing but blanks is left.
-pub fn ended(input: &[u8], c: Cursor) -> bool
-    ensures { result ≡ ended_at input.now c }
-{
-    if !c.ok {
-        return false;
-    }
-    let n = next(input, c.at);
-    match n {
-        Item::Number { value: _, after: _ } => false,
-        Item::End => true,
-        Item::Malformed => false,
-    }
-}
-
-// The entries of a list, as many as the cursor's value says: here of bytes, below of wider numbers.
-fn fill8(input: &[u8], c: Cursor, list: &mut [u8]) -> Cursor
-    ensures read { Read (read_list 255 input.now c list.old) result list.new }
-    ensures value_in_bounds { (result.value ≤ length list.new) × (result.value ≡ length (take result.value list.new)) }
-{
-    let count = c.value;
-    if list.len() < count {
-        return fail();
-    }
-    let mut d = c;
-    let mut i = 0;
-    while i < count {
-        d = number(input, d, 255);
-        if !d.ok {
-            return fail();
+        for entry in &mut list[..n] {
+            *entry = T::from_number(self.number(T::MOST)?);
         }
-        list[i] = d.value as u8;
-        i += 1;
+        Some(n)
     }
-    expect(d, count)
-}
 
-fn fill16(input: &[u8], c: Cursor, list: &mut [u16]) -> Cursor
-    ensures read { Read (read_list 65535 input.now c list.old) result list.new }
-    ensures value_in_bounds { (result.value ≤ length list.new) × (result.value ≡ length (take result.value list.new)) }
-{
-    let count = c.value;
-    if list.len() < count {
-        return fail();
+    // A list: its length, and its entries.
+    pub fn list<T: Entry>(&mut self, list: &mut [T]) -> Option<usize>
+        ensures read { Read (list_at T.MOST self.old.input.now self.old.at (map T.number list.old)) result self.new.at (map T.number list.new) }
+        ensures input { self.new.input ≡ self.old.input }
+        ensures fits { IfSome result (λ n. n ≤ length list.new) }
+    {
+        let n = self.length()?;
+        self.several(n, list)
     }
-    let mut d = c;
-    let mut i = 0;
-    while i < count {
-        d = number(input, d, 65535);
-        if !d.ok {
-            return fail();
-        }
-        list[i] = d.value as u16;
-        i += 1;
-    }
-    expect(d, count)
-}
-
-fn fill32(input: &[u8], c: Cursor, list: &mut [u32]) -> Cursor
-    ensures read { Read (read_list 4294967295 input.now c list.old) result list.new }
-    ensures value_in_bounds { (result.value ≤ length list.new) × (result.value ≡ length (take result.value list.new)) }
-{
-    let count = c.value;
-    if list.len() < count {
-        return fail();
-    }
-    let mut d = c;
-    let mut i = 0;
-    while i < count {
-        d = number(input, d, 4294967295);
-        if !d.ok {
-            return fail();
-        }
-        list[i] = d.value as u32;
-        i += 1;
-    }
-    expect(d, count)
-}
-
-fn fill64(input: &[u8], c: Cursor, list: &mut [u64]) -> Cursor
-    ensures read { Read (read_list 4294967295 input.now c list.old) result list.new }
-    ensures value_in_bounds { (result.value ≤ length list.new) × (result.value ≡ length (take result.value list.new)) }
-{
-    let count = c.value;
-    if list.len() < count {
-        return fail();
-    }
-    let mut d = c;
-    let mut i = 0;
-    while i < count {
-        d = number(input, d, 4294967295);
-        if !d.ok {
-            return fail();
-        }
-        list[i] = d.value as u64;
-        i += 1;
-    }
-    expect(d, count)
-}
-
-// A list: its length, and its entries.
-pub fn list8(input: &[u8], c: Cursor, list: &mut [u8]) -> Cursor
-    ensures read { Read (list_at 255 input.now c list.old) result list.new }
-    ensures value_in_bounds { (result.value ≤ length list.new) × (result.value ≡ length (take result.value list.new)) }
-{
-    let n = length(input, c);
-    fill8(input, n, list)
-}
-
-pub fn list16(input: &[u8], c: Cursor, list: &mut [u16]) -> Cursor
-    ensures read { Read (list_at 65535 input.now c list.old) result list.new }
-    ensures value_in_bounds { (result.value ≤ length list.new) × (result.value ≡ length (take result.value list.new)) }
-{
-    let n = length(input, c);
-    fill16(input, n, list)
-}
-
-pub fn list32(input: &[u8], c: Cursor, list: &mut [u32]) -> Cursor
-    ensures read { Read (list_at 4294967295 input.now c list.old) result list.new }
-    ensures value_in_bounds { (result.value ≤ length list.new) × (result.value ≡ length (take result.value list.new)) }
-{
-    let n = length(input, c);
-    fill32(input, n, list)
-}
-
-// n numbers.
-pub fn several(input: &[u8], c: Cursor, n: usize, list: &mut [u64]) -> Cursor
-    ensures read { Read (several_at input.now c n list.old) result list.new }
-    ensures value_in_bounds { (result.value ≤ length list.new) × (result.value ≡ length (take result.value list.new)) }
-{
-    let e = expect(c, n);
-    fill64(input, e, list)
 }

@@ -1,61 +1,18 @@
-// The entries of a list as fields, each a space and a number, written into a lent list from a place on.
-ghost use Rattle.std.specs.Prelude.{◌+◌, ◌*◌, ◌≤◌, length};
-ghost use Rattle.notation.specs.Printing.{Printed};
+// The entries of a list as fields, each a space and a number.
+ghost use Rattle.std.specs.Prelude.{◌+◌, ◌*◌, ◌≤◌, length, map};
+ghost use Rattle.notation.specs.Prints.{Prints, HasRoom};
 ghost use Rattle.numbers.specs.Printing.{fields_of};
 
+use crate::Entry;
+use notation::print::Printer;
+
 // A field is at most a space and 20 digits.
-pub fn fields8(out: &mut [u8], at: usize, list: &[u8]) -> usize
-    requires { at + 21 * length list.now ≤ length out.old }
-    ensures printed { Printed out.old at (fields_of list.now) out.new result }
-    ensures upper_bound { result ≤ at + 21 * length list.now }
+pub fn fields<T: Entry>(out: &mut Printer, list: &[T])
+    requires { HasRoom out.old (21 * length list.now) }
+    ensures printed { Prints out.old (fields_of (map T.number list.now)) out.new }
+    ensures short { out.new.at ≤ out.old.at + 21 * length list.now }
 {
-    let mut end = at;
-    let mut i = 0;
-    while i < list.len() {
-        end = notation::print::field(out, end, notation::wide8(list[i]));
-        i += 1;
+    for entry in list {
+        out.field(entry.number());
     }
-    end
-}
-
-pub fn fields16(out: &mut [u8], at: usize, list: &[u16]) -> usize
-    requires { at + 21 * length list.now ≤ length out.old }
-    ensures printed { Printed out.old at (fields_of list.now) out.new result }
-    ensures upper_bound { result ≤ at + 21 * length list.now }
-{
-    let mut end = at;
-    let mut i = 0;
-    while i < list.len() {
-        end = notation::print::field(out, end, notation::wide16(list[i]));
-        i += 1;
-    }
-    end
-}
-
-pub fn fields32(out: &mut [u8], at: usize, list: &[u32]) -> usize
-    requires { at + 21 * length list.now ≤ length out.old }
-    ensures printed { Printed out.old at (fields_of list.now) out.new result }
-    ensures upper_bound { result ≤ at + 21 * length list.now }
-{
-    let mut end = at;
-    let mut i = 0;
-    while i < list.len() {
-        end = notation::print::field(out, end, notation::wide32(list[i]));
-        i += 1;
-    }
-    end
-}
-
-pub fn fields64(out: &mut [u8], at: usize, list: &[u64]) -> usize
-    requires { at + 21 * length list.now ≤ length out.old }
-    ensures printed { Printed out.old at (fields_of list.now) out.new result }
-    ensures upper_bound { result ≤ at + 21 * length list.now }
-{
-    let mut end = at;
-    let mut i = 0;
-    while i < list.len() {
-        end = notation::print::field(out, end, notation::wide64(list[i]));
-        i += 1;
-    }
-    end
 }

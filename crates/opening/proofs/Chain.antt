@@ -10,6 +10,7 @@ use native.Mathlib.Omega.{arith}
 use borrow.Author.Tests.{lt-ltb, le-ltb}
 use lib.ListN.{length, get_or, set, length-set}
 use lib.Seq.{get_or-set_same, get_or-set_other}
+use Rattle.std.specs.Prelude.{Option}
 use Rattle.learning.specs.Ground.{pick}
 use Rattle.model.specs.Floor.{Floor, size, Sized, free}
 use Rattle.model.proofs.Accepted.{never}
@@ -164,7 +165,7 @@ module _ {f : Floor} (z : Sized f) where
               (q'', n' + 1, followed_enters z G slow b t new (dist-push F.long G.queue K inside new v) R, chain-push F.long G.queue K inside new R v);
         }
 
-  pub enterable : {v last : ℕ} {l : List ℕ} (x m : ℕ) (s : Step) → s ≡ step_of f x m → length l ≡ size f → last < size f → v < none → Enterable s v l last
+  pub enterable : {v last : ℕ} {l : List ℕ} (x m : ℕ) (s : Option Step) → s ≡ step_of f x m → length l ≡ size f → last < size f → v < none → Enterable s v l last
   enterable x m s is long fits small = record {
     inside = λ b c t. let u = stepped f z x m b c (sym is ∙ t) in (omega (arith, free-below f b u.free), omega (arith, u.few));
     final = omega arith;

@@ -49,9 +49,9 @@ module _ {f : Floor} (z : Sized f) {gs : List ℕ} (B : Benched (size f) gs) whe
       by (yes e) = e
       by (no e) = let (i, o, u) = S.queue.found (get_or gs k 0) (B.on k h) (omega arith) in absurd (omega (arith, u, above k i o h))
 
-  module _ {l : List ℕ} (empty : l ≡ list_of (size f) (λ x. blank)) where
+  module _ {l : List ℕ} (empty : l ≡ replicate (size f) blank) where
     long : length l ≡ size f
-    long = ap length empty ∙ list_length (size f) (λ x. blank)
+    long = ap length empty ∙ length-replicate (size f) blank
 
     -- the first, then one more
     begun_one : Begun f gs (lined l gs 1) 1
@@ -59,7 +59,7 @@ module _ {f : Floor} (z : Sized f) {gs : List ℕ} (B : Benched (size f) gs) whe
     begun_one =
         let on = B.on 0 B.one in
         let fits : get_or gs 0 0 < length l = omega (arith, long) in
-        let blank-at : (x : ℕ) → x < size f → dist_at l x ≡ none = λ x h. ap (λ w. w / links) (ap (λ y. get_or y x 0) empty ∙ list_at (size f) (λ x. blank) x 0 h) in
+        let blank-at : (x : ℕ) → x < size f → dist_at l x ≡ none = λ x h. ap (λ w. w / links) (ap (λ y. get_or y x 0) empty ∙ get_or-replicate (size f) x blank 0 h) in
         record {
           long = length-set l (get_or gs 0 0) (entry 0 end) ∙ long;
           queue = queue-push z (queue_none z (dist_at l) (λ i. get_or gs i 0) blank-at) (get_or gs 0 0) on (omega (arith, blank-at (get_or gs 0 0) on)) (omega arith)
@@ -104,9 +104,9 @@ module _ {f : Floor} (z : Sized f) {gs : List ℕ} (B : Benched (size f) gs) whe
         }
 
 module _ {f : Floor} {goals l : List ℕ} {last : ℕ} {ps : List ℕ} {left : ℕ} (H : Held f goals l last ps left) where
-  -- by another word for the queue's last
-  pub held_same : {g : ℕ} → g ≡ last → Held f goals l g ps left
-  held_same e = subst (λ g. Held f goals l g ps left) (sym e) H
+  -- by other words for the queue's last and the steps
+  pub held_same : {last' left' : ℕ} → last' ≡ last → left' ≡ left → Held f goals l last' ps left'
+  held_same e g = rw (e, g) H
 
   held-readable : (k : ℕ) → k < kinds f.bytes → Readable l (get_or ps k 0)
   held-readable k h = place-readable H.sized l H.long H.searching.queue (H.p k) (H.stands k h)
@@ -166,8 +166,8 @@ module _ {f : Floor} {goals l : List ℕ} {last : ℕ} {ps : List ℕ} {left : �
     step_small = omega (arith, step-slow H.sized H.searching N, none_large H.sized H.n (queue_few H.sized H.searching.queue))
 
     -- what following and moving on ask
-    pub step-follow : (Sized f × (get_or ps r 0 < size f) × (r < all_kinds)) × ((length l ≡ size f) × (last < size f) × (v < none))
-    step-follow = ((H.sized, step_on, kind_fits _ _ N.one), (H.long, held_last, step_small))
+    pub step-follow : ((get_or ps r 0 < size f) × (r < all_kinds)) × ((length l ≡ size f) × (last < size f)) × (v < none)
+    step-follow = ((step_on, kind_fits _ _ N.one), (H.long, held_last), step_small)
 
     pub step_move : {l' : List ℕ} {last' : ℕ} → Follows f (get_or ps r 0) (cost r) v 8 l last l' last' → (r < length ps) × (get_or ps r 0 < length l') × (last < length l')
     step_move F = (omega (arith, N.one, H.whole), omega (arith, step_on, F.long), omega (arith, held_last, F.long))
@@ -216,8 +216,9 @@ module _ {f : Floor} {goals l : List ℕ} {last : ℕ} {ps : List ℕ} {left : �
                 ap (λ t. pick t (next_at l' last) (get_or ps k 0)) (ne_eqb (get_or ps k 0) end g) ∙ H.stands k h ∙ cell_in_lem H.q H.n (H.p k) i
                 ∙ sym (cell_in_lem q' n' (H.p k) (omega arith) ∙ s (H.p k) i)
 
-    pub held-step : {l' ps' : List ℕ} {last' : ℕ} → Follows f (get_or ps r 0) (cost r) v 8 l last l' last' → ps' ≡ moved_on l' ps r (get_or ps r 0) last → Held f goals l' last' ps' (left - 1)
-    held-step {l'} {ps'} {last'} F e = subst (λ ps. Held f goals l' last' ps (left - 1)) (sym e) (moved F)
+    pub held-step : {l' ps' : List ℕ} {last' left' : ℕ} → Follows f (get_or ps r 0) (cost r) v 8 l last l' last' → ps' ≡ moved_on l' ps r (get_or ps r 0) last → left' ≡ left - 1
+        → Held f goals l' last' ps' left'
+    held-step F e g = rw (e, g) (moved F)
 
   -- no steps left: every place is at the queue's end
   pub held-done : left ≤ 0 → Certified (ground_of f goals) none (dist_at l)

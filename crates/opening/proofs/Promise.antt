@@ -9,8 +9,8 @@ use Rattle.answers.specs.Says.{says_verdict}
 use Rattle.answers.specs.declared.Goals.{Goals}
 use Rattle.answers.specs.declared.Job.{Job}
 use Rattle.answers.specs.declared.Refusal.{Refusal}
-use Rattle.answers.specs.declared.Verdict.{Verdict}
-use Rattle.answers.specs.declared.Verdict.TheVariants.{Done, Refused}
+use Rattle.answers.specs.Outcomes.{Verdict}
+use Rattle.std.specs.Prelude.{Ok, Err}
 use Rattle.model.specs.Basics.{then}
 use Rattle.model.specs.Floor.{Floor, goals_of, opening_table}
 use Rattle.model.specs.Checks.{floor_of, sizes, path_room, settings}
@@ -22,22 +22,22 @@ pub answered : {r v : Verdict} → r ≡ v → Answers r v
 answered e = record { is = e; says = ap says_verdict e }
 
 module _ (f : Floor) (q : ℕ) (g : Goals) (table : List ℕ) where
-  pub fills-refused : {r : Verdict} {x : Refusal} → r ≡ open_table f q g (length table) → r ≡ Refused x → Fills f q g table r table
+  pub fills-refused : {r : Verdict} {x : Refusal} → r ≡ open_table f q g (length table) → r ≡ Err x → Fills f q g table r table
   fills-refused e t = record { answer = answered e; left = ap (λ v. filled v f q g table) (sym t ∙ e) }
 
-  pub fills-done : {after : List ℕ} → Done ≡ open_table f q g (length table) → after ≡ opening_table f q (goals_of g) → Fills f q g table Done after
+  pub fills-done : {after : List ℕ} → Ok tt ≡ open_table f q g (length table) → after ≡ opening_table f q (goals_of g) → Fills f q g table (Ok tt) after
   fills-done e t = record { answer = answered e; left = t ∙ ap (λ v. filled v f q g table) e }
 
 -- a check of two is the one, then the other: what it answers before a third, where it refuses and where it is done
 then_two : (v u w : Verdict) → then (then v u) w ≡ then v (then u w)
-then_two Done u w = refl
-then_two (Refused r) u w = refl
+then_two (Ok _) u w = refl
+then_two (Err r) u w = refl
 
 module _ (v u w : Verdict) {a : Verdict} (e : a ≡ then v u) where
-  pub both_stop : {r : Refusal} → a ≡ Refused r → a ≡ then v (then u w)
+  pub both_stop : {r : Refusal} → a ≡ Err r → a ≡ then v (then u w)
   both_stop q = then_stops w e q ∙ then_two v u w
 
-  pub both_go : {b : Verdict} → a ≡ Done → b ≡ w → b ≡ then v (then u w)
+  pub both_go : {b : Verdict} → a ≡ Ok tt → b ≡ w → b ≡ then v (then u w)
   both_go q g = then_goes w e q g ∙ then_two v u w
 
 module _ (j : Job) (bytes : List ℕ) (start : ℕ) (table : List ℕ) where
@@ -55,5 +55,5 @@ module _ (j : Job) (bytes : List ℕ) (start : ℕ) (table : List ℕ) where
       rest = then (settings j) (accepts j bytes start table)
 
       by : (v : Verdict) → sizes (floor_of j bytes) (length table) ≡ v → then v (then (path_room (floor_of j bytes) (length table)) rest) ≡ then v rest
-      by Done e = then_next rest ((path_judges (floor_of j bytes) (length table)).done (omega (arith, ((sizes_judges (floor_of j bytes) (length table)).gives e).1)))
-      by (Refused r) e = refl
+      by (Ok _) e = then_next rest ((path_judges (floor_of j bytes) (length table)).done (omega (arith, ((sizes_judges (floor_of j bytes) (length table)).gives e).1)))
+      by (Err r) e = refl

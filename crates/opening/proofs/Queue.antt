@@ -14,8 +14,7 @@ use Rattle.model.specs.Floor.{Floor, size, Sized, free, dearest_price, price}
 use Rattle.model.specs.Grounds.{price-free}
 use Rattle.model.proofs.Accepted.{never}
 use Rattle.model.proofs.Moves.{is_true, free-below, sized-cells}
-use Rattle.floor.specs.Moves.{step_of}
-use Rattle.floor.specs.declared.Step.TheVariants.{To}
+use Rattle.floor.specs.Moves.{to, step_of}
 use Rattle.floor.proofs.Steps.{stepped, same_to}
 use Rattle.opening.specs.Search.{none, unset, Queue, Grown, Followed}
 
@@ -150,15 +149,15 @@ followed_blocked f z x c v {d} {q} {n} e Q = record {
 
 -- one more move is followed: to a cell that has a distance, or to a new one
 module _ {f : Floor} (z : Sized f) {x c v m : ℕ} {d q d' q' : ℕ → ℕ} {n n' : ℕ} (F : Followed f x c v m d q n d' q' n') where
-  pub followed_stays : ((b : ℕ) → step_of f x m ≡ To b c → d' b < none) → Followed f x c v (m + 1) d q n d' q' n'
+  pub followed_stays : ((b : ℕ) → step_of f x m ≡ to b c → d' b < none) → Followed f x c v (m + 1) d q n d' q' n'
   followed_stays h = record {
     queue = F.queue;
     grown = F.grown;
-    closed = below_more (λ j. (b : ℕ) → step_of f x j ≡ To b c → d' b ≤ v) m F.closed
+    closed = below_more (λ j. (b : ℕ) → step_of f x j ≡ to b c → d' b ≤ v) m F.closed
         (λ b t. queue-high z F.queue b (free-below f b (stepped f z x m b c t).free) (h b t));
   }
 
-  pub followed_enters : v ≤ dearest_price * n → (b : ℕ) → step_of f x m ≡ To b c → none ≤ d' b → {d'' q'' : ℕ → ℕ} → Put d' b v d'' → Put q' n' b q''
+  pub followed_enters : v ≤ dearest_price * n → (b : ℕ) → step_of f x m ≡ to b c → none ≤ d' b → {d'' q'' : ℕ → ℕ} → Put d' b v d'' → Put q' n' b q''
       → Followed f x c v (m + 1) d q n d'' q'' (n' + 1)
   followed_enters slow b t new {d''} {q''} D R =
       let u = stepped f z x m b c t in
@@ -167,7 +166,7 @@ module _ {f : Floor} (z : Sized f) {x c v m : ℕ} {d q d' q' : ℕ → ℕ} {n 
       record {
         queue = queue-push z F.queue b (free-below f b u.free) new steep D R;
         grown = grown-push f x c v F.grown low b u.price new D R;
-        closed = below_more (λ j. (y : ℕ) → step_of f x j ≡ To y c → d'' y ≤ v) m
+        closed = below_more (λ j. (y : ℕ) → step_of f x j ≡ to y c → d'' y ≤ v) m
             (λ j l y w. put_all (λ y o. d' y ≤ v → o ≤ v) D (λ o. omega arith) (λ y o i. i) y (F.closed j l y w))
             (λ y w. let g = (same_to (sym w ∙ t)).0 in omega (arith, ap d'' g, D.here));
       }

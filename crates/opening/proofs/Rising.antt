@@ -16,8 +16,7 @@ use Rattle.model.specs.Floor.{Floor, size, Sized, dearest_price, price}
 use Rattle.model.specs.Grounds.{ground_of, price_same, price-free, free-inside}
 use Rattle.model.proofs.Lists.{member_at, member-place}
 use Rattle.model.proofs.Benches.{goal_means, goal_is}
-use Rattle.floor.specs.Moves.{kinds, cost, step_of}
-use Rattle.floor.specs.declared.Step.TheVariants.{To}
+use Rattle.floor.specs.Moves.{to, kinds, cost, step_of}
 use Rattle.floor.proofs.Steps.{price-step, kind_fits, cost-high, cost_some, price-cost}
 use Rattle.opening.specs.Search.{none, offer, Queue, Searching, Next, Followed, to_go}
 use Rattle.opening.proofs.Queue.{Put, put_all, none_large, queue-near, queue_few, queue_raise}
@@ -78,7 +77,7 @@ module _ {f : Floor} (z : Sized f) where
       current b e =
           let g : price f (q (p k)) b ≡ cost k = ap (λ y. price f y b) (sym (F.grown.same (p k) N.before)) ∙ e in
           let (m, l, t) = price-step f z (q (p k)) b (omega (arith, g, cost_some k (kind_fits f.bytes k N.one))) in
-          omega (arith, old (p k) N.before, F.closed m l b (subst (λ c. step_of f (q (p k)) m ≡ To b c) g t))
+          omega (arith, old (p k) N.before, F.closed m l b (subst (λ c. step_of f (q (p k)) m ≡ to b c) g t))
 
       -- what comes next is no nearer
       front : (j w : ℕ) → w < n' → (w < n → v ≤ d (q w) + cost j) → v ≤ d' (q' w) + cost j

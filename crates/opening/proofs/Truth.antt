@@ -17,7 +17,7 @@ use Rattle.answers.specs.declared.Place.TheVariants.{Nowhere}
 use Rattle.model.specs.Basics.{then, refuse_at, unless, naming}
 use Rattle.model.specs.Floor.{Floor, size, dearest_price, Sized}
 use Rattle.model.specs.Grounds.{ground_of}
-use Rattle.model.specs.Checks.{farthest, floor_of, goals}
+use Rattle.model.specs.Checks.{farthest, goals}
 use Rattle.model.specs.Opening.{soundness}
 use Rattle.model.proofs.Cells.{cells-le}
 use Rattle.model.proofs.Accepted.{naming_same}
@@ -54,14 +54,14 @@ module _ (f : Floor) (z : Sized f) (gs : List ℕ) where
         by true e = ap₂ (λ t k. t && ltb (q * k) v) (reach_is ∙ e) (rw e at (d.each x h))
         by false e = ap (λ t. t && ltb (q * get_or dist x 0) v) (reach_is ∙ e)
 
-pub judged-soundness : (j : Job) (bytes : List ℕ) (start : ℕ) (dist table : List ℕ) → Openable j bytes start table → Distances (floor_of j bytes) (goals j) dist
-    → judged j.q start dist table ≡ soundness j bytes start table
+pub judged-soundness : (j : Job) (f : Floor) (start : ℕ) (dist table : List ℕ) → Sized f → Openable j f start table → Distances f (goals j) dist
+    → judged j.q start dist table ≡ soundness j f.bytes start table
 unfolding judged soundness reach_of dist_of
-judged-soundness j bytes start dist table o d =
-    let f = floor_of j bytes in
+judged-soundness j f start dist table z o d =
     let fault : ℕ → Bool = λ x. reach_of (ground_of f (goals j)) x && ltb (j.q * dist_of (ground_of f (goals j)) x) (get_or table x 0) in
-    ap₂ then
-    (ap (λ b. unless b 6) (reach_is f o.sized (goals j) dist d start o.begin))
+    subst (λ g. judged j.q start dist table ≡ then (unless (reach_of (ground_of g (goals j)) start) 6) (naming (size g) (λ x. reach_of (ground_of g (goals j)) x && ltb (j.q * dist_of (ground_of g (goals j)) x) (get_or table x 0)) 7)) o.its
+    (ap₂ then
+    (ap (λ b. unless b 6) (reach_is f z (goals j) dist d start o.begin))
     (naming_same (length table) 7 (λ x. above j.q (get_or dist x 0) (get_or table x 0)) fault
-    (λ x h. above_is f o.sized (goals j) dist d x (omega (arith, o.long)) j.q (get_or table x 0))
-    ∙ ap (λ n. naming n fault 7) o.long)
+    (λ x h. above_is f z (goals j) dist d x (omega (arith, o.long)) j.q (get_or table x 0))
+    ∙ ap (λ n. naming n fault 7) o.long))

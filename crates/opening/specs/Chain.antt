@@ -1,11 +1,10 @@
 -- The search in one list: the entry of a cell is its distance × 8,192 + the next cell of the queue, so that the queue is linked inside the list.
 -- The queue q, its length n and the places p in it are not in the code: the list and the cells that it notes hold them for some q, n and p.
-use Rattle.std.specs.Prelude.{ℕ, zero, suc, ◌+◌, ◌-◌, ◌*◌, ◌/◌, ◌%◌, ◌≤◌, ◌<◌, ◌≡◌, List, ltb, eqb, length, get_or, set}
+use Rattle.std.specs.Prelude.{ℕ, zero, suc, ◌+◌, ◌-◌, ◌*◌, ◌/◌, ◌%◌, ◌≤◌, ◌<◌, ◌≡◌, List, ltb, eqb, length, get_or, set, Option}
 use Rattle.learning.specs.Ground.{pick, list_of}
 use Rattle.model.specs.Floor.{Floor, size, dearest_price, Sized}
-use Rattle.floor.specs.Moves.{all_kinds, kinds, cost}
+use Rattle.floor.specs.Moves.{to, all_kinds, kinds, cost}
 use Rattle.floor.specs.declared.Step.{Step}
-use Rattle.floor.specs.declared.Step.TheVariants.{To}
 use Rattle.opening.specs.Distances.{far}
 use Rattle.opening.specs.Search.{none, Queue, Followed, Searching, to_go}
 
@@ -64,13 +63,13 @@ pub record Begun (f : Floor) (gs l : List ℕ) (k : ℕ) : Type 0 where
   pub chain : Chain l (λ i. get_or gs i 0) k (get_or gs (k - 1) 0)
 
 -- what a step comes to: the cell that it leads to at cost c has a distance, or gets v and is linked to the queue's last
-pub data Entered (s : Step) (c v : ℕ) (l : List ℕ) (last : ℕ) : List ℕ → ℕ → Type 0 where
-  stays : ((b : ℕ) → s ≡ To b c → dist_at l b < none) → Entered s c v l last l last
-  enters : (b : ℕ) → s ≡ To b c → none ≤ dist_at l b → Entered s c v l last (entered l last b v) b
+pub data Entered (s : Option Step) (c v : ℕ) (l : List ℕ) (last : ℕ) : List ℕ → ℕ → Type 0 where
+  stays : ((b : ℕ) → s ≡ to b c → dist_at l b < none) → Entered s c v l last l last
+  enters : (b : ℕ) → s ≡ to b c → none ≤ dist_at l b → Entered s c v l last (entered l last b v) b
 
 -- a step can be taken: what it leads to has a place in the list, and so has the queue's last; and the distance fits
-pub record Enterable (s : Step) (v : ℕ) (l : List ℕ) (last : ℕ) : Type 0 where
-  pub inside : (b c : ℕ) → s ≡ To b c → (b < length l) × (b < links)
+pub record Enterable (s : Option Step) (v : ℕ) (l : List ℕ) (last : ℕ) : Type 0 where
+  pub inside : (b c : ℕ) → s ≡ to b c → (b < length l) × (b < links)
   pub final : last < length l
   pub small : v < none
 

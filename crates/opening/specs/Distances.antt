@@ -2,9 +2,9 @@
 use Rattle.std.specs.Prelude.{ℕ, ◌*◌, ◌≤◌, ◌<◌, ◌≡◌, Bool, ◌&&◌, List, ltb, length, get_or}
 use Rattle.learning.specs.Ground.{pick, reach_of, dist_of}
 use Rattle.answers.specs.declared.Job.{Job}
-use Rattle.answers.specs.declared.Verdict.{Verdict}
+use Rattle.answers.specs.Outcomes.{Verdict}
 use Rattle.model.specs.Basics.{then, unless, naming}
-use Rattle.model.specs.Floor.{Floor, size, Sized}
+use Rattle.model.specs.Floor.{Floor, size}
 use Rattle.model.specs.Grounds.{ground_of}
 use Rattle.model.specs.Checks.{finest, ceiling, floor_of, goals, Benched}
 
@@ -26,10 +26,10 @@ above q d figure = ltb d far && ltb (q * d) figure
 unfoldable pub judged : (q start : ℕ) → (dist table : List ℕ) → Verdict
 judged q start dist table = then (unless (ltb (get_or dist start 0) far) 6) (naming (length table) (λ x. above q (get_or dist x 0) (get_or table x 0)) 7)
 
--- what 1, 3, 4 and 27 give
-pub record Openable (j : Job) (bytes : List ℕ) (start : ℕ) (table : List ℕ) : Type 0 where
-  pub sized : Sized (floor_of j bytes)
-  pub long : length table ≡ j.width * j.height
+-- what 1, 3, 4 and 27 give of a job, its floor and its table
+pub record Openable (j : Job) (f : Floor) (start : ℕ) (table : List ℕ) : Type 0 where
+  pub its : f ≡ floor_of j f.bytes
+  pub long : length table ≡ size f
   pub fine : j.q ≤ finest
-  pub begin : start < j.width * j.height
-  pub benches : Benched (j.width * j.height) (goals j)
+  pub begin : start < size f
+  pub benches : Benched (size f) (goals j)

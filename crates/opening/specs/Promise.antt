@@ -4,7 +4,7 @@ use Rattle.answers.specs.Says.{says_verdict}
 use Rattle.answers.specs.declared.Goals.{Goals}
 use Rattle.answers.specs.declared.Job.{Job}
 use Rattle.answers.specs.declared.Settings.{Settings}
-use Rattle.answers.specs.declared.Verdict.{Verdict}
+use Rattle.answers.specs.Outcomes.{Verdict}
 use Rattle.model.specs.Basics.{then}
 use Rattle.model.specs.Floor.{Floor}
 use Rattle.model.specs.Checks.{settings}

@@ -6,8 +6,7 @@ use Rattle.learning.specs.Walk.{Arrives}
 use Rattle.learning.specs.Ground.{Goal, net_of, pick}
 use Rattle.model.specs.Floor.{Floor, size, dearest_price, price}
 use Rattle.model.specs.Grounds.{ground_of, is_goal}
-use Rattle.floor.specs.Moves.{kinds, cost, step_of}
-use Rattle.floor.specs.declared.Step.TheVariants.{To}
+use Rattle.floor.specs.Moves.{to, kinds, cost, step_of}
 
 -- what stands for a distance before a cell has one: more than any distance
 abbrev pub none : ℕ
@@ -87,7 +86,7 @@ pub record Followed (f : Floor) (x c v m : ℕ) (d q : ℕ → ℕ) (n : ℕ) (d
   pub queue : Queue f d' q' n' v
   pub grown : Grown f x c v d q n d' q' n'
   -- what a move of cost c leads to has a distance, at most v
-  pub closed : (k : ℕ) → k < m → (b : ℕ) → step_of f x k ≡ To b c → d' b ≤ v
+  pub closed : (k : ℕ) → k < m → (b : ℕ) → step_of f x k ≡ to b c → d' b ≤ v
 
 -- how far the places can still go, together: each passes each cell once
 abbrev pub to_go : Floor → (ℕ → ℕ) → ℕ

@@ -1,9 +1,15 @@
 // The run: made once for its counts, and once more up to its last trial, so that the last one can be watched.
-ghost use Rattle.std.specs.Prelude.{◌≤◌, length};
+use learner::{Job, Refusal, Report};
+use notation::lists;
 
-use crate::rooms;
-use crate::rooms::Counts;
-use learner::{Job, Ran, Report, Verdict};
+// A run that is asked for: its job, the floor that it is on, where its trials begin, and how many it has at the most.
+#[derive(Clone, Copy)]
+pub struct Task<'a> {
+    pub job: Job,
+    pub floor: &'a [u8],
+    pub start: usize,
+    pub trials: usize,
+}
 
 // What a run came to: its first and its last record, how many trials it made, and whether it settled.
 #[derive(Clone, Copy)]
@@ -14,59 +20,57 @@ pub struct Outcome {
     pub settled: bool,
 }
 
-// The table of opening figures.
-pub(crate) fn open(job: Job, floor: &[u8], table: &mut [u32]) -> Verdict {
-    learner::fill_opening(job.width, job.height, job.goals, job.q, floor, table)
-}
-
-// A run from the opening figures on.
-pub(crate) fn run(
-    job: Job,
-    floor: &[u8],
-    start: usize,
-    trials: usize,
-    table: &mut [u32],
-    path: &mut [u16],
-    counts: &mut Counts,
-) -> Ran {
-    open(job, floor, table);
-    run::run_counts(job, floor, start, trials, table, path, counts, 1000)
-}
-
-// The table as it stands before the last of the trials that were made.
-pub(crate) fn before_last(
-    job: Job,
-    floor: &[u8],
-    start: usize,
-    made: usize,
-    table: &mut [u32],
-    path: &mut [u16],
-) {
-    let mut counts = rooms::counts();
-    if made <= 1 {
-        open(job, floor, table);
-    } else {
-        run(job, floor, start, made - 1, table, path, &mut counts);
+impl<'a> Task<'a> {
+    // The table of opening figures.
+    pub(crate) fn open(&self, table: &mut [u32]) -> Result<(), Refusal> {
+        let job = self.job;
+        learner::fill_opening(job.width, job.height, job.goals, job.q, self.floor, table)
     }
-}
 
-// The record of a trial, of those that a run has room for.
-fn record(counts: &[u64], trial: usize) -> Report
-    requires { 4000 ≤ length counts.now }
-{
-    if trial < 1000 {
-        return run::report_at(counts, trial);
+    // A run of so many trials from the opening figures on.
+    pub(crate) fn run(
+        &self,
+        trials: usize,
+        table: &mut [u32],
+        path: &mut [u16],
+    ) -> Result<Outcome, Refusal> {
+        let none = Report {
+            decisions: 0,
+            learned: 0,
+            kept: 0,
+            travel: 0,
+        };
+        // A record for each of the most trials that a run may have.
+        let mut reports: [Report; 1000] = lists::filled(none);
+        self.open(table)?;
+        let made = learner::run(
+            self.job,
+            self.floor,
+            self.start,
+            trials,
+            table,
+            path,
+            &mut reports,
+        )?;
+        Ok(Outcome {
+            first: reports[0],
+            last: reports[made.trials.saturating_sub(1).min(999)],
+            made: made.trials,
+            settled: made.settled,
+        })
     }
-    run::report_at(counts, 999)
-}
 
-pub(crate) fn outcome_of(counts: &Counts, made: usize, settled: bool) -> Outcome {
-    let first = record(counts, 0);
-    let last = record(counts, if made < 1 { 0 } else { made - 1 });
-    Outcome {
-        first: first,
-        last: last,
-        made: made,
-        settled: settled,
+    // The table as it stands before the last of the trials that were made.
+    pub(crate) fn before_last(
+        &self,
+        made: usize,
+        table: &mut [u32],
+        path: &mut [u16],
+    ) -> Result<(), Refusal> {
+        if made <= 1 {
+            return self.open(table);
+        }
+        self.run(made - 1, table, path)?;
+        Ok(())
     }
 }

@@ -3,127 +3,112 @@
 // 0 is a free cell whose figure is as it was, 1 to 6 are the steps, light to dark, and 7 is a blocked cell.
 ghost use Rattle.std.specs.Prelude.{◌≤◌, ◌<◌};
 
-use crate::sheet;
 use drawing::Page;
-use notation::wide32;
 
-// How far the figure of x has risen.
-fn rise(table: &[u32], first: &[u32], x: usize) -> usize
-    ensures { result < 4294967296 }
-{
-    if table.len() <= x {
-        return 0;
-    }
-    if first.len() <= x {
-        return 0;
-    }
-    let figure = wide32(table[x]);
-    let opening = wide32(first[x]);
-    if figure < opening {
-        0
-    } else {
-        figure - opening
-    }
+// The scale of the shades: the largest rise that they stand for.
+#[derive(Clone, Copy)]
+pub struct Scale {
+    pub most: u32,
 }
 
-// The largest rise.
-pub(crate) fn largest(table: &[u32], first: &[u32]) -> usize
-    ensures { result < 4294967296 }
-{
-    let mut most = 0;
-    let mut x = 0;
-    while x < table.len() {
-        most = sheet::larger(most, rise(table, first, x));
-        x += 1;
-    }
-    most
+// What is shaded: a floor, its figures and the opening figures, and their scale.
+#[derive(Clone, Copy)]
+pub struct Learned<'a> {
+    pub floor: &'a [u8],
+    pub table: &'a [u32],
+    pub opening: &'a [u32],
+    pub scale: Scale,
 }
 
-// How many steps are told apart: six, or each rise where fewer are possible.
-pub(crate) fn steps(most: usize) -> usize
-    ensures { result ≤ 6 }
-{
-    if most < 6 { most } else { 6 }
-}
-
-// A rise so many times over.
-fn times(rise: usize, n: usize) -> usize
-    requires { (rise < 4294967296) × (n ≤ 6) }
-    ensures { result < 25769803776 }
-{
-    rise * n
-}
-
-// The largest rise that the step k of n has: k shares of the largest of all, of n.
-pub(crate) fn bound(most: usize, n: usize, k: usize) -> usize
-    requires { (most < 4294967296) × (k ≤ 6) }
-    ensures { result < 25769803776 }
-{
-    times(most, k) / sheet::larger(1, n)
-}
-
-// The shade of the step k of n: the last is always the darkest.
-pub(crate) fn shade_of(n: usize, k: usize) -> usize
-    requires { (n ≤ 6) × (k ≤ 6) }
-    ensures { result ≤ 6 }
-{
-    if n < k { 6 } else { 6 - (n - k) }
-}
-
-// The step that a rise has: the first whose bound it does not pass.
-fn step_of(rise: usize, most: usize) -> usize
-    requires { (rise < 4294967296) × (most < 4294967296) }
-    ensures { result ≤ 6 }
-{
-    let n = steps(most);
-    let mut k = 1;
-    while k < n {
-        if rise <= bound(most, n, k) {
-            return k;
+impl Scale {
+    // The largest rise of a table's figures.
+    pub(crate) fn of(table: &[u32], opening: &[u32]) -> Self {
+        Scale {
+            most: table
+                .iter()
+                .zip(opening)
+                .map(|(figure, first)| figure.saturating_sub(*first))
+                .max()
+                .unwrap_or(0),
         }
-        k += 1;
     }
-    n
+
+    // How many steps are told apart: six, or each rise where fewer are possible.
+    pub(crate) fn steps(&self) -> usize
+        ensures { result ≤ 6 }
+    {
+        (self.most as usize).min(6)
+    }
+
+    // The largest rise that a step has: so many shares of the largest of all.
+    pub(crate) fn bound(&self, step: usize) -> usize
+        requires { step ≤ 6 }
+        ensures { result < 25769803776 }
+    {
+        self.most as usize * step / self.steps().max(1)
+    }
+
+    // The shade of a step: the last is always the darkest.
+    pub(crate) fn shade_of(&self, step: usize) -> usize
+        requires { step ≤ 6 }
+        ensures { result ≤ 6 }
+    {
+        6 - self.steps().saturating_sub(step)
+    }
+
+    // The step that a rise has: the first whose bound it does not pass.
+    fn step_of(&self, rise: u32) -> usize
+        ensures { result ≤ 6 }
+    {
+        let last = self.steps();
+        (1..last)
+            .find(|step| rise as usize <= self.bound(*step))
+            .unwrap_or(last)
+    }
 }
 
-// The shade of a cell.
-pub(crate) fn shade_at(floor: &[u8], table: &[u32], first: &[u32], x: usize, most: usize) -> u8
-    requires { most < 4294967296 }
-{
-    if floor.len() <= x {
-        return 7;
+impl<'a> Learned<'a> {
+    // How far the figure of a cell has risen.
+    fn rise(&self, x: usize) -> u32 {
+        match (self.table.get(x), self.opening.get(x)) {
+            (Some(figure), Some(first)) => figure.saturating_sub(*first),
+            _ => 0,
+        }
     }
-    if !floor::free_byte(floor[x]) {
-        return 7;
-    }
-    let r = rise(table, first, x);
-    if r == 0 {
-        return 0;
-    }
-    shade_of(steps(most), step_of(r, most)) as u8
-}
 
-// The shade of each cell.
-pub(crate) fn fill(floor: &[u8], table: &[u32], first: &[u32], most: usize, shades: &mut [u8])
-    requires { most < 4294967296 }
-{
-    let mut x = 0;
-    while x < shades.len() {
-        shades[x] = shade_at(floor, table, first, x, most);
-        x += 1;
+    // The shade of a cell.
+    pub(crate) fn shade_at(&self, x: usize) -> u8 {
+        match self.floor.get(x) {
+            Some(b) if floor::free_byte(*b) => {
+                let rise = self.rise(x);
+                if rise == 0 {
+                    0
+                } else {
+                    self.scale.shade_of(self.scale.step_of(rise)) as u8
+                }
+            }
+            _ => 7,
+        }
+    }
+
+    // The shade of each cell.
+    pub(crate) fn fill(&self, shades: &mut [u8]) {
+        for (x, shade) in shades.iter_mut().enumerate() {
+            *shade = self.shade_at(x);
+        }
     }
 }
 
 // The colour of a shade: light yellow to dark blue, which tell apart by lightness alone.
-pub(crate) fn colour(page: &mut Page, at: usize, shade: usize) -> usize {
+pub(crate) fn colour(page: &mut Page, shade: usize) {
     match shade {
-        0 => drawing::words(page, at, b"#ffffff"),
-        1 => drawing::words(page, at, b"#ffffbf"),
-        2 => drawing::words(page, at, b"#c7e9b4"),
-        3 => drawing::words(page, at, b"#7fcdbb"),
-        4 => drawing::words(page, at, b"#41b6c4"),
-        5 => drawing::words(page, at, b"#2c7fb8"),
-        6 => drawing::words(page, at, b"#253494"),
-        _ => drawing::words(page, at, b"#4d4d4d"),
+        0 => page.words(b"#ffffff"),
+        1 => page.words(b"#ffffbf"),
+        2 => page.words(b"#c7e9b4"),
+        3 => page.words(b"#7fcdbb"),
+        4 => page.words(b"#41b6c4"),
+        5 => page.words(b"#2c7fb8"),
+        6 => page.words(b"#253494"),
+        _ => page.words(b"#4d4d4d"),
     }
 }

@@ -1,51 +1,46 @@
 // What stands in words: above the floor the job, below it the counts of the first and of the last trial.
-use crate::runs::Outcome;
-use crate::sheet;
+use crate::runs::{Outcome, Task};
 use crate::sheet::Sheet;
 use drawing::Page;
-use learner::{Job, Report};
+use learner::Report;
 
 // The job, above the floor.
-pub(crate) fn above(page: &mut Page, at: usize, j: Job, trials: usize) -> usize {
-    let at = drawing::words(page, at, b"<g font-size='15'>\n");
-    let at = drawing::caption_from(page, at, 20, 32);
-    let at = drawing::number(page, at, j.width);
-    let at = drawing::said(page, at, b" by ", j.height);
-    let at = drawing::said(page, at, b" cells, depth ", j.depth);
-    let at = drawing::said(page, at, b", weight ", j.p);
-    let at = drawing::said(page, at, b"/", j.q);
-    let at = drawing::said(page, at, b", quota ", j.quota);
-    let at = drawing::said(page, at, b", trials at most ", trials);
-    let at = drawing::caption_end(page, at);
-    drawing::words(page, at, b"</g>\n")
+pub(crate) fn above(page: &mut Page, task: &Task) {
+    let job = task.job;
+    page.words(b"<g font-size='15'>\n");
+    page.caption_from(20, 32);
+    page.number(job.width);
+    page.said(b" by ", job.height);
+    page.said(b" cells, depth ", job.depth);
+    page.said(b", weight ", job.p);
+    page.said(b"/", job.q);
+    page.said(b", quota ", job.quota);
+    page.said(b", trials at most ", task.trials);
+    page.caption_end();
+    page.words(b"</g>\n");
 }
 
 // The counts of a trial, the end of their line.
-fn counts(page: &mut Page, at: usize, r: Report) -> usize {
-    let at = drawing::said(page, at, b": decisions ", r.decisions as usize);
-    let at = drawing::said(page, at, b", learned ", r.learned as usize);
-    let at = drawing::said(page, at, b", kept ", r.kept as usize);
-    let at = drawing::said(page, at, b", travel ", r.travel as usize);
-    drawing::caption_end(page, at)
-}
-
-fn settled_or_not(page: &mut Page, at: usize, settled: bool) -> usize {
-    if settled {
-        return drawing::words(page, at, b", settled)");
-    }
-    drawing::words(page, at, b", unsettled)")
+fn counts(page: &mut Page, r: Report) {
+    page.said(b": decisions ", r.decisions as usize);
+    page.said(b", learned ", r.learned as usize);
+    page.said(b", kept ", r.kept as usize);
+    page.said(b", travel ", r.travel as usize);
+    page.caption_end();
 }
 
 // The counts of both trials, below the floor.
-pub(crate) fn below(page: &mut Page, at: usize, s: Sheet, o: Outcome) -> usize {
-    let y = sheet::counts_y(s);
-    let first = o.first;
-    let last = o.last;
-    let at = drawing::caption_from(page, at, 20, y);
-    let at = drawing::words(page, at, b"first trial");
-    let at = counts(page, at, first);
-    let at = drawing::caption_from(page, at, 20, y + 22);
-    let at = drawing::said(page, at, b"last trial (number ", o.made);
-    let at = settled_or_not(page, at, o.settled);
-    counts(page, at, last)
+pub(crate) fn below(page: &mut Page, s: &Sheet, o: Outcome) {
+    let y = s.counts_y();
+    page.caption_from(20, y);
+    page.words(b"first trial");
+    counts(page, o.first);
+    page.caption_from(20, y + 22);
+    page.said(b"last trial (number ", o.made);
+    if o.settled {
+        page.words(b", settled)");
+    } else {
+        page.words(b", unsettled)");
+    }
+    counts(page, o.last);
 }

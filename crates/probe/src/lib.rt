@@ -4,7 +4,7 @@
 
 ghost use Rattle.run.specs.Numbers.{Counted};
 
-use answers::{FloorRead, Goals, Job, Ran, State, Tried, Verdict, Written};
+use answers::{Goals, Job, Refusal, State};
 
 // The number that opening a job answers.
 #[unsafe(no_mangle)]
@@ -49,7 +49,7 @@ pub extern "C" fn probe_write(
     table: &[u32],
     buffer: &mut [u8],
 ) -> usize {
-    match table_file::write_table(
+    table_file::write_table(
         width,
         height,
         goals_of(count, goal),
@@ -57,16 +57,14 @@ pub extern "C" fn probe_write(
         floor,
         table,
         buffer,
-    ) {
-        Written::Length(n) => n,
-        Written::Refused(_) => 0,
-    }
+    )
+    .unwrap_or(0)
 }
 
 // So many goals, of which the first is told; four stand side by side where its number is a multiple of 4.
 fn goals_of(count: usize, goal: usize) -> Goals {
     Goals {
-        count: count,
+        count,
         first: goal,
         second: goal | 1,
         third: goal | 2,
@@ -85,13 +83,13 @@ fn job_of(
     quota: usize,
 ) -> Job {
     Job {
-        width: width,
-        height: height,
+        width,
+        height,
         goals: goals_of(count, goal),
-        depth: depth,
-        p: p,
-        q: q,
-        quota: quota,
+        depth,
+        p,
+        q,
+        quota,
     }
 }
 
@@ -122,13 +120,12 @@ pub extern "C" fn probe_decide(
 ) -> usize {
     let job = job_of(width, height, count, goal, depth, p, q, quota);
     let state = State {
-        current: current,
-        learned: learned,
-        length: length,
+        current,
+        learned,
+        length,
     };
     let d = decision::decide(job, floor, state, table, path, moves, 0);
-    let after = d.state;
-    after.current
+    d.state.current
 }
 
 // The decisions of a trial; 0 where it is refused.
@@ -149,8 +146,8 @@ pub extern "C" fn probe_trial(
 ) -> usize {
     let job = job_of(width, height, count, goal, depth, p, q, quota);
     match run::trial(job, floor, start, table, path) {
-        Tried::Made(r) => r.decisions as usize,
-        Tried::Refused(_) => 0,
+        Ok(r) => r.decisions as usize,
+        Err(_) => 0,
     }
 }
 
@@ -177,8 +174,8 @@ pub extern "C" fn probe_run(
 {
     let job = job_of(width, height, count, goal, depth, p, q, quota);
     match run::run_counts(job, floor, start, trials, table, path, counts, n) {
-        Ran::Made { trials, settled } => trials,
-        Ran::Refused(_) => 0,
+        Ok(made) => made.trials,
+        Err(_) => 0,
     }
 }
 
@@ -186,8 +183,8 @@ pub extern "C" fn probe_run(
 #[unsafe(no_mangle)]
 pub extern "C" fn probe_floor(text: &[u8], buffer: &mut [u8]) -> usize {
     match floor_text::read_floor(text, buffer) {
-        FloorRead::Sizes { width, height } => width,
-        FloorRead::Refused(_) => 0,
+        Ok(sizes) => sizes.width,
+        Err(_) => 0,
     }
 }
 
@@ -199,35 +196,25 @@ pub extern "C" fn probe_write_floor(
     floor: &[u8],
     buffer: &mut [u8],
 ) -> usize {
-    match floor_text::write_floor(width, height, floor, buffer) {
-        Written::Length(n) => n,
-        Written::Refused(_) => 0,
-    }
+    floor_text::write_floor(width, height, floor, buffer).unwrap_or(0)
 }
 
 // The length of a table file that is renewed; 0 where it is refused.
 #[unsafe(no_mangle)]
 pub extern "C" fn probe_renew(file: &[u8], buffer: &mut [u8]) -> usize {
-    match table_file::renew_file(file, buffer) {
-        Written::Length(n) => n,
-        Written::Refused(_) => 0,
-    }
+    table_file::renew_file(file, buffer).unwrap_or(0)
 }
 
 // The length of a line with its depth; 0 where it is refused.
 #[unsafe(no_mangle)]
 pub extern "C" fn probe_depth(line: &[u8], buffer: &mut [u8]) -> usize {
-    match line::with_depth(line, buffer) {
-        Written::Length(n) => n,
-        Written::Refused(_) => 0,
-    }
+    line::with_depth(line, buffer).unwrap_or(0)
 }
 
 // How many bytes of a table file are records.
 #[unsafe(no_mangle)]
 pub extern "C" fn probe_find(file: &[u8]) -> usize {
-    let part = table_file::find_records(file);
-    part.len()
+    table_file::find_records(file).len()
 }
 
 // The number that the trailer's check answers.
@@ -250,9 +237,9 @@ pub extern "C" fn probe_fill(
     number(opening::fill_opening(width, height, goals_of(count, goal), q, floor, table))
 }
 
-fn number(v: Verdict) -> usize {
+fn number(v: Result<(), Refusal>) -> usize {
     match v {
-        Verdict::Done => 0,
-        Verdict::Refused(r) => r.number,
+        Ok(()) => 0,
+        Err(r) => r.number,
     }
 }

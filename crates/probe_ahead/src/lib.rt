@@ -8,7 +8,7 @@ ghost use Rattle.lookahead.specs.Contract.{Asked, Fresh, Figures};
 ghost use Rattle.probe_ahead.specs.Plain.{plain};
 
 use answers::{Goals, Job};
-use lookahead::Around;
+use lookahead::Scratch;
 
 // With as many goals as the count says, one or two: the new figure times 2^20, the target times 256 and the number of moves; 0 where a ring is empty.
 #[unsafe(no_mangle)]
@@ -24,41 +24,36 @@ pub extern "C" fn probe_plan(
     s: usize,
     table: &[u32],
     base: u32,
-    mark: &mut [u32],
-    cost: &mut [u16],
-    list: &mut [u16],
+    scratch: &mut Scratch,
     out: &mut [u8],
 ) -> usize
-    requires fact_1 { Asked (plain width height count goal other depth p) floor.now s }
-    requires fact_2 { Fresh base mark.old cost.old list.old }
-    requires fact_3 { Figures (plain width height count goal other depth p) floor.now table.now }
-    requires fact_4 { most_moves ≤ length out.old }
+    requires asked { Asked (plain width height count goal other depth p) floor.now s }
+    requires fresh { Fresh base scratch.old }
+    requires figures { Figures (plain width height count goal other depth p) floor.now table.now }
+    requires room { most_moves ≤ length out.old }
 {
     let goals = Goals {
-        count: count,
+        count,
         first: goal,
         second: other,
         third: 0,
         fourth: 0,
     };
     let job = Job {
-        width: width,
-        height: height,
-        goals: goals,
-        depth: depth,
-        p: p,
+        width,
+        height,
+        goals,
+        depth,
+        p,
         q: 16,
         quota: 0,
     };
-    match lookahead::look(job, floor, s, base, mark, cost, list) {
-        Around::Window { last, n } => {
-            let a = lookahead::aim(job, floor, s, table, base, mark, cost, list, n, last);
-            let target = a.target;
-            let moves = lookahead::trace(job, floor, s, base, mark, cost, target, out);
-            packed(a.figure, target, moves)
-        }
-        Around::Empty => 0,
-    }
+    let Some(extent) = lookahead::look(job, floor, s, base, scratch) else {
+        return 0;
+    };
+    let a = lookahead::aim(job, floor, s, table, base, scratch, extent);
+    let moves = lookahead::trace(job, floor, s, base, scratch, a.target, out);
+    packed(a.figure, a.target, moves)
 }
 
 fn packed(figure: usize, target: usize, moves: usize) -> usize {

@@ -8,6 +8,7 @@ ghost use Rattle.model.specs.Floor.{Sized, goals_of};
 ghost use Rattle.floor.specs.Moves.{flat};
 
 use answers::Goals;
+use floor::Floor;
 
 // The true distances to as many goals as the count says, one or two, in the list that is lent: how many.
 #[unsafe(no_mangle)]
@@ -23,12 +24,17 @@ pub extern "C" fn probe_distances(
     requires { Sized (flat width height floor.now) × (length dist.old ≡ width * height) × Benched (width * height) (goals_of (record { count = count; first = goal; second = other; third = 0; fourth = 0 })) }
 {
     let goals = Goals {
-        count: count,
+        count,
         first: goal,
         second: other,
         third: 0,
         fourth: 0,
     };
-    opening::find_distances(width, height, floor, goals, dist);
+    let floor = Floor {
+        width,
+        height,
+        bytes: floor,
+    };
+    opening::find_distances(&floor, goals, dist);
     dist.len()
 }

@@ -5,8 +5,8 @@ use mathlib.Core.List.{List}
 use mathlib.Core.Logic.{⊎_elim}
 use native.Mathlib.Omega.{arith}
 use lib.ListN.{length, take, drop}
-use Rattle.answers.specs.declared.Written.{Written}
-use Rattle.answers.specs.declared.Written.TheVariants as Wr
+use Rattle.answers.specs.Outcomes.{Written}
+use Rattle.std.specs.Prelude.{Ok}
 use Rattle.model.specs.Basics.{at_end}
 use Rattle.model.specs.TableFile.{check_trailer}
 use Rattle.model.specs.Renewal.{renewed, renew_verdict, renew_file}
@@ -19,7 +19,7 @@ use Rattle.renew.specs.Kept.{Kept}
 use Rattle.renew.specs.Answers.{Answered}
 
 -- a length that is answered fits in the list that was lent
-fits : (file buffer : List ℕ) {n : ℕ} {b : List ℕ} → Writes (renew_file file buffer) (Wr.Length n) b → n ≤ length buffer
+fits : (file buffer : List ℕ) {n : ℕ} {b : List ℕ} → Writes (renew_file file buffer) (Ok n) b → n ≤ length buffer
 unfolding renew_file renew_verdict
 fits file buffer w =
     let (done, long, same) = writes_told (renew_verdict file (length buffer)) (renewed file) buffer w in

@@ -9,6 +9,8 @@ use lib.ListN.{length, take, drop, length-append, length-drop}
 use lib.Seq.{length-sets, length-take-le, length_front, take-add, take_at, drop_at, drop-drop, drop-append-le}
 use Rattle.model.specs.Renewal.{longest}
 use Rattle.notation.specs.Printing.{Printed}
+use Rattle.notation.specs.declared.print.Printer.{Printer}
+use Rattle.notation.specs.Prints.{Prints}
 use Rattle.notation.proofs.Decimals.{printed_front}
 use Rattle.renew.specs.Kept.{Kept}
 
@@ -73,8 +75,6 @@ module _ (kept₀ : List ℕ) (held : ℕ) (more : List ℕ) (w : held ≤ lengt
       let l : length kept ≡ length kept₀ = length-longest kept₀ held kept e h w in
       record { room = omega arith; same = l; still = kept-longest kept₀ held kept e h w }
 
-pub roomy_more : {held stay end : ℕ} {kept₀ more kept list : List ℕ} → Roomy kept₀ held more kept stay → Printed kept stay more list end
-    → ((all : List ℕ) → Kept all kept₀ held → Kept (all ++ more) list end) × ((end ≤ length list) × (length list ≡ length kept₀))
-roomy_more {stay = stay} {more = more} {kept = kept} {list = list} g p =
-    let l : length list ≡ length kept = ap length p.written ∙ length-sets kept stay more in
-    (λ all k. kept_more (g.still all k) p g.room, (omega (arith, p.next, g.room), l ∙ g.same))
+pub roomy_more : {kept₀ more list : List ℕ} {held : ℕ} {p m : Printer} → Roomy kept₀ held more p.out.now p.at → Prints p more m → list ≡ m.out.now
+    → (all : List ℕ) → Kept all kept₀ held → Kept (all ++ more) list m.at
+roomy_more g P e all k = rw e (kept_more (g.still all k) P.printed g.room)

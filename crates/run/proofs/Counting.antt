@@ -1,18 +1,13 @@
 -- Records as numbers: one record more is read from its four places, and written to them.
-use Prim.Native.Nat.{ℕ, zero, suc, ◌+◌, ◌*◌, ◌≤◌, ◌<◌}
-use mathlib.Core.Path.{◌≡◌, refl, sym, ap, subst, ◌∙◌}
+use Prim.Native.Nat.{ℕ, ◌+◌, ◌*◌, ◌≤◌, ◌<◌}
+use mathlib.Core.Path.{◌≡◌, refl, sym, ap, ◌∙◌}
 use mathlib.Core.List.{List, [], ◌∷◌, ◌++◌}
 use native.Mathlib.Numerals.{add-one, add-two, add-three}
 use native.Mathlib.Omega.{arith}
 use lib.ListN.{length, get_or, set, take, drop, length-append, length-drop}
 use lib.Seq.{sets, sets-eq, take-suc, take-suc-set, take_at, drop-append-add, drop-drop, length-take-le}
-use Rattle.answers.specs.declared.Job.{Job}
 use Rattle.answers.specs.declared.Report.{Report}
-use Rattle.answers.specs.declared.Ran.{Ran}
-use Rattle.answers.specs.Says.{says_ran}
-use Rattle.model.specs.Ride.{RunOutcome, run}
-use Rattle.run.specs.Trials.{IsRun}
-use Rattle.run.specs.Numbers.{record_at, records, numbers, put, IsCounted}
+use Rattle.run.specs.Numbers.{record_at, records, numbers, put}
 
 -- ---- read
 
@@ -24,14 +19,6 @@ pub read_more : (cs : List ℕ) (rs : List Report) (i : ℕ) (r : Report) → i 
 unfolding records
 read_more cs rs i r h e at =
     ap (λ (k : ℕ). take k (set rs i r)) (add-one i) ∙ take-suc-set rs i r h ∙ (λ j. e j ++ (at j ∷ [])) ∙ ap (records cs) (sym (add-one i))
-
-pub read_all : (cs : List ℕ) (rs : List Report) (i n : ℕ) → i ≡ n → take i rs ≡ records cs i → take n rs ≡ records cs n
-read_all cs rs i n e = subst (λ (k : ℕ). take k rs ≡ records cs k) e
-
-pub length-records : (cs : List ℕ) (n : ℕ) → length (records cs n) ≡ n
-unfolding records
-length-records cs zero = refl
-length-records cs (suc n) = length-append (records cs n) (record_at cs n ∷ []) ∙ omega (arith, length-records cs n)
 
 -- ---- written
 
@@ -79,25 +66,3 @@ write_at cs rs i d h l =
 pub write_more : (cs : List ℕ) (rs : List Report) {ds ds' : List ℕ} {i : ℕ} {r : Report} (d : Report) → ds ≡ numbers (take i rs) ++ drop (i * 4) cs → ds' ≡ put ds i r → r ≡ get_or rs i d
     → i < length rs → i * 4 + 4 ≤ length cs → ds' ≡ numbers (take (i + 1) rs) ++ drop ((i + 1) * 4) cs
 write_more cs rs {i = i} d e p at h l = p ∙ (λ j. put (e j) i (at j)) ∙ write_at cs rs i d h l
-
-pub write_all : (cs ds : List ℕ) (rs : List Report) (i n : ℕ) → i ≡ n → ds ≡ numbers (take i rs) ++ drop (i * 4) cs → ds ≡ numbers (take n rs) ++ drop (n * 4) cs
-write_all cs ds rs i n e = subst (λ (k : ℕ). ds ≡ numbers (take k rs) ++ drop (k * 4) cs) e
-
--- ---- a run of the first n records of an array
-
-pub filed : (j : Job) (bytes : List ℕ) (start trials : ℕ) (table path cs : List ℕ) (n : ℕ) (xs zs rs : List Report) (t a : Ran) (ts ps : List ℕ)
-    → IsRun (run j bytes start trials table path (take n xs)) t ts ps zs → take n xs ≡ records cs n → length zs ≡ n → a ≡ t → rs ≡ zs ++ drop n xs
-    → IsRun (run j bytes start trials table path (records cs n)) a ts ps (take n rs)
-filed j bytes start trials table path cs n xs zs rs t a ts ps g e long same put_back =
-    let o = ap (run j bytes start trials table path) e in
-    record {
-      answer_is = ap says_ran same ∙ g.answer_is ∙ ap (λ u. says_ran u.answer) o;
-      table_is = g.table_is ∙ ap (λ u. u.table) o;
-      path_is = g.path_is ∙ ap (λ u. u.path) o;
-      reports_are = ap (take n) put_back ∙ take_at zs (drop n xs) n long ∙ g.reports_are ∙ ap (λ u. u.reports) o;
-    }
-
-pub counted : (o : RunOutcome) (n : ℕ) (cs ds : List ℕ) (r a : Ran) (ts ps : List ℕ) (rs : List Report) → IsRun o r ts ps (take n rs) → a ≡ r → ds ≡ numbers (take n rs) ++ drop (n * 4) cs
-    → IsCounted o n cs a ts ps ds
-counted o n cs ds r a ts ps rs g same e =
-    record { answer_is = ap says_ran same ∙ g.answer_is; table_is = g.table_is; path_is = g.path_is; counts_are = e ∙ ap (λ xs. numbers xs ++ drop (n * 4) cs) g.reports_are }

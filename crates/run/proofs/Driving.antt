@@ -6,7 +6,7 @@ use mathlib.Core.Bool.{true, false}
 use mathlib.Core.List.{List, [], ◌∷◌, ◌++◌}
 use native.Mathlib.Omega.{arith}
 use lib.Dec.{T}
-use lib.ListN.{length, get_or, replicate, length-replicate, get_or-replicate}
+use lib.ListN.{length, get_or}
 use lib.Seq.{length-take-le, get_or-set_same}
 use Rattle.learning.specs.Path.{legs}
 use Rattle.learning.specs.Trial as learning
@@ -16,9 +16,7 @@ use Rattle.answers.specs.declared.Job.{Job}
 use Rattle.answers.specs.declared.State.{State}
 use Rattle.answers.specs.declared.Report.{Report}
 use Rattle.answers.specs.declared.Refusal.{Refusal}
-use Rattle.answers.specs.declared.Verdict.{Verdict}
-use Rattle.answers.specs.declared.Verdict.TheVariants as Vd
-use Rattle.answers.specs.declared.Tried.TheVariants as Td
+use Rattle.std.specs.Prelude.{Ok, Err}
 use Rattle.answers.specs.Says.{says_tried}
 use Rattle.model.specs.Basics.{member}
 use Rattle.model.specs.Checks.{floor_of, goals}
@@ -36,10 +34,10 @@ use Rattle.model.proofs.Rides.{kept_low, counts_fit, most_learned, most_decision
 use Rattle.decision.specs.Ready.{Ready, Places}
 use Rattle.decision.proofs.Judging.{ready}
 use Rattle.lookahead.specs.Contract.{Used}
-use Rattle.decision.proofs.Acting.{used-zeros}
 use Rattle.run.specs.declared.Stand.{Stand}
+use Rattle.run.specs.declared.Workspace.{Workspace}
 use Rattle.run.specs.Stands.{set_out, tallied_of, Onward, Went, Left}
-use Rattle.run.specs.Trials.{noted, Scratch, Rode, IsTrial}
+use Rattle.run.specs.Trials.{noted, Cleared, Rode, IsTrial}
 use Rattle.run.proofs.Legs.{Sums, sums_none, sum_last, note_more, noted-size, noted-sums}
 use Rattle.model.specs.Lookahead.{dearest_leg}
 
@@ -67,7 +65,7 @@ pub record Along (j : Job) (bytes : List ℕ) (s : State) (path along : List ℕ
 abbrev pub yet_to : Job → List ℕ → State → (table path : List ℕ) → ℕ
 yet_to j bytes s table path = potential (learning_job j bytes) (as_state s table path)
 
-module _ (j : Job) (bytes : List ℕ) (start : ℕ) (table₀ path₀ : List ℕ) (opened : open_trial j bytes start table₀ path₀ ≡ Vd.Done) where
+module _ (j : Job) (bytes : List ℕ) (start : ℕ) (table₀ path₀ : List ℕ) (opened : open_trial j bytes start table₀ path₀ ≡ Ok tt) where
   abbrev R : openings.Ready j bytes start table₀ path₀
   R = openings.ready j bytes start table₀ path₀ opened
 
@@ -232,30 +230,20 @@ module _ (j : Job) (bytes : List ℕ) (start : ℕ) (table₀ path₀ : List ℕ
           leg = omega (arith, few);
         }
 
--- the scratch lists that a trial starts with
-pub scratched : Scratch (replicate 4096 0) (replicate 4096 0) (replicate 8192 0) (replicate 4096 0) (replicate 4096 0)
-scratched = record {
-  used = used-zeros;
-  places = length-replicate {A = ℕ} 4096 0;
-  sums = length-replicate {A = ℕ} 4096 0;
-  none_yet = get_or-replicate {A = ℕ} 4096 0 0 0 (omega arith);
-}
-
 -- ---- the loop of a trial
 
 -- What a trial's loop keeps from one decision to the next.
-pub record Underway (j : Job) (bytes : List ℕ) (start : ℕ) (table₀ path₀ : List ℕ) (w : Stand) (table path mark cost list place along : List ℕ) : Type 0 where
+pub record Underway (j : Job) (bytes : List ℕ) (start : ℕ) (table₀ path₀ : List ℕ) (w : Stand) (table path : List ℕ) (l : Workspace) : Type 0 where
   -- the ride so far
   pub drive : Driving j bytes start table₀ path₀ w table path
-  -- the scratch lists that the next decision takes
-  pub used : Used w.base mark cost list
-  pub places : Places place path w.state.length
+  -- the lists that the next decision takes
+  pub used : Used w.base l.scratch
+  pub places : Places l.place path w.state.length
   -- the sums of the legs
-  pub legs_so : Along j bytes w.state path along
+  pub legs_so : Along j bytes w.state path l.along
 
-module _ {j : Job} {bytes : List ℕ} {start : ℕ} {table₀ path₀ : List ℕ} (opened : open_trial j bytes start table₀ path₀ ≡ Vd.Done) where
-  pub sets_out : {mark cost list place along : List ℕ} → Scratch mark cost list place along
-      → Underway j bytes start table₀ path₀ (set_out start) table₀ path₀ mark cost list place along
+module _ {j : Job} {bytes : List ℕ} {start : ℕ} {table₀ path₀ : List ℕ} (opened : open_trial j bytes start table₀ path₀ ≡ Ok tt) where
+  pub sets_out : {l : Workspace} → Cleared l → Underway j bytes start table₀ path₀ (set_out start) table₀ path₀ l
   sets_out l = record {
     drive = begins j bytes start table₀ path₀ opened;
     used = l.used;
@@ -263,61 +251,61 @@ module _ {j : Job} {bytes : List ℕ} {start : ℕ} {table₀ path₀ : List ℕ
     legs_so = begins-along j bytes start table₀ path₀ opened l.sums l.none_yet;
   }
 
-  module _ {w : Stand} {table path mark cost list place along : List ℕ} (u : Underway j bytes start table₀ path₀ w table path mark cost list place along) where
-    pub may_tally : (length along ≡ 4096) × (w.state.length < 4096)
+  module _ {w : Stand} {table path : List ℕ} {l : Workspace} (u : Underway j bytes start table₀ path₀ w table path l) where
+    pub may_tally : (length l.along ≡ 4096) × (w.state.length < 4096)
     may_tally = (u.legs_so.size, path-fits j bytes start table₀ path₀ opened u.drive)
 
     -- on a goal it is over, and its record is the ride's
     pub done : member w.state.current (goals j) ≡ true → u.drive.at ≡ ride j bytes start table₀ path₀
     done e = over j bytes start table₀ path₀ opened u.drive e
 
-    pub rode_so : member w.state.current (goals j) ≡ true → Rode j bytes (ride j bytes start table₀ path₀) (tallied_of w along) table path
+    pub rode_so : member w.state.current (goals j) ≡ true → Rode j bytes (ride j bytes start table₀ path₀) (tallied_of w l.along) table path
     rode_so e = rode j bytes start table₀ path₀ opened u.drive e u.legs_so
 
     module _ (e : member w.state.current (goals j) ≡ false) where
       -- off it one more decision can be made
-      pub may_go_on : Onward j bytes w table path along
+      pub may_go_on : Onward j bytes w table path l.along
       may_go_on = may_go j bytes start table₀ path₀ opened u.drive e u.legs_so
 
-      module _ {table' path' along' : List ℕ} {r : Stand} (a : Went (act j bytes w.state table path) w along r table' path' along') where
-        pub goes_on : {mark' cost' list' place' : List ℕ} → Left j bytes (act j bytes w.state table path) w r mark' cost' list' place' path'
-            → Underway j bytes start table₀ path₀ r table' path' mark' cost' list' place' along'
-        goes_on f = record {
+      -- and it is nearer its end
+      pub nearer : {table' path' along' : List ℕ} {r : Stand} → Went (act j bytes w.state table path) w l.along r table' path' along'
+          → yet_to j bytes r.state table' path' < yet_to j bytes w.state table path
+      nearer a = lowers j bytes start table₀ path₀ opened u.drive e a
+
+      module _ {table' path' : List ℕ} {l' : Workspace} {r : Stand} (a : Went (act j bytes w.state table path) w l.along r table' path' l'.along)
+          (f : Left j bytes (act j bytes w.state table path) w r l' path') where
+        pub goes_on : Underway j bytes start table₀ path₀ r table' path' l'
+        goes_on = record {
           drive = drives j bytes start table₀ path₀ opened u.drive e a;
           used = f.used;
           places = f.places;
           legs_so = notes j bytes start table₀ path₀ opened u.drive e u.legs_so a;
         }
 
-        pub goes_on_at : {mark' cost' list' place' : List ℕ} (f : Left j bytes (act j bytes w.state table path) w r mark' cost' list' place' path')
-            → (goes_on f).drive.at ≡ next j bytes u.drive.at
+        pub goes_on_at : goes_on.drive.at ≡ next j bytes u.drive.at
         unfolding goes_on drives
-        goes_on_at f = refl
+        goes_on_at = refl
 
-        -- and it is nearer its end
-        pub nearer : yet_to j bytes r.state table' path' < yet_to j bytes w.state table path
-        nearer = lowers j bytes start table₀ path₀ opened u.drive e a
-
-pub sets_out_at : (j : Job) (bytes : List ℕ) {start : ℕ} {table₀ path₀ mark cost list place along : List ℕ} (opened : open_trial j bytes start table₀ path₀ ≡ Vd.Done)
-    (l : Scratch mark cost list place along) → (sets_out opened l).drive.at ≡ begun start table₀ path₀
+pub sets_out_at : (j : Job) (bytes : List ℕ) {start : ℕ} {table₀ path₀ : List ℕ} (opened : open_trial j bytes start table₀ path₀ ≡ Ok tt) {l : Workspace}
+    (c : Cleared l) → (sets_out opened c).drive.at ≡ begun start table₀ path₀
 unfolding sets_out begins
-sets_out_at j bytes opened l = refl
+sets_out_at j bytes opened c = refl
 
 -- ---- a trial's answer, by what the opening answers
 
 module _ (j : Job) (bytes : List ℕ) (start : ℕ) (table path : List ℕ) where
-  pub trial-refused : {v : Verdict} {f : Refusal} → v ≡ open_trial j bytes start table path → v ≡ Vd.Refused f → IsTrial (trial j bytes start table path) (Td.Refused f) table path
+  pub trial-refused : {r : Refusal} → open_trial j bytes start table path ≡ Err r → IsTrial (trial j bytes start table path) (Err r) table path
   unfolding trial_by
-  trial-refused judged e =
-      let o = ap (λ u. trial_of u j bytes (ride j bytes start table path) table path) (sym judged ∙ e) in
-      record { answer_is = ap (λ u. says_tried u.answer) (sym o); table_is = ap (λ u. u.table) (sym o); path_is = ap (λ u. u.path) (sym o) }
+  trial-refused e =
+      let o = ap (λ v. trial_of v j bytes (ride j bytes start table path) table path) (sym e) in
+      record { answer_is = ap (λ u. says_tried u.answer) o; table_is = ap (λ u. u.table) o; path_is = ap (λ u. u.path) o }
 
-  pub trial-made : {v : Verdict} {r : Report} {t p : List ℕ} → v ≡ open_trial j bytes start table path → v ≡ Vd.Done → Rode j bytes (ride j bytes start table path) r t p
-      → IsTrial (trial j bytes start table path) (Td.Made r) t p
-  trial-made judged e d =
-      let o = trial_is_made j bytes start table path (sym judged ∙ e) in
+  pub trial-made : {r : Report} {t p : List ℕ} → open_trial j bytes start table path ≡ Ok tt → Rode j bytes (ride j bytes start table path) r t p
+      → IsTrial (trial j bytes start table path) (Ok r) t p
+  trial-made e d =
+      let o = sym (trial_is_made j bytes start table path e) in
       record {
-        answer_is = ap (λ x. says_tried (Td.Made x)) d.record_is ∙ ap (λ u. says_tried u.answer) (sym o);
-        table_is = d.table_is ∙ ap (λ u. u.table) (sym o);
-        path_is = d.path_is ∙ ap (λ u. u.path) (sym o);
+        answer_is = ap (λ x. says_tried (Ok x)) d.record_is ∙ ap (λ u. says_tried u.answer) o;
+        table_is = d.table_is ∙ ap (λ u. u.table) o;
+        path_is = d.path_is ∙ ap (λ u. u.path) o;
       }

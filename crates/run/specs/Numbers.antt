@@ -1,7 +1,7 @@
 -- A run's records as numbers, four for each, for programs that hold no list of records.
 use Rattle.std.specs.Prelude.{ℕ, zero, suc, ◌+◌, ◌*◌, ◌≤◌, ◌≡◌, List, [], ◌∷◌, ◌++◌, length, get_or, set, drop}
 use Rattle.answers.specs.declared.Report.{Report}
-use Rattle.answers.specs.declared.Ran.{Ran}
+use Rattle.answers.specs.Outcomes.{Ran}
 use Rattle.answers.specs.Says.{says_ran}
 use Rattle.model.specs.Ride.{RunOutcome}
 

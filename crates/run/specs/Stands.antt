@@ -8,6 +8,7 @@ use Rattle.lookahead.specs.Contract.{Used}
 use Rattle.decision.specs.Laying.{way_of, Shown}
 use Rattle.decision.specs.Ready.{Ready, Places}
 use Rattle.run.specs.declared.Stand.{Stand}
+use Rattle.run.specs.declared.Workspace.{Workspace}
 use Rattle.run.specs.Trials.{Fits, noted}
 
 -- a trial before its first decision, and its record once it is over
@@ -38,8 +39,8 @@ pub record Went (d : Deed) (w : Stand) (along : List ℕ) (r : Stand) (table' pa
   pub sums : along' ≡ noted along w.state.length d.state.length d.cost
 
 -- the scratch lists after it serve the next decision, and first to lay the moves of this one, which the answer tells
-pub record Left (j : Job) (bytes : List ℕ) (d : Deed) (w r : Stand) (mark cost list place path : List ℕ) : Type 0 where
-  pub used : Used r.base mark cost list
-  pub places : Places place path r.state.length
-  pub shown : Shown j bytes w.state.current r.answer r.base mark cost
+pub record Left (j : Job) (bytes : List ℕ) (d : Deed) (w r : Stand) (l : Workspace) (path : List ℕ) : Type 0 where
+  pub used : Used r.base l.scratch
+  pub places : Places l.place path r.state.length
+  pub shown : Shown j bytes w.state.current r.answer r.base l.scratch
   pub way : d.way ≡ way_of j bytes w.state.current r.answer

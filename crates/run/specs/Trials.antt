@@ -1,21 +1,13 @@
 -- What a ride, a trial and a run promise, and where a run stands between two trials.
-use Rattle.std.specs.Prelude.{ℕ, ◌+◌, ◌<◌, ◌≡◌, List, eqb, ltb, length, get_or, set}
-use Rattle.learning.specs.Ground.{pick}
+use Rattle.std.specs.Prelude.{ℕ, ◌+◌, ◌<◌, ◌≡◌, List, ltb, length, get_or, set}
 use Rattle.answers.specs.declared.Job.{Job}
 use Rattle.answers.specs.declared.Report.{Report}
-use Rattle.answers.specs.declared.Verdict.{Verdict}
-use Rattle.answers.specs.declared.Verdict.TheVariants as Vd
-use Rattle.answers.specs.declared.Tried.{Tried}
-use Rattle.answers.specs.declared.Ran.{Ran}
-use Rattle.answers.specs.declared.Ran.TheVariants as Rn
+use Rattle.answers.specs.Outcomes.{Tried, Ran}
 use Rattle.answers.specs.Says.{says_tried, says_ran}
 use Rattle.model.specs.Basics.{choose}
 use Rattle.model.specs.Ride.{Ride, report, TrialOutcome, RunOutcome}
 use Rattle.lookahead.specs.Contract.{Used}
-
--- the record of no trial
-abbrev pub none : Report
-none = record { decisions = 0; learned = 0; kept = 0; travel = 0 }
+use Rattle.run.specs.declared.Workspace.{Workspace}
 
 -- What the legs come to up to each place of the path, after a decision that took its length from n to m: one more sum where it is longer.
 abbrev pub noted : List ℕ → (n m leg : ℕ) → List ℕ
@@ -27,12 +19,12 @@ pub record Fits (along : List ℕ) (n m leg : ℕ) : Type 0 where
   pub place : n < m → m < 4096
   pub sum : n < m → get_or along n 0 + leg < 4294967296
 
--- the scratch lists that a trial starts with
-pub record Scratch (mark cost list place along : List ℕ) : Type 0 where
-  pub used : Used 1 mark cost list
-  pub places : length place ≡ 4096
-  pub sums : length along ≡ 4096
-  pub none_yet : get_or along 0 0 ≡ 0
+-- the lists that a trial starts with
+pub record Cleared (l : Workspace) : Type 0 where
+  pub used : Used 1 l.scratch
+  pub places : length l.place ≡ 4096
+  pub sums : length l.along ≡ 4096
+  pub none_yet : get_or l.along 0 0 ≡ 0
 
 -- one trial past its opening: its record and the lists at exit are those of the model's ride o
 pub record Rode (j : Job) (bytes : List ℕ) (o : Ride) (r : Report) (table path : List ℕ) : Type 0 where
@@ -52,16 +44,3 @@ pub record IsRun (o : RunOutcome) (r : Ran) (table path : List ℕ) (reports : L
   pub table_is : table ≡ o.table
   pub path_is : path ≡ o.path
   pub reports_are : reports ≡ o.reports
-
--- how many trials a run may come to: none where it is refused; and 0 from a trial on that learned nothing
-abbrev pub allowed_by : Verdict → ℕ → ℕ
-allowed_by Vd.Done trials = trials
-allowed_by (Vd.Refused r) trials = 0
-
-abbrev pub limit_after : ℕ → Report → ℕ
-limit_after limit r = pick (eqb r.learned 0) 0 limit
-
--- what a run answers that made so many trials
-abbrev pub answered : Verdict → (made limit : ℕ) → Ran
-answered Vd.Done made limit = Rn.Made made (eqb limit 0)
-answered (Vd.Refused r) made limit = Rn.Refused r

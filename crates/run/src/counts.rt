@@ -1,10 +1,12 @@
-// A run for programs that hold no list of records: its records are numbers, four for each.
+// A run for callers that can lend no list of records, as one in another language cannot: its records are numbers, four for each.
 ghost use Rattle.std.specs.Prelude.{◌≡◌, ◌<◌, ◌≤◌, ◌+◌, ◌*◌, ◌++◌, length, take, drop};
 ghost use Rattle.model.specs.Ride.{run};
-ghost use Rattle.run.specs.Trials.{IsRun};
 ghost use Rattle.run.specs.Numbers.{record_at, records, put, numbers, Counted, IsCounted};
 
-use answers::{Job, Ran, Report};
+use answers::{Job, Made, Refusal, Report};
+
+// The most records that are lent: one more than a run has trials at most.
+const MOST: usize = 1001;
 
 // The i-th record of a list of numbers, four for each.
 pub fn report_at(counts: &[u64], i: usize) -> Report
@@ -21,22 +23,19 @@ pub fn report_at(counts: &[u64], i: usize) -> Report
 }
 
 // The first n records of a list of numbers, in an array that has room for 1,001: the most trials, and one more.
-fn reports_of(counts: &[u64], n: usize) -> [Report; 1001]
+fn reports_of(counts: &[u64], n: usize) -> [Report; MOST]
     requires { Counted n counts.now }
     ensures { take n result ≡ records counts.now n }
 {
-    let zero = Report {
+    let none = Report {
         decisions: 0,
         learned: 0,
         kept: 0,
         travel: 0,
     };
-    let mut reports = [zero; 1001];
-    let mut i = 0;
-    while i < n {
-        let r = report_at(counts, i);
-        reports[i] = r;
-        i += 1;
+    let mut reports = [none; MOST];
+    for i in 0..n {
+        reports[i] = report_at(counts, i);
     }
     reports
 }
@@ -53,52 +52,14 @@ fn put_counts(counts: &mut [u64], i: usize, r: Report)
     counts[at + 3] = r.travel;
 }
 
-// The numbers of the first n records.
-fn put_all(counts: &mut [u64], n: usize, reports: [Report; 1001])
-    requires { Counted n counts.old }
-    ensures { counts.new ≡ numbers (take n reports) ++ drop (n * 4) counts.old }
+// The numbers of each record.
+fn put_all(counts: &mut [u64], reports: &[Report])
+    requires { Counted (length reports.now) counts.old }
+    ensures { counts.new ≡ numbers reports.now ++ drop (length reports.now * 4) counts.old }
 {
-    let mut i = 0;
-    while i < n {
-        let r = reports[i];
-        put_counts(counts, i, r);
-        i += 1;
+    for (i, report) in reports.iter().enumerate() {
+        put_counts(counts, i, *report);
     }
-}
-
-// A run's answer and its reports by value.
-#[derive(Clone, Copy)]
-pub struct Filed {
-    pub answer: Ran,
-    pub reports: [Report; 1001],
-}
-
-fn file(answer: Ran, reports: [Report; 1001]) -> Filed
-    ensures { (result.answer ≡ answer) × (result.reports ≡ reports) }
-{
-    Filed {
-        answer: answer,
-        reports: reports,
-    }
-}
-
-// A run with reports of its own, the first n of them lent: it takes no slice of structs, so whoever calls it needs no walk by hand.
-fn run_filed(
-    job: Job,
-    floor: &[u8],
-    start: usize,
-    trials: usize,
-    table: &mut [u32],
-    path: &mut [u16],
-    counts: &[u64],
-    n: usize,
-) -> Filed
-    requires { Counted n counts.now }
-    ensures { IsRun (run job floor.now start trials table.old path.old (records counts.now n)) result.answer table.new path.new (take n result.reports) }
-{
-    let mut reports = reports_of(counts, n);
-    let answer = crate::run(job, floor, start, trials, table, path, &mut reports[..n]);
-    file(answer, reports)
 }
 
 // A run whose reports are given and handed back as numbers, four for each: it goes through `run`.
@@ -111,13 +72,12 @@ pub fn run_counts(
     path: &mut [u16],
     counts: &mut [u64],
     n: usize,
-) -> Ran
+) -> Result<Made, Refusal>
     requires { Counted n counts.old }
     ensures { IsCounted (run job floor.now start trials table.old path.old (records counts.old n)) n counts.old result table.new path.new counts.new }
 {
-    let f = run_filed(job, floor, start, trials, table, path, counts, n);
-    let reports = f.reports;
-    put_all(counts, n, reports);
-    let a = f.answer;
-    a
+    let mut reports = reports_of(counts, n);
+    let answer = crate::run(job, floor, start, trials, table, path, &mut reports[..n]);
+    put_all(counts, &reports[..n]);
+    answer
 }

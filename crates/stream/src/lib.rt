@@ -17,18 +17,12 @@ pub fn to_front(list: &mut [u8], from: usize, n: usize)
     requires { from + n ≤ length list.old }
     ensures { list.new ≡ take n (drop from list.old) ++ drop n list.old }
 {
-    let mut i = 0;
-    while i < n {
-        list[i] = list[from + i];
-        i += 1;
-    }
+    list.copy_within(from..from + n, 0);
 }
 
-// The first n bytes, on standard output; whether they could be written.
-pub fn write(out: &[u8], n: usize) -> bool
-    requires { n ≤ length out.now }
-{
-    io::write_all(STDOUT, &out[..n])
+// Bytes on standard output; whether they could be written.
+pub fn write(bytes: &[u8]) -> bool {
+    io::write_all(STDOUT, bytes)
 }
 
 // A line on standard error.
@@ -39,6 +33,11 @@ pub fn say(words: &[u8]) {
 // The one line of a refusal, on standard error.
 pub fn refuse(r: Refusal) {
     let mut line = [0; 64];
-    let end = print::refusal_line(&mut line, 0, r);
+    let mut out = print::Printer {
+        out: &mut line,
+        at: 0,
+    };
+    print::refusal_line(&mut out, r);
+    let end = out.at;
     say(&line[..end]);
 }

@@ -1,4 +1,4 @@
--- Laws of the table file: Reading, Writing and Renewing of the file as a whole.
+-- Laws of the table file: Reading one, Writing one, and Renewing one.
 pub mod Reading
 pub mod Writing
 pub mod Renewing

@@ -2,33 +2,46 @@
 use mathlib.Core.Path.{◌≡◌, refl, sym, ◌∙◌, ap}
 use mathlib.Core.Bool.{true}
 use mathlib.Core.Logic.{⊎_elim}
-use mathlib.Core.List.{List, [], ◌∷◌}
-use Prim.Native.Nat.{ℕ, zero, suc, ◌+◌, ◌-◌, ◌*◌, ◌≤◌, ◌<◌}
+use mathlib.Core.List.{List, [], ◌∷◌, ◌++◌}
+use Prim.Native.Nat.{ℕ, zero, suc, ◌+◌, ◌-◌, ◌*◌, ◌/◌, ◌≤◌, ◌<◌}
 use native.Mathlib.Numerals.{add-one}
 use native.Mathlib.Omega.{arith}
-use lib.ListN.{length, get_or, take, drop, set, length-drop, length-set}
+use lib.Dec.{eqb}
+use lib.ListN.{length, get_or, take, drop, set, length-append, drop_of_length-le}
+use lib.Seq.{drop-cons, drop_at}
+use Rattle.std.proofs.lemmas.List.{get_or_append_left}
+use Rattle.std.specs.Cmp.Lexicographic.{pointwise}
+use Rattle.std.proofs.Math.Bool.{and-true, and_assoc}
 use Rattle.answers.specs.declared.Goals.{Goals}
 use Rattle.answers.specs.declared.Place.TheVariants as P
-use Rattle.answers.specs.declared.Verdict.{Verdict}
-use Rattle.answers.specs.declared.Verdict.TheVariants as Vd
+use Rattle.answers.specs.Outcomes.{Verdict}
+use Rattle.answers.specs.declared.Refusal.{Refusal}
+use Rattle.std.specs.Prelude.{Ok, Err}
 use Rattle.model.specs.Basics.{refuse_at}
-use Rattle.model.specs.Floor.{Floor, size, goals_of}
-use Rattle.model.specs.TableFile.{second_long, edition_in, count_in, back_in, trailer_holds, check_trailer, find_records, goal_place}
-use Rattle.model.specs.TableFile.{cell_in, figure_in, record_fault, judge_records, judge_table, applied, check_ahead, read_verdict}
+use Rattle.model.specs.Floor.{Floor, size, goals_of, opening_table}
+use Rattle.model.specs.TableFile.{half_at, second_long, is_letters, edition_in, count_in, back_in, trailer_holds, check_trailer, find_records, goal_place}
+use Rattle.model.specs.TableFile.{scale_in, cell_in, figure_in, named, same_job, record_fault, judge_records, applied, read_verdict, read_table}
 use Rattle.model.specs.Opening.{open_table}
+use Rattle.model.proofs.Accepted.{Judges, unless_judges, and_tells, is_tells, eq_tells}
 use Rattle.model.proofs.Parts.{rest}
-use Rattle.model.proofs.Files.{Openable, openable, read-gives, judge_more, judge-stop, trailer_tells, trailer_judges, Pointed, pointed, found, found-long}
-use Rattle.table_file.specs.declared.Site.{Site}
-use Rattle.table_file.specs.Site.{floor_at, goals_at}
-use Rattle.table_file.specs.Promises.{Opened}
-use Rattle.learning.proofs.Words.{le-leb}
+use Rattle.model.proofs.Files.{openable, read-gives, judge_more, judge-stop, trailer_tells, trailer_judges, Pointed, pointed, found, found-long}
+use Rattle.table_file.specs.Promises.{Opened, Reads}
 
 -- ---- what an opened table gives
 
-pub opened : (f : Floor) (q : ℕ) (g : Goals) (n : ℕ) → open_table f q g n ≡ Vd.Done → Opened f q (goals_of g) × (n ≡ size f)
+pub opened : (f : Floor) (q : ℕ) (g : Goals) (n : ℕ) → open_table f q g n ≡ Ok tt → Opened f q (goals_of g) × (n ≡ size f)
 opened f q g n e = let o = openable f q g n e in (record { sized = o.sized; scale = o.scale; benches = o.benches }, o.cells)
 
 -- ---- the trailer, and the records that it points to
+
+-- the letters at its end
+pub letters_is : (t : List ℕ) → length t ≡ 12 → pointwise eqb (take (length t - 8) (drop 8 t)) (80 ∷ 68 ∷ 76 ∷ 84 ∷ []) ≡ is_letters t
+letters_is t n =
+    let h₀ : 8 < length t = omega arith in
+    let h₁ : 9 < length t = omega arith in
+    let h₂ : 10 < length t = omega arith in
+    let h₃ : 11 < length t = omega arith in
+    rw (rest 8 t, drop-cons t 8 0 h₀, drop-cons t 9 0 h₁, drop-cons t 10 0 h₂, drop-cons t 11 0 h₃, drop_of_length-le t {i = 12} (omega arith), and-true) (simp and_assoc)
 
 module _ (file : List ℕ) where
   -- what a sound one gives, and that 13 asks for it
@@ -38,7 +51,7 @@ module _ (file : List ℕ) where
   pub ending-room : trailer_holds file ≡ true → 12 ≤ length file
   ending-room e = omega (arith, (points e).room)
 
-  pub checked : check_trailer file ≡ Vd.Done → trailer_holds file ≡ true
+  pub checked : check_trailer file ≡ Ok tt → trailer_holds file ≡ true
   checked e = (trailer_tells file).shown ((trailer_judges file).gives e)
 
   -- what is not of edition 1 has room for a trailer of edition 2
@@ -52,15 +65,6 @@ module _ (file : List ℕ) where
       let z : length file - b + 6 * k - (length file - b) ≡ 6 * k = omega arith in
       rw (z, d, c) (sym (found file ((trailer_tells file).holds e)))
 
-  pub records-long : (n : ℕ) (part : List ℕ) → n ≡ count_in file → part ≡ find_records file → trailer_holds file ≡ true → n * 6 ≤ length part
-  records-long n part a b e = rw (a, b) (omega (arith, found-long file ((trailer_tells file).holds e)))
-
--- once nothing stands ahead of the records, the table that the trailer points to decides
-pub by_table : (s : Site) (floor file : List ℕ) (figures : ℕ) → length file ≤ back_in file → open_table (floor_at s floor) s.q s.goals figures ≡ Vd.Done → trailer_holds file ≡ true
-    → read_verdict (floor_at s floor) s.q s.goals file figures ≡ judge_table (floor_at s floor) s.q (goals_at s) file
-unfolding read_verdict check_trailer check_ahead
-by_table s floor file figures l o h = rw (o, h, le-leb _ _ l)
-
 -- ---- the job that it names
 
 -- what stands at a goal place that is used; and each goal place is this job's
@@ -69,67 +73,79 @@ place-used [] i h = absurd (omega arith)
 place-used (x ∷ gs) zero h = refl
 place-used (x ∷ gs) (suc i) h = place-used gs i (omega arith)
 
--- ---- where the loops stand
+-- ---- the records, one after another: x is the first one, t' what is left after it
+module _ (x t' : List ℕ) {t : List ℕ} (e : t ≡ x ++ t') (n : length x ≡ 6) where
+  one_more : length t / 6 ≡ suc (length t' / 6)
+  one_more = omega (arith, ap length e, length-append x t')
 
--- i of n records are judged: the next cell is low at least, and t is left
-pub record Judging (f : Floor) (q : ℕ) (gs : List ℕ) (n : ℕ) (part : List ℕ) (i low : ℕ) (t : List ℕ) : Type 0 where
-  pub most : i ≤ n
-  pub enough : (n - i) * 6 ≤ length t
-  pub left : judge_records f q gs (n - i) i low t ≡ judge_records f q gs n 0 0 part
+  rest_is : drop 6 t ≡ t'
+  rest_is = ap (drop 6) e ∙ drop_at x t' 6 n
 
-module _ {f : Floor} {q : ℕ} {gs : List ℕ} {n : ℕ} {part : List ℕ} where
-  pub judging : n * 6 ≤ length part → Judging f q gs n part 0 0 part
-  judging h = let e : n - 0 ≡ n = omega arith in record { most = omega arith; enough = omega arith; left = rw e }
+  half_is : (i : ℕ) → i + 1 < 6 → half_at t i ≡ half_at x i
+  half_is i h = let l : i < length x = omega arith in let m : i + 1 < length x = omega arith in rw (e, get_or_append_left x t' 0 i l, get_or_append_left x t' 0 (i + 1) m)
 
-  module _ {i low : ℕ} {t : List ℕ} (g : Judging f q gs n part i low t) where
-    pub judging_more : {cell k : ℕ} → cell ≡ cell_in t → k ≡ record_fault f q gs low t → k ≡ 0 → i < n → Judging f q gs n part (i + 1) (cell + 1) (take (length t - 6) (drop 6 t))
-    judging_more {cell} c d e l =
-        let k : n - i ≡ suc (n - (i + 1)) = omega arith in
-        let m : length (drop 6 t) ≡ length t - 6 = length-drop 6 t in
-        record {
-          most = omega arith;
-          enough = rw (rest 6 t) (omega (arith, g.enough));
-          left = rw (rest 6 t, add-one i, add-one cell, c) (sym (judge_more f q gs low t (n - suc i) i (sym d ∙ e)) ∙ (let j : n - i ≡ suc (n - suc i) = omega arith in rw j at g.left));
-        }
+  cell_is : cell_in t ≡ cell_in x
+  cell_is = half_is 0 (omega arith)
 
-    pub judging_stop : {k : ℕ} {v : Verdict} → k ≡ record_fault f q gs low t → (k ≡ 0 → ⊥) → i < n → v ≡ refuse_at k (P.Record i) → v ≡ judge_records f q gs n 0 0 part
-    judging_stop {k} e h l r =
-        let j : n - i ≡ suc (n - suc i) = omega arith in
-        r ∙ (sym (judge-stop f q gs low t (n - suc i) i k (sym e) h) ∙ rw j at g.left)
+  figure_is : figure_in t ≡ figure_in x
+  figure_is = rw (half_is 2 (omega arith), half_is 4 (omega arith))
 
-    pub judging_all : n ≤ i → Vd.Done ≡ judge_records f q gs n 0 0 part
-    unfolding judge_records
-    judging_all h = (let e : n - i ≡ 0 = omega arith in rw e) ∙ g.left
+  pub applied_more : (table : List ℕ) {cell figure : ℕ} {next v : List ℕ} → next ≡ set table cell figure → cell ≡ cell_in x → figure ≡ figure_in x → applied (length t / 6) t table ≡ v
+      → applied (length t' / 6) t' next ≡ v
+  unfolding applied
+  applied_more table d c g h =
+      let one : applied (length t / 6) t table ≡ applied (length t' / 6) (drop 6 t) (set table (cell_in t) (figure_in t)) = ap (λ (k : ℕ). applied k t table) one_more in
+      let two : applied (length t' / 6) (drop 6 t) (set table (cell_in t) (figure_in t)) ≡ applied (length t' / 6) t' (set table (cell_in x) (figure_in x)) = rw (rest_is, cell_is, figure_is) refl in
+      rw (d, c, g) (sym (one ∙ two) ∙ h)
 
--- i of n records are put into the table, and t is left
-pub record Applying (n : ℕ) (part table₀ : List ℕ) (i : ℕ) (t table : List ℕ) : Type 0 where
-  pub most : i ≤ n
-  pub enough : (n - i) * 6 ≤ length t
-  pub same : length table ≡ length table₀
-  pub left : applied (n - i) t table ≡ applied n part table₀
+  module _ (f : Floor) (q : ℕ) (gs : List ℕ) (low i : ℕ) where
+    fault_is : record_fault f q gs low t ≡ record_fault f q gs low x
+    unfolding record_fault
+    fault_is = rw (cell_is, figure_is) refl
 
-module _ {n : ℕ} {part table₀ : List ℕ} where
-  pub applying : n * 6 ≤ length part → Applying n part table₀ 0 part table₀
-  applying h = let e : n - 0 ≡ n = omega arith in record { most = omega arith; enough = omega arith; same = refl; left = rw e }
+    pub judged_more : {cell : ℕ} {v : Verdict} → record_fault f q gs low x ≡ 0 → cell ≡ cell_in x → judge_records f q gs (length t / 6) i low t ≡ v
+        → judge_records f q gs (length t' / 6) (i + 1) (cell + 1) t' ≡ v
+    judged_more z c g =
+        let one : judge_records f q gs (length t / 6) i low t ≡ judge_records f q gs (suc (length t' / 6)) i low t = ap (λ (k : ℕ). judge_records f q gs k i low t) one_more in
+        let two : judge_records f q gs (suc (length t' / 6)) i low t ≡ judge_records f q gs (length t' / 6) (suc i) (suc (cell_in t)) (drop 6 t) = judge_more f q gs low t (length t' / 6) i (fault_is ∙ z) in
+        let three : judge_records f q gs (length t' / 6) (suc i) (suc (cell_in t)) (drop 6 t) ≡ judge_records f q gs (length t' / 6) (suc i) (suc (cell_in x)) t' = rw (rest_is, cell_is) refl in
+        rw (add-one i, c, add-one (cell_in x)) (sym (one ∙ two ∙ three) ∙ g)
 
-  module _ {i : ℕ} {t table : List ℕ} (g : Applying n part table₀ i t table) where
-    pub applying_more : {cell figure : ℕ} {next : List ℕ} → next ≡ set table cell figure → cell ≡ cell_in t → figure ≡ figure_in t → i < n
-        → Applying n part table₀ (i + 1) (take (length t - 6) (drop 6 t)) next
-    unfolding applied
-    applying_more {cell} {figure} e c d l =
-        let k : n - i ≡ suc (n - (i + 1)) = omega arith in
-        let m : length (drop 6 t) ≡ length t - 6 = length-drop 6 t in
-        record {
-          most = omega arith;
-          enough = rw (rest 6 t) (omega (arith, g.enough));
-          same = ap length e ∙ (length-set table cell figure ∙ g.same);
-          left = rw (rest 6 t, e, c, d) (rw k at g.left);
-        }
+    pub judged_stop : {k : ℕ} {v : Verdict} → record_fault f q gs low x ≡ k → 1 ≤ k → judge_records f q gs (length t / 6) i low t ≡ v → refuse_at k (P.Record i) ≡ v
+    judged_stop {k} z c g =
+        sym (judge-stop f q gs low t (length t' / 6) i k (fault_is ∙ z) (λ n. omega arith)) ∙ ap (λ (m : ℕ). judge_records f q gs m i low t) (sym one_more) ∙ g
 
-    pub applying_all : n ≤ i → table ≡ applied n part table₀
-    unfolding applied
-    applying_all h = (let e : n - i ≡ 0 = omega arith in rw e) ∙ g.left
+-- less than a record is left
+pub judged_all : (f : Floor) (q : ℕ) (gs : List ℕ) (i low : ℕ) (t : List ℕ) {v : Verdict} → length t < 6 → judge_records f q gs (length t / 6) i low t ≡ v → Ok tt ≡ v
+unfolding judge_records
+judged_all f q gs i low t h g = let n : length t / 6 ≡ 0 = omega arith in rw n at g
 
--- ---- what an accepted reading gives
-pub read-open : (f : Floor) (q : ℕ) (g : Goals) (file : List ℕ) (n : ℕ) → read_verdict f q g file n ≡ Vd.Done → Openable f q g n × (trailer_holds file ≡ true)
-read-open f q g file n e = let r = (read-gives f q g file n e).0 in (openable f q g n r.opens, checked file r.checked)
+pub applied_all : (t table : List ℕ) {v : List ℕ} → length t < 6 → applied (length t / 6) t table ≡ v → table ≡ v
+unfolding applied
+applied_all t table h g = let n : length t / 6 ≡ 0 = omega arith in rw n at g
+
+-- ---- the answer
+
+pub same_judges : (f : Floor) (q : ℕ) (gs file : List ℕ) → Judges (same_job f q gs file) 14 ((named f gs file ≡ true) × (scale_in file ≡ q))
+unfolding same_job
+same_judges f q gs file = unless_judges _ 14 (and_tells (is_tells (named f gs file)) (eq_tells (scale_in file) q))
+
+-- the records that are found are as many as the trailer counts
+pub records_judged : (f : Floor) (q : ℕ) (gs file : List ℕ) {part : List ℕ} → trailer_holds file ≡ true → part ≡ find_records file
+    → judge_records f q gs (length part / 6) 0 0 part ≡ judge_records f q gs (count_in file) 0 0 (find_records file)
+records_judged f q gs file held e =
+    let n : length (find_records file) / 6 ≡ count_in file = omega (arith, found-long file ((trailer_tells file).holds held)) in
+    rw (e, n) refl
+
+module _ (f : Floor) (q : ℕ) (g : Goals) (file table : List ℕ) where
+  pub read-refused : {r : Refusal} → read_verdict f q g file (length table) ≡ Err r → Reads (read_verdict f q g file (length table)) (read_table f q g file table) (Err r) table
+  unfolding read_table
+  read-refused e = rw e (record { answer = refl; table = refl })
+
+  pub read-done : {part after : List ℕ} → read_verdict f q g file (length table) ≡ Ok tt → part ≡ find_records file → after ≡ applied (length part / 6) part (opening_table f q (goals_of g))
+      → Reads (read_verdict f q g file (length table)) (read_table f q g file table) (Ok tt) after
+  unfolding read_table
+  read-done e p a =
+      let held = checked file (read-gives f q g file (length table) e).0.checked in
+      let n : length (find_records file) / 6 ≡ count_in file = omega (arith, found-long file ((trailer_tells file).holds held)) in
+      rw e (record { answer = refl; table = rw (p, n) at a })

@@ -4,20 +4,11 @@
 
 mod reader;
 mod renewal;
+mod site;
 mod trailer;
 mod writer;
 
-use answers::Goals;
 pub use reader::read_table;
 pub use renewal::renew_file;
 pub use trailer::{check_trailer, find_records};
 pub use writer::write_table;
-
-// What a table belongs to: the sizes of its floor, the benches, and the q of its figures.
-#[derive(Clone, Copy)]
-pub struct Site {
-    pub width: usize,
-    pub height: usize,
-    pub goals: Goals,
-    pub q: usize,
-}

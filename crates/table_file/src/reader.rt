@@ -1,33 +1,33 @@
 // The reader of a table file: it judges everything before it stores.
-ghost use Rattle.std.specs.Prelude.{◌≡◌, true, List, ℕ, ◌*◌, ◌≤◌, ◌<◌, length, set};
+ghost use Rattle.std.specs.Prelude.{◌≡◌, true, ◌/◌, ◌≤◌, ◌<◌, length, set, MatchOption};
 ghost use Rattle.model.specs.Floor.{goals_of};
 ghost use Rattle.model.specs.TableFile.{first_long, second_long, trailer_holds, first_names, places_named, second_names, named, same_job, record_fault, judge_records, applied, read_verdict, read_table};
 ghost use Rattle.floor.specs.Moves.{flat};
-ghost use Rattle.table_file.specs.Site.{floor_at, goals_at};
-ghost use Rattle.table_file.specs.Promises.{Opened, Reads};
+ghost use Rattle.table_file.specs.Site.{goals_at};
+ghost use Rattle.table_file.specs.Promises.{Judges, Reads};
 
-use super::Site;
+use super::site::Site;
 use super::trailer::{
-    FIRST_LONG, SECOND_LONG, back_in, count_in, edition_in, ending_of, find_records, goal_place,
-    trailer_holds, trailer_of,
+    FIRST_LONG, SECOND_LONG, back_in, check_trailer, edition_in, find_records, goal_place,
+    scale_in, trailer_of,
 };
-use answers::{Goals, Place, Verdict};
+use answers::{Goals, Place, Refusal};
 use floor::{CEILING, MOST_GOALS};
 use notation::bytes::{half_at, word_at};
 
-// Whether the trailer's job is this one: of edition 1, which names one goal,
-fn first_names(site: Site, t: &[u8]) -> bool
+// How many goals a trailer of edition 1 names.
+const FIRST_GOALS: usize = 1;
+
+// Whether the site that a trailer names is this one: of edition 1, which names one goal,
+fn first_names(site: &Site, t: &[u8]) -> bool
     requires { length t.now ≡ first_long }
-    ensures { (bytes : List ℕ) → result ≡ first_names (floor_at site bytes) (goals_at site) t.now }
+    ensures { result ≡ first_names site.now.floor (goals_at site.now) t.now }
 {
-    if notation::wide8(t[0]) != site.width {
-        return false;
-    }
-    if notation::wide8(t[1]) != site.height {
-        return false;
-    }
     let goals = site.goals;
-    if floor::goals_in(goals) != 1 {
+    if usize::from(t[0]) != site.floor.width
+        || usize::from(t[1]) != site.floor.height
+        || floor::goals_in(goals) != FIRST_GOALS
+    {
         return false;
     }
     half_at(t, 2) == goals.first
@@ -38,36 +38,31 @@ fn places_named(goals: Goals, t: &[u8]) -> bool
     requires { length t.now ≡ second_long }
     ensures { result ≡ places_named (goals_of goals) t.now }
 {
-    let mut i = 0;
-    while i < MOST_GOALS {
+    for i in 0..MOST_GOALS {
         if half_at(t, 4 + 2 * i) != goal_place(goals, i) {
             return false;
         }
-        i += 1;
     }
     true
 }
 
-fn second_names(site: Site, t: &[u8]) -> bool
+fn second_names(site: &Site, t: &[u8]) -> bool
     requires { length t.now ≡ second_long }
-    ensures { (bytes : List ℕ) → result ≡ second_names (floor_at site bytes) (goals_at site) t.now }
+    ensures { result ≡ second_names site.now.floor (goals_at site.now) t.now }
 {
-    if notation::wide8(t[0]) != site.width {
-        return false;
-    }
-    if notation::wide8(t[1]) != site.height {
-        return false;
-    }
-    if notation::wide8(t[2]) != floor::goals_in(site.goals) {
+    if usize::from(t[0]) != site.floor.width
+        || usize::from(t[1]) != site.floor.height
+        || usize::from(t[2]) != floor::goals_in(site.goals)
+    {
         return false;
     }
     places_named(site.goals, t)
 }
 
 // By the trailer's edition.
-fn names(site: Site, file: &[u8]) -> bool
+fn names(site: &Site, file: &[u8]) -> bool
     requires { trailer_holds file.now ≡ true }
-    ensures { (bytes : List ℕ) → result ≡ named (floor_at site bytes) (goals_at site) file.now }
+    ensures { result ≡ named site.now.floor (goals_at site.now) file.now }
 {
     if edition_in(file) == 1 {
         return first_names(site, trailer_of(file, FIRST_LONG));
@@ -76,65 +71,60 @@ fn names(site: Site, file: &[u8]) -> bool
 }
 
 // 14: width, height, q or a goal not this job's.
-fn same_job(site: Site, file: &[u8]) -> Verdict
+fn same_job(site: &Site, file: &[u8]) -> Result<(), Refusal>
     requires { trailer_holds file.now ≡ true }
-    ensures { (bytes : List ℕ) → result ≡ same_job (floor_at site bytes) site.q (goals_at site) file.now }
+    ensures { result ≡ same_job site.now.floor site.now.q (goals_at site.now) file.now }
 {
-    if !names(site, file) {
-        return checks::refuse(14);
+    if !names(site, file) || usize::from(scale_in(file)) != site.q {
+        return Err(Refusal::numbered(14));
     }
-    let t = ending_of(file);
-    if notation::wide8(t[0]) != site.q {
-        return checks::refuse(14);
-    }
-    Verdict::Done
+    Ok(())
 }
 
-// 18 to 22: the number of the first fault of the record at the front of a part, 0 where it has none. `low` is one more than the cell before.
-fn record_fault(site: Site, floor: &[u8], low: usize, part: &[u8]) -> usize
-    requires fact_1 { Opened (floor_at site floor.now) site.q (goals_at site) }
-    requires fact_2 { 6 ≤ length part.now }
-    ensures { result ≡ record_fault (floor_at site floor.now) site.q (goals_at site) low part.now }
+// 18 to 22: the number of a record's first fault. `low` is one more than the cell before.
+fn record_fault(site: &Site, low: usize, part: &[u8]) -> Option<usize>
+    requires { length part.now ≡ 6 }
+    ensures { let fault = record_fault site.now.floor site.now.q (goals_at site.now) low part.now in
+        MatchOption result (fault ≡ 0) (λ number. (fault ≡ number) × (1 ≤ number)) }
 {
     let cell = half_at(part, 0);
-    if site.width * site.height <= cell {
-        return 18;
+    if site.floor.cells() <= cell {
+        return Some(18);
     }
-    if !floor::is_free(site.width, site.height, floor, cell) {
-        return 19;
+    if !site.floor.is_free(cell) {
+        return Some(19);
     }
     if cell < low {
-        return 20;
+        return Some(20);
     }
     let figure = word_at(part, 2);
-    if figure <= floor::opening(site.width, site.height, site.goals, site.q, cell) {
-        return 21;
+    if figure <= site.opening(cell) {
+        return Some(21);
     }
     if CEILING < figure {
-        return 22;
+        return Some(22);
     }
-    0
+    None
 }
 
-// n records, one after another: names the first faulty one. The remaining part is passed on at each record.
-fn judge_records(site: Site, floor: &[u8], part: &[u8], n: usize) -> Verdict
-    requires fact_1 { Opened (floor_at site floor.now) site.q (goals_at site) }
-    requires fact_2 { n * 6 ≤ length part.now }
-    ensures { result ≡ judge_records (floor_at site floor.now) site.q (goals_at site) n 0 0 part.now }
+// The records, one after another: names the first faulty one. The remaining part is passed on at each record.
+fn judge_records(site: &Site, records: &[u8]) -> Result<(), Refusal>
+    ensures { result ≡ judge_records site.now.floor site.now.q (goals_at site.now) (length records.now / 6) 0 0 records.now }
 {
-    let mut t = part;
-    let mut i = 0;
+    let mut left = records;
     let mut low = 0;
-    while i < n {
-        let fault = record_fault(site, floor, low, t);
-        if fault != 0 {
-            return checks::refuse_at(fault, Place::Record(i));
+    for i in 0..records.len() / 6 {
+        let (record, rest) = left.split_at(6);
+        if let Some(number) = record_fault(site, low, record) {
+            return Err(Refusal {
+                number,
+                place: Place::Record(i),
+            });
         }
-        low = half_at(t, 0) + 1;
-        t = &t[6..];
-        i += 1;
+        low = half_at(record, 0) + 1;
+        left = rest;
     }
-    Verdict::Done
+    Ok(())
 }
 
 // One figure into a table, where the cell is one of its.
@@ -147,43 +137,33 @@ fn put_figure(table: &mut [u32], cell: usize, figure: usize)
     }
 }
 
-// The figures of n records, put into a table. The remaining part is passed on at each record.
-fn apply_records(part: &[u8], n: usize, table: &mut [u32])
-    requires { n * 6 ≤ length part.now }
-    ensures { table.new ≡ applied n part.now table.old }
+// The records' figures, put into a table. The remaining part is passed on at each record.
+fn apply_records(records: &[u8], table: &mut [u32])
+    ensures { table.new ≡ applied (length records.now / 6) records.now table.old }
 {
-    let mut t = part;
-    let mut i = 0;
-    while i < n {
-        put_figure(table, half_at(t, 0), word_at(t, 2));
-        t = &t[6..];
-        i += 1;
+    let mut left = records;
+    while 6 <= left.len() {
+        let (record, rest) = left.split_at(6);
+        put_figure(table, half_at(record, 0), word_at(record, 2));
+        left = rest;
     }
 }
 
-// 1, 3, 4, 27, then 13, 28, 14 and 18 to 22.
-fn judge_read(site: Site, floor: &[u8], file: &[u8], figures: usize) -> Verdict
-    ensures { result ≡ read_verdict (floor_at site floor.now) site.q site.goals file.now figures }
+// 13, 28, 14 and 18 to 22. It answers the records.
+fn judge_file<'a>(site: &Site, file: &'a [u8]) -> Result<&'a [u8], Refusal>
+    ensures { Judges site.now.floor site.now.q (goals_at site.now) file.now result }
 {
-    let v = opening::open_table(site.width, site.height, site.goals, site.q, floor, figures);
-    let Verdict::Done = v else {
-        return v;
-    };
-    if !trailer_holds(file) {
-        return checks::refuse(13);
-    }
+    check_trailer(file)?;
     if back_in(file) < file.len() {
-        return checks::refuse(28);
+        return Err(Refusal::numbered(28));
     }
-    let v = same_job(site, file);
-    let Verdict::Done = v else {
-        return v;
-    };
-    let n = count_in(file);
-    judge_records(site, floor, find_records(file), n)
+    same_job(site, file)?;
+    let records = find_records(file);
+    judge_records(site, records)?;
+    Ok(records)
 }
 
-// The reader: every cell without a record gets its opening figure. A refusal leaves the table as lent.
+// The reader: 1, 3, 4, 27, then the file's own faults. Every cell without a record gets its opening figure. A refusal leaves the table as lent.
 pub fn read_table(
     width: usize,
     height: usize,
@@ -192,22 +172,13 @@ pub fn read_table(
     floor: &[u8],
     file: &[u8],
     table: &mut [u32],
-) -> Verdict
+) -> Result<(), Refusal>
     ensures { Reads (read_verdict (flat width height floor.now) q goals file.now (length table.old))
         (read_table (flat width height floor.now) q goals file.now table.old) result table.new }
 {
-    let site = Site {
-        width: width,
-        height: height,
-        goals: goals,
-        q: q,
-    };
-    let v = judge_read(site, floor, file, table.len());
-    let Verdict::Done = v else {
-        return v;
-    };
+    let site = Site::open(width, height, goals, q, floor, table.len())?;
+    let records = judge_file(&site, file)?;
     opening::fill_figures(width, height, goals, q, table);
-    let n = count_in(file);
-    apply_records(find_records(file), n, table);
-    Verdict::Done
+    apply_records(records, table);
+    Ok(())
 }

@@ -1,182 +1,145 @@
 // The writer of a table file: it judges everything before it stores.
-ghost use Rattle.std.specs.Prelude.{◌≡◌, ◌++◌, ◌+◌, ◌*◌, ◌≤◌, ◌<◌, length, drop};
+ghost use Rattle.std.specs.Prelude.{◌≡◌, ◌*◌, ◌≤◌, ◌<◌, length};
 ghost use Rattle.model.specs.Basics.{naming};
-ghost use Rattle.model.specs.Floor.{opening, goals_of};
-ghost use Rattle.model.specs.TableFile.{second_long, half, word, records_of, unlike, write_verdict, write_table};
+ghost use Rattle.model.specs.Floor.{size, goals_of};
+ghost use Rattle.model.specs.TableFile.{second_long, records_of, unlike, write_table};
 ghost use Rattle.model.specs.Writing.{Writes};
 ghost use Rattle.floor.specs.Moves.{flat};
-ghost use Rattle.notation.specs.Puts.{put};
-ghost use Rattle.table_file.specs.Site.{floor_at, goals_at, changed_at, places_of, job_of, back_of};
-ghost use Rattle.table_file.specs.Promises.{Opened};
+ghost use Rattle.notation.specs.Prints.{Prints, HasRoom};
+ghost use Rattle.table_file.specs.Site.{goals_at, changed_at, table_verdict};
+ghost use Rattle.table_file.specs.Trailer.{places_to, job_of, back_of, trailer_at};
 
-use super::Site;
-use super::trailer::{SECOND_LONG, goal_place};
-use answers::{Goals, Place, Verdict, Written};
-use notation::bytes::{put_half, put_pair, put_word};
-
-// The opening figure of a cell.
-fn opening_of(site: Site, floor: &[u8], cell: usize) -> usize
-    requires fact_1 { Opened (floor_at site floor.now) site.q (goals_at site) }
-    requires fact_2 { cell < site.width * site.height }
-    ensures { (result ≡ opening (floor_at site floor.now) site.q (goals_at site) cell) × (result < 4294967296) }
-{
-    floor::opening(site.width, site.height, site.goals, site.q, cell)
-}
+use super::site::{Named, Site};
+use super::trailer::{LETTERS, SECOND_LONG, goal_place};
+use answers::{Goals, Place, Refusal};
+use floor::MOST_GOALS;
+use notation::print::Printer;
 
 // Whether a free cell is below its opening figure, or a blocked one unlike it.
-fn is_unlike(site: Site, floor: &[u8], table: &[u32], x: usize) -> bool
-    requires fact_1 { Opened (floor_at site floor.now) site.q (goals_at site) }
-    requires fact_2 { (length table.now ≡ site.width * site.height) × (x < site.width * site.height) }
-    ensures { result ≡ unlike (floor_at site floor.now) site.q (goals_at site) table.now x }
+fn is_unlike(site: &Site, table: &[u32], x: usize) -> bool
+    requires on_floor { x < size site.now.floor }
+    requires long { length table.now ≡ size site.now.floor }
+    ensures { result ≡ unlike site.now.floor site.now.q (goals_at site.now) table.now x }
 {
-    let figure = notation::wide32(table[x]);
-    let least = opening_of(site, floor, x);
-    if floor::is_free(site.width, site.height, floor, x) {
-        return figure < least;
+    let figure = table[x] as usize;
+    let least = site.opening(x);
+    if site.floor.is_free(x) {
+        figure < least
+    } else {
+        figure != least
     }
-    figure != least
 }
 
 // 16: names the lowest such cell.
-fn judge_unlike(site: Site, floor: &[u8], table: &[u32]) -> Verdict
-    requires fact_1 { Opened (floor_at site floor.now) site.q (goals_at site) }
-    requires fact_2 { length table.now ≡ site.width * site.height }
-    ensures { result ≡ naming (site.width * site.height) (unlike (floor_at site floor.now) site.q (goals_at site) table.now) 16 }
+fn judge_unlike(site: &Site, table: &[u32]) -> Result<(), Refusal>
+    requires { length table.now ≡ size site.now.floor }
+    ensures { result ≡ naming (size site.now.floor) (unlike site.now.floor site.now.q (goals_at site.now) table.now) 16 }
 {
-    let mut x = 0;
-    while x < table.len() {
-        if is_unlike(site, floor, table, x) {
-            return checks::refuse_at(16, Place::Cell(x));
+    for x in 0..table.len() {
+        if is_unlike(site, table, x) {
+            return Err(Refusal {
+                number: 16,
+                place: Place::Cell(x),
+            });
         }
-        x += 1;
     }
-    Verdict::Done
+    Ok(())
 }
 
 // How many cells have a figure that differs from the opening figure.
-fn count_changed(site: Site, floor: &[u8], table: &[u32]) -> usize
-    requires fact_1 { Opened (floor_at site floor.now) site.q (goals_at site) }
-    requires fact_2 { length table.now ≡ site.width * site.height }
-    ensures { (result ≡ length (changed_at site floor.now table.now)) × (result ≤ 4096) }
+fn count_changed(site: &Site, table: &[u32]) -> usize
+    requires { length table.now ≡ size site.now.floor }
+    ensures { (result ≡ length (changed_at site.now table.now)) × (result ≤ 4096) }
 {
     let mut n = 0;
-    let mut x = 0;
-    while x < table.len() {
-        if notation::wide32(table[x]) != opening_of(site, floor, x) {
+    for (x, figure) in table.iter().enumerate() {
+        if *figure as usize != site.opening(x) {
             n += 1;
         }
-        x += 1;
     }
     n
 }
 
-// A record at a place.
-fn put_record(out: &mut [u8], at: usize, cell: usize, figure: usize)
-    requires { at + 6 ≤ length out.old }
-    ensures { out.new ≡ put at (half cell ++ word figure) out.old }
+// A record of each such cell.
+fn put_records(out: &mut Printer, site: &Site, table: &[u32])
+    requires long { length table.now ≡ size site.now.floor }
+    requires room { HasRoom out.old (6 * length (changed_at site.now table.now)) }
+    ensures { Prints out.old (records_of table.now (changed_at site.now table.now)) out.new }
 {
-    put_half(out, at, cell);
-    put_word(out, at + 2, figure);
-}
-
-// The records, from the first byte on; how many they are.
-fn put_records(site: Site, floor: &[u8], table: &[u32], out: &mut [u8]) -> usize
-    requires fact_1 { Opened (floor_at site floor.now) site.q (goals_at site) }
-    requires fact_2 { length table.now ≡ site.width * site.height }
-    requires fact_3 { 6 * length (changed_at site floor.now table.now) ≤ length out.old }
-    ensures { (result ≡ length (changed_at site floor.now table.now))
-        × (out.new ≡ records_of table.now (changed_at site floor.now table.now) ++ drop (6 * result) out.old) }
-{
-    let mut n = 0;
-    let mut x = 0;
-    while x < table.len() {
-        let figure = notation::wide32(table[x]);
-        if figure != opening_of(site, floor, x) {
-            put_record(out, 6 * n, x, figure);
-            n += 1;
+    for (x, figure) in table.iter().enumerate() {
+        let figure = *figure as usize;
+        if figure != site.opening(x) {
+            out.half(x);
+            out.word(figure);
         }
-        x += 1;
     }
-    n
 }
 
 // The trailer's goal places, 8 bytes.
-fn put_places(out: &mut [u8], at: usize, goals: Goals)
-    requires { at + 8 ≤ length out.old }
-    ensures { out.new ≡ put at (places_of (goals_of goals)) out.old }
+fn put_places(out: &mut Printer, goals: Goals)
+    requires { HasRoom out.old 8 }
+    ensures { Prints out.old (places_to (goals_of goals) 4) out.new }
 {
-    put_half(out, at, goal_place(goals, 0));
-    put_half(out, at + 2, goal_place(goals, 1));
-    put_half(out, at + 4, goal_place(goals, 2));
-    put_half(out, at + 6, goal_place(goals, 3));
+    for i in 0..MOST_GOALS {
+        out.half(goal_place(goals, i));
+    }
 }
 
 // The trailer's job, 14 bytes: width, height, goal count, a zero byte, the goal places, q and the edition;
-fn put_job(out: &mut [u8], at: usize, site: Site)
-    requires { at + 14 ≤ length out.old }
-    ensures { out.new ≡ put at (job_of site) out.old }
+fn put_job(out: &mut Printer, named: Named)
+    requires { HasRoom out.old 14 }
+    ensures { Prints out.old (job_of named) out.new }
 {
-    put_pair(out, at, site.width, site.height);
-    put_pair(out, at + 2, floor::goals_in(site.goals), 0);
-    put_places(out, at + 4, site.goals);
-    put_pair(out, at + 12, site.q, 2);
+    out.bytes(&[
+        named.width,
+        named.height,
+        floor::goals_in(named.goals) as u8,
+        0,
+    ]);
+    put_places(out, named.goals);
+    out.bytes(&[named.q, 2]);
 }
 
 // and what points back, 10 bytes: count, back and the letters.
-fn put_back(out: &mut [u8], at: usize, count: usize)
-    requires { (at + 10 ≤ length out.old) × (count < 65536) }
-    ensures { out.new ≡ put at (back_of count) out.old }
+fn put_back(out: &mut Printer, count: usize)
+    requires room { HasRoom out.old 10 }
+    requires fits { count < 65536 }
+    ensures { Prints out.old (back_of count) out.new }
 {
-    put_half(out, at, count);
-    put_word(out, at + 2, SECOND_LONG + 6 * count);
-    put_pair(out, at + 6, 80, 68);
-    put_pair(out, at + 8, 76, 84);
+    out.half(count);
+    out.word(SECOND_LONG + 6 * count);
+    out.bytes(LETTERS);
 }
 
 // The trailer of edition 2, 24 bytes.
-pub fn put_trailer(out: &mut [u8], at: usize, site: Site, count: usize)
-    requires { (at + second_long ≤ length out.old) × (count < 65536) }
-    ensures { out.new ≡ put at (job_of site ++ back_of count) out.old }
+pub fn put_trailer(out: &mut Printer, named: Named, count: usize)
+    requires room { HasRoom out.old second_long }
+    requires fits { count < 65536 }
+    ensures { Prints out.old (trailer_at named count) out.new }
 {
-    put_job(out, at, site);
-    put_back(out, at + 14, count);
+    put_job(out, named);
+    put_back(out, count);
 }
 
-// 1, 3, 4, 27, 5, 16 and 17.
-fn judge_write(site: Site, floor: &[u8], table: &[u32], room: usize) -> Verdict
-    ensures { result ≡ write_verdict (floor_at site floor.now) site.q site.goals table.now room }
+// 5, 16 and 17.
+fn judge_table(site: &Site, table: &[u32], room: usize) -> Result<(), Refusal>
+    requires { length table.now ≡ size site.now.floor }
+    ensures { result ≡ table_verdict site.now table.now room }
 {
-    let v = opening::open_table(
-        site.width,
-        site.height,
-        site.goals,
-        site.q,
-        floor,
-        table.len(),
-    );
-    let Verdict::Done = v else {
-        return v;
-    };
-    let v = checks::figures(table);
-    let Verdict::Done = v else {
-        return v;
-    };
-    let v = judge_unlike(site, floor, table);
-    let Verdict::Done = v else {
-        return v;
-    };
+    checks::figures(table)?;
+    judge_unlike(site, table)?;
     // Room for a record of every cell needs no count.
     if SECOND_LONG + 6 * table.len() <= room {
-        return Verdict::Done;
+        return Ok(());
     }
-    let count = count_changed(site, floor, table);
+    let count = count_changed(site, table);
     if room < SECOND_LONG + 6 * count {
-        return checks::refuse(17);
+        return Err(Refusal::numbered(17));
     }
-    Verdict::Done
+    Ok(())
 }
 
-// The writer: it fills the buffer from the first byte and answers the length. A refusal leaves the buffer as lent.
+// The writer: 1, 3, 4, 27, 5, 16 and 17. It fills the buffer from the first byte and answers the length. A refusal leaves the buffer as lent.
 pub fn write_table(
     width: usize,
     height: usize,
@@ -185,22 +148,14 @@ pub fn write_table(
     floor: &[u8],
     table: &[u32],
     buffer: &mut [u8],
-) -> Written
+) -> Result<usize, Refusal>
     ensures { Writes (write_table (flat width height floor.now) q goals table.now buffer.old) result buffer.new }
 {
-    let site = Site {
-        width: width,
-        height: height,
-        goals: goals,
-        q: q,
-    };
-    let v = judge_write(site, floor, table, buffer.len());
-    match v {
-        Verdict::Refused(r) => Written::Refused(r),
-        Verdict::Done => {
-            let n = put_records(site, floor, table, buffer);
-            put_trailer(buffer, 6 * n, site, n);
-            Written::Length(SECOND_LONG + 6 * n)
-        }
-    }
+    let site = Site::open(width, height, goals, q, floor, table.len())?;
+    judge_table(&site, table, buffer.len())?;
+    let mut out = Printer { out: buffer, at: 0 };
+    put_records(&mut out, &site, table);
+    let count = out.at / 6;
+    put_trailer(&mut out, site.named(), count);
+    Ok(out.at)
 }

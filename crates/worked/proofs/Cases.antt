@@ -9,8 +9,8 @@ use Rattle.learning.specs.Ground.{list_of}
 use Rattle.answers.specs.declared.Job.{Job}
 use Rattle.answers.specs.declared.Place.TheVariants as P
 use Rattle.answers.specs.declared.Answer.TheVariants as A
-use Rattle.answers.specs.declared.Verdict.{Verdict}
-use Rattle.answers.specs.declared.Verdict.TheVariants as Vd
+use Rattle.answers.specs.Outcomes.{Verdict}
+use Rattle.std.specs.Prelude.{Ok}
 use Rattle.model.specs.Decision.{Outcome, decide, at_goal}
 use Rattle.model.specs.Opening.{open_job, open_trial, open_run}
 use Rattle.model.specs.Ride.{begun, ride_from, trial}
@@ -58,9 +58,9 @@ pub record Cases : Type 0 where
       × (first_of (job 1 1 2 1000)
       ≡ leaves (A.Forward 7 18 1) (state 7 18 1) (0 ∷ 20 ∷ 40 ∷ 20 ∷ 28 ∷ 48 ∷ 58 ∷ 48 ∷ 56 ∷ []) (6 ∷ replicate 8 77) (9 ∷ 2 ∷ replicate 288 9))
   -- P10. Figure 51 at cell 7 opens with 7, cell 7 (39, which is accepted now);
-  pub p10 : Opens (job 1 1 1 1000) hall 6 (set figures 7 51) (no 7 (P.Cell 7)) × Opens (job 1 1 1 1000) hall 6 (set figures 7 39) Vd.Done
+  pub p10 : Opens (job 1 1 1 1000) hall 6 (set figures 7 51) (no 7 (P.Cell 7)) × Opens (job 1 1 1 1000) hall 6 (set figures 7 39) (Ok tt)
   -- P11. figure 50 is accepted (38, which still is).
-  pub p11 : Opens (job 1 1 1 1000) hall 6 (set figures 7 50) Vd.Done × Opens (job 1 1 1 1000) hall 6 (set figures 7 38) Vd.Done
+  pub p11 : Opens (job 1 1 1 1000) hall 6 (set figures 7 50) (Ok tt) × Opens (job 1 1 1 1000) hall 6 (set figures 7 38) (Ok tt)
   -- P12. Middle row `@@@`: 6.
   pub p12 : Opens (job 1 1 1 1000) shut 6 figures (no 6 P.Nowhere)
 

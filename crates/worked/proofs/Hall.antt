@@ -7,12 +7,11 @@ use Rattle.answers.specs.declared.State.{State}
 use Rattle.answers.specs.declared.Place.{Place}
 use Rattle.answers.specs.declared.Answer.{Answer}
 use Rattle.answers.specs.declared.Answer.TheVariants as A
-use Rattle.answers.specs.declared.Verdict.{Verdict}
-use Rattle.answers.specs.declared.Verdict.TheVariants as Vd
+use Rattle.answers.specs.Outcomes.{Verdict}
+use Rattle.std.specs.Prelude.{Ok, Err}
 use Rattle.model.specs.Floor.{one_goal, opening_table}
 use Rattle.model.specs.Checks.{floor_of, goals}
 use Rattle.answers.specs.declared.Report.{Report}
-use Rattle.answers.specs.declared.Tried.TheVariants as Td
 use Rattle.model.specs.Decision.{Outcome, decide}
 use Rattle.model.specs.Ride.{TrialOutcome}
 use Rattle.worked.proofs.Text.{bytes}
@@ -50,7 +49,7 @@ leaves answer state table path moves = record { answer = answer; state = state; 
 
 -- a refusal by its number and place, as a verdict and as a decision's answer
 abbrev pub no : ℕ → Place → Verdict
-no number place = Vd.Refused (record { number = number; place = place })
+no number place = Err (record { number = number; place = place })
 
 abbrev pub refuses : ℕ → Place → Answer
 refuses number place = A.Refused (record { number = number; place = place })
@@ -70,7 +69,7 @@ first_of j = decide j hall (state 6 0 0) (opening_of j hall) fresh buffer 1
 -- a trial's report by its four counts, and what the trial leaves
 abbrev pub made : (decisions learned kept travel : ℕ) → (table path : List ℕ) → TrialOutcome
 made decisions learned kept travel table path = record {
-  answer = Td.Made (record { decisions = decisions; learned = learned; kept = kept; travel = travel });
+  answer = Ok (record { decisions = decisions; learned = learned; kept = kept; travel = travel });
   table = table;
   path = path;
 }

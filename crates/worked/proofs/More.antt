@@ -4,8 +4,8 @@ use mathlib.Core.Bool.{true}
 use mathlib.Core.List.{[], ◌∷◌, ◌++◌}
 use lib.ListN.{replicate}
 use Rattle.answers.specs.declared.Place.TheVariants as P
-use Rattle.answers.specs.declared.Ran.TheVariants as Rn
-use Rattle.answers.specs.declared.Written.TheVariants as Wr
+use Rattle.answers.specs.Outcomes.{made_run}
+use Rattle.std.specs.Prelude.{Ok}
 use Rattle.model.specs.Floor.{one_goal}
 use Rattle.model.specs.Checks.{floor_of}
 use Rattle.model.specs.Decision.{decide}
@@ -35,14 +35,14 @@ pub record More : Type 0 where
   pub width_65 : open_job (row_job 65 0 1 0) (replicate 65 0) 0 (replicate 65 0) ≡ no 1 P.Nowhere
   -- the run below: two records, the later ones untouched
   pub worked_run : run (job 1 1 1 0) hall 6 10 figures fresh (replicate 11 blank) ≡ record {
-    answer = Rn.Made 2 true;
+    answer = made_run 2 true;
     table = learnt;
     path = 6 ∷ 7 ∷ 8 ∷ 5 ∷ 2 ∷ 1 ∷ replicate 3 77;
     reports = record { decisions = 22; learned = 84; kept = 60; travel = 180 } ∷ record { decisions = 6; learned = 0; kept = 60; travel = 60 } ∷ replicate 9 blank;
   }
   -- After the run below the table file is 00 05 00 00 00 1E, 00 06 00 00 00 3C, 00 07 00 00 00 32, 00 08 00 00 00 28, 03 03 00 00 01 01 00 04 00 00 00 28 50 44 4C 54
   -- (two records, 48 of 6 and 38 of 7).
-  pub file : write_table (floor_of (job 1 1 1 0) hall) 1 (one_goal 0) learnt (replicate 50 5) ≡ record { answer = Wr.Length 48; buffer = worked_file ++ 5 ∷ 5 ∷ [] }
+  pub file : write_table (floor_of (job 1 1 1 0) hall) 1 (one_goal 0) learnt (replicate 50 5) ≡ record { answer = Ok 48; buffer = worked_file ++ 5 ∷ 5 ∷ [] }
   -- `6 0 1 1 1 0 10` and the floor above give, whole (`262176 8 42 48 68`, `2176 4 0 48 48`, `settled 2`):
   pub printed : aisle (bytes "6 0 1 1 1 0 10\n" ++ hall_text) ≡ bytes "262266220466220066 22 84 60 180\n220066 6 0 60 60\nsettled 2\n"
 

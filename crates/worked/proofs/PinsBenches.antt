@@ -8,10 +8,8 @@ use Rattle.answers.specs.declared.Answer.TheVariants as A
 use Rattle.answers.specs.declared.Goals.{Goals}
 use Rattle.answers.specs.declared.Job.{Job}
 use Rattle.answers.specs.declared.Place.TheVariants as P
-use Rattle.answers.specs.declared.Verdict.{Verdict}
-use Rattle.answers.specs.declared.Verdict.TheVariants as Vd
-use Rattle.answers.specs.declared.Written.TheVariants as Wr
-use Rattle.answers.specs.declared.Ran.TheVariants as Rn
+use Rattle.answers.specs.Outcomes.{Verdict, made_run}
+use Rattle.std.specs.Prelude.{Ok}
 use Rattle.model.specs.Floor.{Floor, goals_of, opening_table}
 use Rattle.model.specs.Checks.{floor_of}
 use Rattle.model.specs.Opening.{distances, open_job, open_trial, open_run, open_table}
@@ -81,9 +79,9 @@ pub record PinsBenches : Type 0 where
   pub five_named : opens (named 5 0 1 2 5) ≡ refused 27
   pub equal : map opens (two 5 5 ∷ named 3 0 8 8 7 ∷ []) ≡ refused 27 ∷ refused 27 ∷ []
   pub falling : map opens (two 8 0 ∷ named 3 0 8 5 7 ∷ named 4 0 1 8 2 ∷ []) ≡ refused 27 ∷ refused 27 ∷ refused 27 ∷ []
-  pub one_to_four : map opens (named 1 0 0 0 0 ∷ two 0 8 ∷ named 3 0 5 8 0 ∷ named 4 0 1 5 8 ∷ []) ≡ Vd.Done ∷ Vd.Done ∷ Vd.Done ∷ Vd.Done ∷ []
+  pub one_to_four : map opens (named 1 0 0 0 0 ∷ two 0 8 ∷ named 3 0 5 8 0 ∷ named 4 0 1 5 8 ∷ []) ≡ Ok tt ∷ Ok tt ∷ Ok tt ∷ Ok tt ∷ []
   -- places past the count are not looked at
-  pub places_past : opens (named 1 0 99 99 99) ≡ Vd.Done
+  pub places_past : opens (named 1 0 99 99 99) ≡ Ok tt
   -- after 4, which judges the first four; before 5
   pub four_first : map opens (two 8 4 ∷ named 5 0 1 2 9 ∷ named 4 0 1 2 3 ∷ []) ≡ refused 4 ∷ refused 4 ∷ refused 4 ∷ []
   pub start_first : open_job (toward (two 8 0)) hall 3 figures ≡ refused 4
@@ -106,10 +104,10 @@ pub record PinsBenches : Type 0 where
   -- the distance is to the nearest: with 0 and 8 cell 6 is 20 from 8, and 60 from 0
   pub nearest : map (λ x. get_or (distances (toward (two 0 8)) hall) x 0) (0 ∷ 1 ∷ 2 ∷ 5 ∷ 6 ∷ 7 ∷ 8 ∷ []) ≡ 0 ∷ 10 ∷ 20 ∷ 10 ∷ 20 ∷ 10 ∷ 0 ∷ []
   -- 6: no walk to any, where the middle row is shut 6 reaches 8 and not 0
-  pub one_reached : open_job (toward (two 0 8)) (set hall 5 1) 6 (0 ∷ 0 ∷ 0 ∷ 0 ∷ 0 ∷ 0 ∷ 0 ∷ 0 ∷ 0 ∷ []) ≡ Vd.Done
+  pub one_reached : open_job (toward (two 0 8)) (set hall 5 1) 6 (0 ∷ 0 ∷ 0 ∷ 0 ∷ 0 ∷ 0 ∷ 0 ∷ 0 ∷ 0 ∷ []) ≡ Ok tt
   pub none_reached : open_job (toward (two 0 1)) (set hall 5 1) 6 (0 ∷ 0 ∷ 0 ∷ 0 ∷ 0 ∷ 0 ∷ 0 ∷ 0 ∷ 0 ∷ []) ≡ refused 6
   -- 7: the table that was learned for bench 0, sound for it, is refused where the nearer bench 8 opens; it names the lowest such cell
-  pub nearer_bench_sound : open_job (toward (named 1 0 0 0 0)) hall 6 learnt ≡ Vd.Done
+  pub nearer_bench_sound : open_job (toward (named 1 0 0 0 0)) hall 6 learnt ≡ Ok tt
   pub nearer_bench_opens : open_job (toward (two 0 8)) hall 6 learnt ≡ no 7 (P.Cell 5)
   -- arriving at any of them ends the trial
   pub arrived : map (λ x. (decide (toward (two 0 8)) hall (state x 0 0) figures fresh buffer 0).answer) (0 ∷ 8 ∷ []) ≡ A.Arrived ∷ A.Arrived ∷ []
@@ -126,19 +124,19 @@ pub record PinsBenches : Type 0 where
   pub yard-opening : opening_table (floor_of (in_yard both) yard) 1 (goals_of both) ≡ yard_opening
   pub yard-run : run (in_yard both) yard 11 3 yard_opening (replicate 16 77) (blank ∷ blank ∷ blank ∷ [])
       ≡ record {
-        answer = Rn.Made 2 true;
+        answer = made_run 2 true;
         table = yard_learnt;
         path = 11 ∷ 10 ∷ 9 ∷ replicate 13 77;
         reports = record { decisions = 3; learned = 14; kept = 34; travel = 34 } ∷ record { decisions = 3; learned = 0; kept = 34; travel = 34 } ∷ blank ∷ [];
       }
   -- where a bench closes the table stays sound; where it opens again what was learned without it is refused
-  pub yard_closes : map (λ goal. open_job (in_yard (named 1 goal 0 0 0)) yard 11 yard_learnt) (3 ∷ 12 ∷ []) ≡ Vd.Done ∷ Vd.Done ∷ []
+  pub yard_closes : map (λ goal. open_job (in_yard (named 1 goal 0 0 0)) yard 11 yard_learnt) (3 ∷ 12 ∷ []) ≡ Ok tt ∷ Ok tt ∷ []
   pub yard_opens_again : open_job (in_yard both) yard 11 yard_alone ≡ no 7 (P.Cell 4)
   -- Edition 2, read: the job's goals, the count and each place, unused ones FF FF
-  pub accepted : reads one_record ≡ Vd.Done
+  pub accepted : reads one_record ≡ Ok tt
   pub read : read_table floor 1 (two 0 8) one_record (replicate 9 5) ≡ 0 ∷ 10 ∷ 20 ∷ 10 ∷ 14 ∷ 10 ∷ 48 ∷ 10 ∷ 0 ∷ []
   pub found : find_records (9 ∷ 8 ∷ worked_file) ≡ worked_records
-  pub no_records : reads (trailer 0 24) ≡ Vd.Done
+  pub no_records : reads (trailer 0 24) ≡ Ok tt
   -- 13: under 24 bytes, letters, editions 0 and 3, the zero byte, `back` not 24 + 6 × count, `back` past the start
   pub short : check_trailer (drop 1 (trailer 0 24)) ≡ refused 13
   pub letters : map (λ i. with (20 + i) 65) (0 ∷ 1 ∷ 2 ∷ 3 ∷ []) ≡ refused 13 ∷ refused 13 ∷ refused 13 ∷ refused 13 ∷ []
@@ -146,19 +144,19 @@ pub record PinsBenches : Type 0 where
   pub zero-byte : map (with 3) (1 ∷ 255 ∷ []) ≡ refused 13 ∷ refused 13 ∷ []
   pub back : map (with 19) (22 ∷ 29 ∷ 31 ∷ []) ≡ refused 13 ∷ refused 13 ∷ refused 13 ∷ []
   pub past_start : reads (drop 1 one_record) ≡ refused 13
-  pub check : map check_trailer (worked_file ∷ first_file ∷ set worked_file 47 85 ∷ []) ≡ Vd.Done ∷ Vd.Done ∷ refused 13 ∷ []
+  pub check : map check_trailer (worked_file ∷ first_file ∷ set worked_file 47 85 ∷ []) ≡ Ok tt ∷ Ok tt ∷ refused 13 ∷ []
   -- "An edition 1 reader answers 13 to an edition 2 file"
-  pub first_reader : map check_first (worked_file ∷ first_file ∷ []) ≡ refused 13 ∷ Vd.Done ∷ []
+  pub first_reader : map check_first (worked_file ∷ first_file ∷ []) ≡ refused 13 ∷ Ok tt ∷ []
   -- 14: width, height, goal count, each place in each of its bytes, and q
   pub other_job : map (λ i. with i 4) (0 ∷ 1 ∷ 2 ∷ 4 ∷ 5 ∷ 6 ∷ 7 ∷ 8 ∷ 9 ∷ 10 ∷ 11 ∷ 12 ∷ []) ≡ replicate 12 (refused 14)
   pub fewer_goals : read_verdict floor 1 (named 1 0 0 0 0) one_record 9 ≡ refused 14
   pub more_goals : read_verdict floor 1 (named 3 0 5 8 0) one_record 9 ≡ refused 14
   -- edition 1 names one goal: a job with another beside it is not its
-  pub first_of_two : map (λ g. read_verdict floor 1 g first_file 9) (named 1 0 0 0 0 ∷ two 0 8 ∷ named 1 8 0 0 0 ∷ []) ≡ Vd.Done ∷ refused 14 ∷ refused 14 ∷ []
+  pub first_of_two : map (λ g. read_verdict floor 1 g first_file 9) (named 1 0 0 0 0 ∷ two 0 8 ∷ named 1 8 0 0 0 ∷ []) ≡ Ok tt ∷ refused 14 ∷ refused 14 ∷ []
   -- Edition 2, written: with two goals and with four
-  pub write_two : write_table floor 1 (two 0 8) (0 ∷ 10 ∷ 20 ∷ 10 ∷ 14 ∷ 10 ∷ 48 ∷ 10 ∷ 0 ∷ []) (replicate 31 5) ≡ record { answer = Wr.Length 30; buffer = one_record ++ 5 ∷ [] }
+  pub write_two : write_table floor 1 (two 0 8) (0 ∷ 10 ∷ 20 ∷ 10 ∷ 14 ∷ 10 ∷ 48 ∷ 10 ∷ 0 ∷ []) (replicate 31 5) ≡ record { answer = Ok 30; buffer = one_record ++ 5 ∷ [] }
   pub write_four : write_table floor 1 (named 4 0 2 6 8) (0 ∷ 10 ∷ 0 ∷ 10 ∷ 14 ∷ 10 ∷ 0 ∷ 10 ∷ 0 ∷ []) (replicate 24 5)
-      ≡ record { answer = Wr.Length 24; buffer = 3 ∷ 3 ∷ 4 ∷ 0 ∷ 0 ∷ 0 ∷ 0 ∷ 2 ∷ 0 ∷ 6 ∷ 0 ∷ 8 ∷ 1 ∷ 2 ∷ 0 ∷ 0 ∷ 0 ∷ 0 ∷ 0 ∷ 24 ∷ 80 ∷ 68 ∷ 76 ∷ 84 ∷ [] }
+      ≡ record { answer = Ok 24; buffer = 3 ∷ 3 ∷ 4 ∷ 0 ∷ 0 ∷ 0 ∷ 0 ∷ 2 ∷ 0 ∷ 6 ∷ 0 ∷ 8 ∷ 1 ∷ 2 ∷ 0 ∷ 0 ∷ 0 ∷ 0 ∷ 0 ∷ 24 ∷ 80 ∷ 68 ∷ 76 ∷ 84 ∷ [] }
   pub write-short : write_verdict floor 1 (two 0 8) (0 ∷ 10 ∷ 20 ∷ 10 ∷ 14 ∷ 10 ∷ 48 ∷ 10 ∷ 0 ∷ []) 29 ≡ refused 17
 
 pub pins_benches : PinsBenches

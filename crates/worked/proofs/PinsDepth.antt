@@ -5,9 +5,8 @@ use mathlib.Core.Path.{◌≡◌, refl}
 use mathlib.Core.List.{List, [], ◌∷◌, ◌++◌, map}
 use lib.ListN.{length, replicate, drop}
 use Rattle.answers.specs.declared.Place.TheVariants as P
-use Rattle.answers.specs.declared.Verdict.{Verdict}
-use Rattle.answers.specs.declared.Verdict.TheVariants as Vd
-use Rattle.answers.specs.declared.Written.TheVariants as Wr
+use Rattle.answers.specs.Outcomes.{Verdict}
+use Rattle.std.specs.Prelude.{Ok, Err}
 use Rattle.model.specs.Line.{aisle_by, aisle}
 use Rattle.model.specs.KeepDepth.{old_depth, line_form, with_old_depth, with_depth, lines_of, longest_line, keep_depth}
 use Rattle.model.specs.Compute.{compute}
@@ -16,14 +15,14 @@ use Rattle.worked.proofs.Text.{bytes, times}
 
 -- a line with its depth
 abbrev Becomes : (line new : String) → Type 0
-Becomes line new = (line_form (bytes line) ≡ Vd.Done) × (with_old_depth (bytes line) ≡ bytes new)
+Becomes line new = (line_form (bytes line) ≡ Ok tt) × (with_old_depth (bytes line) ≡ bytes new)
 
 -- lines that are copied, and malformed ones
 abbrev stays : String → Verdict × List ℕ
 stays line = (line_form (bytes line), with_old_depth (bytes line))
 
 abbrev stayed : String → Verdict × List ℕ
-stayed line = (Vd.Done, bytes line)
+stayed line = (Ok tt, bytes line)
 
 abbrev Malformed : List String → Type 0
 Malformed lines = map (λ line. line_form (bytes line)) lines ≡ map (λ line. no 3 P.Nowhere) lines
@@ -34,14 +33,14 @@ sevens = "1234567 0000000 7654321 9999999 1000000 0000001 9876543\n"
 
 -- written into so many places of 5, and refused, which leaves them
 abbrev Written : (line : String) → (room : ℕ) → (new : String) → Type 0
-Written line room new = with_depth (bytes line) (replicate room 5) ≡ record { answer = Wr.Length (length (bytes new)); buffer = bytes new ++ drop (length (bytes new)) (replicate room 5) }
+Written line room new = with_depth (bytes line) (replicate room 5) ≡ record { answer = Ok (length (bytes new)); buffer = bytes new ++ drop (length (bytes new)) (replicate room 5) }
 
 abbrev Unwritten : (line : String) → (room number : ℕ) → Type 0
-Unwritten line room number = with_depth (bytes line) (replicate room 5) ≡ record { answer = Wr.Refused (record { number = number; place = P.Nowhere }); buffer = replicate room 5 }
+Unwritten line room number = with_depth (bytes line) (replicate room 5) ≡ record { answer = Err (record { number = number; place = P.Nowhere }); buffer = replicate room 5 }
 
 -- a list of lines copied, and one that stops at a line
 abbrev Copies : (lines written : String) → Type 0
-Copies lines written = keep_depth (bytes lines) ≡ record { written = bytes written; verdict = Vd.Done }
+Copies lines written = keep_depth (bytes lines) ≡ record { written = bytes written; verdict = Ok tt }
 
 abbrev Stops : (lines written : String) → (line : ℕ) → Type 0
 Stops lines written line = keep_depth (bytes lines) ≡ record { written = bytes written; verdict = no 3 (P.Line line) }

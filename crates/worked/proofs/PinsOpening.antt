@@ -7,11 +7,9 @@ use lib.ListN.{length, set, replicate, take}
 use Rattle.answers.specs.declared.Job.{Job}
 use Rattle.answers.specs.declared.Place.{Place}
 use Rattle.answers.specs.declared.Place.TheVariants as P
-use Rattle.answers.specs.declared.Verdict.{Verdict}
-use Rattle.answers.specs.declared.Verdict.TheVariants as Vd
+use Rattle.answers.specs.Outcomes.{Verdict}
+use Rattle.std.specs.Prelude.{Ok, Err}
 use Rattle.answers.specs.declared.Report.{Report}
-use Rattle.answers.specs.declared.Tried.TheVariants as Td
-use Rattle.answers.specs.declared.Ran.TheVariants as Rn
 use Rattle.model.specs.Floor.{one_goal}
 use Rattle.model.specs.Opening.{distances, open_job, open_run, open_table, filled}
 use Rattle.model.specs.Ride.{trial, run}
@@ -49,17 +47,17 @@ across bytes start figure = open_job square bytes start (0 ∷ 10 ∷ 10 ∷ fig
 -- a refused trial and a refused run leave their lists as lent
 abbrev TrialRefused : Job → List ℕ → (start : ℕ) → (table path : List ℕ) → (number : ℕ) → Place → Type 0
 TrialRefused j bytes start table path number place =
-    trial j bytes start table path ≡ record { answer = Td.Refused (record { number = number; place = place }); table = table; path = path }
+    trial j bytes start table path ≡ record { answer = Err (record { number = number; place = place }); table = table; path = path }
 
 abbrev RunRefused : Job → List ℕ → (start trials : ℕ) → (table path : List ℕ) → (reports : List Report) → (number : ℕ) → Place → Type 0
 RunRefused j bytes start trials table path reports number place =
     run j bytes start trials table path reports
-    ≡ record { answer = Rn.Refused (record { number = number; place = place }); table = table; path = path; reports = reports }
+    ≡ record { answer = Err (record { number = number; place = place }); table = table; path = path; reports = reports }
 
 pub record PinsOpening : Type 0 where
   -- Width and height 1 to 64
-  pub least_size : fills 1 1 1 1 ≡ Vd.Done
-  pub greatest-size : fills 64 64 4096 4096 ≡ Vd.Done
+  pub least_size : fills 1 1 1 1 ≡ Ok tt
+  pub greatest-size : fills 64 64 4096 4096 ≡ Ok tt
   pub width_0 : fills 0 1 0 0 ≡ no 1 P.Nowhere
   pub height_0 : fills 1 0 0 0 ≡ no 1 P.Nowhere
   pub width_65 : fills 65 1 65 65 ≡ no 1 P.Nowhere
@@ -70,13 +68,13 @@ pub record PinsOpening : Type 0 where
   pub table-short : fills 3 2 6 5 ≡ no 1 P.Nowhere
   pub table-long : fills 3 2 6 7 ≡ no 1 P.Nowhere
   -- Depth d 1 to 8. Weight p/q with 1 ≤ p ≤ q ≤ 16. Quota T 0 to 1,000,000
-  pub settings-least : sets 1 1 1 0 ≡ Vd.Done
-  pub settings-greatest : sets 8 16 16 1000000 ≡ Vd.Done
+  pub settings-least : sets 1 1 1 0 ≡ Ok tt
+  pub settings-greatest : sets 8 16 16 1000000 ≡ Ok tt
   pub depth_0 : sets 0 1 1 0 ≡ no 3 P.Nowhere
   pub depth_9 : sets 9 1 1 0 ≡ no 3 P.Nowhere
   pub p_0 : sets 1 0 1 0 ≡ no 3 P.Nowhere
   pub p_above_q : sets 1 3 2 0 ≡ no 3 P.Nowhere
-  pub p_below_q : sets 1 1 16 0 ≡ Vd.Done
+  pub p_below_q : sets 1 1 16 0 ≡ Ok tt
   pub q_17 : sets 1 1 17 0 ≡ no 3 P.Nowhere
   pub p_17 : sets 1 17 17 0 ≡ no 3 P.Nowhere
   pub quota-above : sets 1 1 1 1000001 ≡ no 3 P.Nowhere
@@ -95,21 +93,21 @@ pub record PinsOpening : Type 0 where
   pub seven_last : open_job (goal_at 0) hall 6 (set figures 8 41) ≡ no 7 (P.Cell 8)
   -- its true figure is q times its true distance
   pub seven_scaled : open_job (job 1 1 2 0) hall 6 (set (opening_of (job 1 1 2 0) hall) 7 101) ≡ no 7 (P.Cell 7)
-  pub seven_met : open_job (job 1 1 2 0) hall 6 (set (opening_of (job 1 1 2 0) hall) 7 100) ≡ Vd.Done
+  pub seven_met : open_job (job 1 1 2 0) hall 6 (set (opening_of (job 1 1 2 0) hall) 7 100) ≡ Ok tt
   -- 6: no walk from the start, here since each diagonal from it passes two blocked cells
   pub shut_in : open_job (goal_at 0) boxed 4 figures ≡ no 6 P.Nowhere
   -- a true distance is 14 by a diagonal, and 20 by two straights where a cell beside the diagonal is blocked; with both blocked there is none (113 stands for that)
   pub by_diagonal : distances square (0 ∷ 0 ∷ 0 ∷ 0 ∷ []) ≡ 0 ∷ 10 ∷ 10 ∷ 14 ∷ []
   pub by_straights : distances square (0 ∷ 1 ∷ 0 ∷ 0 ∷ []) ≡ 0 ∷ 113 ∷ 10 ∷ 20 ∷ []
   pub by_none : distances square (0 ∷ 1 ∷ 1 ∷ 0 ∷ []) ≡ 0 ∷ 113 ∷ 113 ∷ 113 ∷ []
-  pub diagonal-met : across (0 ∷ 0 ∷ 0 ∷ 0 ∷ []) 3 14 ≡ Vd.Done
+  pub diagonal-met : across (0 ∷ 0 ∷ 0 ∷ 0 ∷ []) 3 14 ≡ Ok tt
   pub diagonal-above : across (0 ∷ 0 ∷ 0 ∷ 0 ∷ []) 3 15 ≡ no 7 (P.Cell 3)
-  pub straights_met : across (0 ∷ 1 ∷ 0 ∷ 0 ∷ []) 3 20 ≡ Vd.Done
+  pub straights_met : across (0 ∷ 1 ∷ 0 ∷ 0 ∷ []) 3 20 ≡ Ok tt
   pub straights_above : across (0 ∷ 1 ∷ 0 ∷ 0 ∷ []) 3 21 ≡ no 7 (P.Cell 3)
   pub none_from : across (0 ∷ 1 ∷ 1 ∷ 0 ∷ []) 3 14 ≡ no 6 P.Nowhere
-  pub none_beside : across (0 ∷ 1 ∷ 1 ∷ 0 ∷ []) 0 1834560 ≡ Vd.Done
+  pub none_beside : across (0 ∷ 1 ∷ 1 ∷ 0 ∷ []) 0 1834560 ≡ Ok tt
   -- cells that cannot reach it, and blocked ones, may stand as high as the ceiling
-  pub unreaching : open_job (goal_at 0) shut 1 (set (set figures 3 1834560) 6 1834560) ≡ Vd.Done
+  pub unreaching : open_job (goal_at 0) shut 1 (set (set figures 3 1834560) 6 1834560) ≡ Ok tt
   -- a trial also judges its path list, after 1 and before 3
   pub trial_1_2 : TrialRefused (job 0 1 1 0) hall 6 (take 8 figures) [] 1 P.Nowhere
   pub trial_2_3 : TrialRefused (job 0 1 1 0) hall 6 figures (replicate 8 77) 2 P.Nowhere
@@ -124,22 +122,22 @@ pub record PinsOpening : Type 0 where
   pub run_trials_0 : RunRefused (job 1 1 1 0) hall 3 0 figures fresh (blank ∷ []) 3 P.Nowhere
   pub run_4 : RunRefused (job 1 1 1 0) hall 3 1 figures fresh (blank ∷ []) 4 P.Nowhere
   pub run_5 : RunRefused (goal_at 0) hall 6 1 (set figures 4 1834561) fresh (blank ∷ []) 5 (P.Cell 4)
-  pub reports_meet : runs 1 9 10 10 ≡ Vd.Done
+  pub reports_meet : runs 1 9 10 10 ≡ Ok tt
   pub reports-short : runs 1 9 10 9 ≡ no 2 P.Nowhere
   -- reports shorter than trials, before the trials' own range
   pub reports_first : runs 1 9 1001 1000 ≡ no 2 P.Nowhere
-  pub trials_1000 : runs 1 9 1000 1000 ≡ Vd.Done
+  pub trials_1000 : runs 1 9 1000 1000 ≡ Ok tt
   pub trials_1001 : runs 1 9 1001 1001 ≡ no 3 P.Nowhere
   -- Filling a table with opening figures: 1 before 3, q alone, before 4, the goal alone
   pub fill_1_3 : open_table (record { width = 3; height = 3; bytes = hall }) 0 (one_goal 0) 8 ≡ no 1 P.Nowhere
   pub fill_3_4 : open_table (record { width = 3; height = 3; bytes = hall }) 17 (one_goal 4) 9 ≡ no 3 P.Nowhere
   pub fill_q_0 : open_table (record { width = 3; height = 3; bytes = hall }) 0 (one_goal 0) 9 ≡ no 3 P.Nowhere
-  pub fill_q_16 : open_table (record { width = 3; height = 3; bytes = hall }) 16 (one_goal 0) 9 ≡ Vd.Done
+  pub fill_q_16 : open_table (record { width = 3; height = 3; bytes = hall }) 16 (one_goal 0) 9 ≡ Ok tt
   pub fill_blocked : open_table (record { width = 3; height = 3; bytes = hall }) 1 (one_goal 4) 9 ≡ no 4 P.Nowhere
   pub fill_off : open_table (record { width = 3; height = 3; bytes = hall }) 1 (one_goal 9) 9 ≡ no 4 P.Nowhere
   -- 14 × the smaller + 10 × the difference, on a floor wider than high
-  pub fill : filled Vd.Done (record { width = 4; height = 2; bytes = replicate 8 0 }) 3 (one_goal 5) (replicate 8 9) ≡ 42 ∷ 30 ∷ 42 ∷ 72 ∷ 30 ∷ 0 ∷ 30 ∷ 60 ∷ []
-  pub fill_all : filling 1 0 (replicate 9 5) ≡ (Vd.Done, figures)
+  pub fill : filled (Ok tt) (record { width = 4; height = 2; bytes = replicate 8 0 }) 3 (one_goal 5) (replicate 8 9) ≡ 42 ∷ 30 ∷ 42 ∷ 72 ∷ 30 ∷ 0 ∷ 30 ∷ 60 ∷ []
+  pub fill_all : filling 1 0 (replicate 9 5) ≡ (Ok tt, figures)
   -- a refused table stays as lent
   pub fill-short : filling 1 0 (replicate 8 5) ≡ (no 1 P.Nowhere, replicate 8 5)
   pub fill-scale : filling 17 0 (replicate 9 5) ≡ (no 3 P.Nowhere, replicate 9 5)

@@ -5,9 +5,8 @@ use mathlib.Core.List.{List, [], ◌∷◌, ◌++◌, map}
 use lib.ListN.{length, set, replicate, drop}
 use Rattle.answers.specs.declared.Goals.{Goals}
 use Rattle.answers.specs.declared.Place.TheVariants as P
-use Rattle.answers.specs.declared.Verdict.{Verdict}
-use Rattle.answers.specs.declared.Verdict.TheVariants as Vd
-use Rattle.answers.specs.declared.Written.TheVariants as Wr
+use Rattle.answers.specs.Outcomes.{Verdict}
+use Rattle.std.specs.Prelude.{Ok, Err}
 use Rattle.model.specs.Floor.{Floor, one_goal}
 use Rattle.model.specs.TableFile.{check_trailer, find_records, read_verdict, read_table}
 use Rattle.model.specs.Renewal.{renew_file, longest}
@@ -32,11 +31,11 @@ Unread q g file number = reading q g file ≡ (no number P.Nowhere, replicate 9 
 
 -- renewing into so many places of 5: what is answered, and the buffer
 abbrev Renewed : (file : List ℕ) → (room : ℕ) → (new : List ℕ) → Type 0
-Renewed file room new = renew_file file (replicate room 5) ≡ record { answer = Wr.Length (length new); buffer = new ++ drop (length new) (replicate room 5) }
+Renewed file room new = renew_file file (replicate room 5) ≡ record { answer = Ok (length new); buffer = new ++ drop (length new) (replicate room 5) }
 
 -- a refused renewing leaves the buffer as lent
 abbrev Unrenewed : (file : List ℕ) → (room number : ℕ) → Type 0
-Unrenewed file room number = renew_file file (replicate room 5) ≡ record { answer = Wr.Refused (record { number = number; place = P.Nowhere }); buffer = replicate room 5 }
+Unrenewed file room number = renew_file file (replicate room 5) ≡ record { answer = Err (record { number = number; place = P.Nowhere }); buffer = replicate room 5 }
 
 -- trailers without records, whose job no floor has: of edition 1 with width, height and q 0 and the goal FF FF, and what that becomes; of edition 2 with nine goals, out of order
 abbrev no_job : List ℕ
@@ -55,7 +54,7 @@ pub record PinsRenewal : Type 0 where
   pub ahead-several : Unread 1 (one_goal 0) (9 ∷ 8 ∷ 7 ∷ worked_file) 28
   pub ahead-table : Unread 1 (one_goal 0) (worked_file ++ worked_file) 28
   pub ahead_none : Unread 1 (one_goal 0) (0 ∷ drop 24 (set (set worked_file 39 0) 43 24)) 28
-  pub first_record : map (reading 1 (one_goal 0)) (first_file ∷ worked_file ∷ []) ≡ (Vd.Done, learnt) ∷ (Vd.Done, learnt) ∷ []
+  pub first_record : map (reading 1 (one_goal 0)) (first_file ∷ worked_file ∷ []) ≡ (Ok tt, learnt) ∷ (Ok tt, learnt) ∷ []
   -- directly after 13: 1, 3, 4, 27 and 13 come first, 14 and the records after it
   pub one_first : read_verdict floor 1 (one_goal 0) (9 ∷ first_file) 8 ≡ no 1 P.Nowhere
   pub three_first : Unread 0 (one_goal 0) (9 ∷ first_file) 3
@@ -65,10 +64,10 @@ pub record PinsRenewal : Type 0 where
   pub before_fourteen : map (λ q. read_verdict floor q (one_goal 0) (9 ∷ worked_file) 9) (1 ∷ 2 ∷ []) ≡ no 28 P.Nowhere ∷ no 28 P.Nowhere ∷ []
   pub before_records : Unread 1 (one_goal 0) (9 ∷ set worked_file 1 3) 28
   -- the trailer's check and the finder do not look ahead
-  pub check_ahead_lem : map check_trailer ((9 ∷ first_file) ∷ (9 ∷ worked_file) ∷ []) ≡ Vd.Done ∷ Vd.Done ∷ []
+  pub check_ahead_lem : map check_trailer ((9 ∷ first_file) ∷ (9 ∷ worked_file) ∷ []) ≡ Ok tt ∷ Ok tt ∷ []
   pub found-ahead : map find_records ((9 ∷ first_file) ∷ (9 ∷ worked_file) ∷ []) ≡ worked_records ∷ worked_records ∷ []
   -- the reader of before ignored such bytes; what it refused it refuses still
-  pub before : map (reading_before 1 (one_goal 0)) ((9 ∷ first_file) ∷ (9 ∷ worked_file) ∷ []) ≡ (Vd.Done, learnt) ∷ (Vd.Done, learnt) ∷ []
+  pub before : map (reading_before 1 (one_goal 0)) ((9 ∷ first_file) ∷ (9 ∷ worked_file) ∷ []) ≡ (Ok tt, learnt) ∷ (Ok tt, learnt) ∷ []
   pub before_other : reading_before 2 (one_goal 0) (9 ∷ first_file) ≡ (no 14 P.Nowhere, replicate 9 5)
   -- Renewed: of edition 1 the records and edition 2's trailer, with one goal and three times FF FF; bytes beyond are untouched
   pub first : Renewed first_file 50 worked_file
@@ -89,7 +88,7 @@ pub record PinsRenewal : Type 0 where
   pub room : Renewed first_file 48 worked_file
   -- 13 before it: a faulty trailer, whatever the room
   pub faulty : map (λ file. renew_file file (5 ∷ [])) ([] ∷ set first_file 39 85 ∷ drop 1 first_file ∷ set worked_file 37 3 ∷ set worked_file 27 1 ∷ drop 1 worked_file ∷ [])
-      ≡ replicate 6 (record { answer = Wr.Refused (record { number = 13; place = P.Nowhere }); buffer = 5 ∷ [] })
+      ≡ replicate 6 (record { answer = Err (record { number = 13; place = P.Nowhere }); buffer = 5 ∷ [] })
   pub faulty_roomy : Unrenewed (9 ∷ set worked_file 47 85) 60 13
   -- the most bytes that a trailer can point back: 65,535 records and 24 bytes
   pub most : longest ≡ 393234

@@ -5,8 +5,8 @@ use mathlib.Core.Bool.{true, false}
 use mathlib.Core.List.{List, [], ◌∷◌}
 use lib.ListN.{set, replicate}
 use Rattle.answers.specs.declared.Job.{Job}
-use Rattle.answers.specs.declared.Ran.TheVariants as Rn
-use Rattle.answers.specs.declared.Tried.TheVariants as Td
+use Rattle.answers.specs.Outcomes.{made_run}
+use Rattle.std.specs.Prelude.{Ok}
 use Rattle.model.specs.Floor.{one_goal}
 use Rattle.model.specs.Ride.{trial, run}
 use Rattle.model.specs.Compute.{compute}
@@ -23,7 +23,7 @@ pub record PinsRide : Type 0 where
   -- Start equal to goal gives one trial, all four 0
   pub at_goal_lem : trial (job 1 1 1 0) hall 0 figures fresh ≡ made 0 0 0 0 figures fresh
   pub run_at_goal : run (job 1 1 1 0) hall 0 2 figures fresh (blank ∷ blank ∷ [])
-      ≡ record { answer = Rn.Made 1 true; table = figures; path = fresh; reports = record { decisions = 0; learned = 0; kept = 0; travel = 0 } ∷ blank ∷ [] }
+      ≡ record { answer = made_run 1 true; table = figures; path = fresh; reports = record { decisions = 0; learned = 0; kept = 0; travel = 0 } ∷ blank ∷ [] }
   -- a trial on a table of true figures, where nothing is left to learn, comes to the goal too
   pub nothing_left : trial (job 1 1 1 0) hall 6 learnt fresh ≡ made 6 0 60 60 learnt (6 ∷ 7 ∷ 8 ∷ 5 ∷ 2 ∷ 1 ∷ replicate 3 77)
   -- and one that learns least at each decision, backs out all the way and goes again: decisions until done
@@ -32,23 +32,23 @@ pub record PinsRide : Type 0 where
   -- trials until the number asked for is used: one that learns more than 0 is not settled
   pub unsettled : run (job 1 1 1 0) hall 6 1 figures fresh (blank ∷ [])
       ≡ record {
-        answer = Rn.Made 1 false;
+        answer = made_run 1 false;
         table = learnt;
         path = 6 ∷ 7 ∷ 8 ∷ 5 ∷ 2 ∷ 1 ∷ replicate 3 77;
         reports = record { decisions = 22; learned = 84; kept = 60; travel = 180 } ∷ [];
       }
   -- the number asked for, though more records are lent
-  pub records_to_spare : (run (job 1 1 1 0) hall 6 1 figures fresh (blank ∷ blank ∷ [])).answer ≡ Rn.Made 1 false
+  pub records_to_spare : (run (job 1 1 1 0) hall 6 1 figures fresh (blank ∷ blank ∷ [])).answer ≡ made_run 1 false
   -- kept cost: the legs along the path at the end, each at its own cost
   pub kept : trial (job 2 1 1 1000) hall 6 figures fresh ≡ made 3 40 60 60 (set (set figures 6 48) 8 40) (6 ∷ 8 ∷ 2 ∷ replicate 6 77)
   -- seen at the job's own depth: 104 to 28, since 38, on the way that costs 100, is on ring 9
-  pub kept-depth : (trial two_ways_job two_ways 40 two_ways_table (replicate 50 77)).answer ≡ Td.Made (record { decisions = 2; learned = 16; kept = 114; travel = 114 })
+  pub kept-depth : (trial two_ways_job two_ways 40 two_ways_table (replicate 50 77)).answer ≡ Ok (record { decisions = 2; learned = 16; kept = 114; travel = 114 })
   -- travel: every move. Backing out is seen from the cell taken off: 20 from 1 to 5, though the goal beside 1 shuts 5 out of 1's own window
   pub own_window : trial (job 2 1 1 0) hall 5 (set (set figures 1 0) 5 30) fresh ≡ made 4 10 30 70 (set figures 5 30) (5 ∷ 1 ∷ replicate 7 77)
   -- until one learns 0: 1 is more than 0, though less than q
   pub not_settled : run (record { width = 2; height = 1; goals = one_goal 1; depth = 1; p = 2; q = 2; quota = 1000 }) (0 ∷ 0 ∷ []) 0 3 (19 ∷ 0 ∷ []) fresh (blank ∷ blank ∷ blank ∷ [])
       ≡ record {
-        answer = Rn.Made 2 true;
+        answer = made_run 2 true;
         table = 20 ∷ 0 ∷ [];
         path = 0 ∷ replicate 8 77;
         reports = record { decisions = 1; learned = 1; kept = 10; travel = 10 } ∷ record { decisions = 1; learned = 0; kept = 10; travel = 10 } ∷ blank ∷ [];
@@ -56,7 +56,7 @@ pub record PinsRide : Type 0 where
   -- each trial goes on with the table and the path list that the one before left: the 1 is the second trial's fifth cell, and the third has four
   pub carried : run pillar_job pillar 11 5 (opening_of pillar_job pillar) (replicate 12 77) (replicate 5 blank)
       ≡ record {
-        answer = Rn.Made 3 true;
+        answer = made_run 3 true;
         table = 0 ∷ 10 ∷ 20 ∷ 30 ∷ 10 ∷ 14 ∷ 24 ∷ 40 ∷ 20 ∷ 24 ∷ 34 ∷ 44 ∷ [];
         path = 11 ∷ 10 ∷ 9 ∷ 4 ∷ 1 ∷ replicate 7 77;
         reports = record { decisions = 4; learned = 6; kept = 44; travel = 44 }

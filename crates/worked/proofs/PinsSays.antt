@@ -6,11 +6,8 @@ use Rattle.answers.specs.Says.{says_answer, says_verdict, says_tried, says_ran, 
 use Rattle.answers.specs.declared.Place.TheVariants as P
 use Rattle.answers.specs.declared.Refusal.{Refusal}
 use Rattle.answers.specs.declared.Answer.TheVariants as A
-use Rattle.answers.specs.declared.Verdict.TheVariants as Vd
-use Rattle.answers.specs.declared.Tried.TheVariants as Td
-use Rattle.answers.specs.declared.Ran.TheVariants as Rn
-use Rattle.answers.specs.declared.FloorRead.TheVariants as Fr
-use Rattle.answers.specs.declared.Written.TheVariants as Wr
+use Rattle.answers.specs.Outcomes.{made_run, read_sizes}
+use Rattle.std.specs.Prelude.{Ok, Err}
 use Rattle.model.specs.Compute.{compute}
 
 abbrev fault : Refusal
@@ -26,22 +23,22 @@ pub record PinsSays : Type 0 where
       ∷ record { number = 7; place = P.Cell 3; kind = 4; values = 0 ∷ 0 ∷ 0 ∷ [] }
       ∷ []
   -- 0: done
-  pub verdicts : map says_verdict (Vd.Done ∷ Vd.Refused fault ∷ [])
+  pub verdicts : map says_verdict (Ok tt ∷ Err fault ∷ [])
       ≡ record { number = 0; place = P.Nowhere; kind = 0; values = [] } ∷ record { number = 7; place = P.Cell 3; kind = 1; values = [] } ∷ []
   -- decisions, learned amount, kept cost, travel
-  pub trials : map says_tried (Td.Made (record { decisions = 1; learned = 2; kept = 3; travel = 4 }) ∷ Td.Refused fault ∷ [])
+  pub trials : map says_tried (Ok (record { decisions = 1; learned = 2; kept = 3; travel = 4 }) ∷ Err fault ∷ [])
       ≡ record { number = 0; place = P.Nowhere; kind = 0; values = 1 ∷ 2 ∷ 3 ∷ 4 ∷ [] } ∷ record { number = 7; place = P.Cell 3; kind = 1; values = 0 ∷ 0 ∷ 0 ∷ 0 ∷ [] } ∷ []
   -- the trials made, settled or unsettled
-  pub runs : map says_ran (Rn.Made 5 true ∷ Rn.Made 5 false ∷ Rn.Refused fault ∷ [])
+  pub runs : map says_ran (made_run 5 true ∷ made_run 5 false ∷ Err fault ∷ [])
       ≡ record { number = 0; place = P.Nowhere; kind = 0; values = 5 ∷ 1 ∷ [] }
       ∷ record { number = 0; place = P.Nowhere; kind = 0; values = 5 ∷ 0 ∷ [] }
       ∷ record { number = 7; place = P.Cell 3; kind = 1; values = 0 ∷ 0 ∷ [] }
       ∷ []
   -- width, then height
-  pub floors : map says_floor_read (Fr.Sizes 5 6 ∷ Fr.Refused fault ∷ [])
+  pub floors : map says_floor_read (read_sizes 5 6 ∷ Err fault ∷ [])
       ≡ record { number = 0; place = P.Nowhere; kind = 0; values = 5 ∷ 6 ∷ [] } ∷ record { number = 7; place = P.Cell 3; kind = 1; values = 0 ∷ 0 ∷ [] } ∷ []
   -- the length
-  pub files : map says_written (Wr.Length 28 ∷ Wr.Refused fault ∷ [])
+  pub files : map says_written (Ok 28 ∷ Err fault ∷ [])
       ≡ record { number = 0; place = P.Nowhere; kind = 0; values = 28 ∷ [] } ∷ record { number = 7; place = P.Cell 3; kind = 1; values = 0 ∷ [] } ∷ []
 
 pub pins_says : PinsSays

@@ -6,7 +6,7 @@ use mathlib.Core.List.{[], ◌∷◌, map}
 use lib.ListN.{get_or, replicate}
 use Rattle.learning.specs.Rounds.{after_rounds, learners}
 use Rattle.answers.specs.declared.Answer.TheVariants as A
-use Rattle.answers.specs.declared.Ran.TheVariants as Rn
+use Rattle.answers.specs.Outcomes.{made_run}
 use Rattle.model.specs.Ride.{run}
 use Rattle.model.specs.Settling.{Lists, leaves, learns, lists_after, trip, trips, trips_that_learn, answer_after, Tour, tour_on, first_learns, tour_trips_that_learn}
 use Rattle.model.specs.Compute.{compute}
@@ -61,7 +61,7 @@ pub record PinsSettling : Type 0 where
   pub by_turns_lem : map (λ n. tour_trips_that_learn (job 1 1 1 1000) hall n by_turns) (0 ∷ 1 ∷ 2 ∷ 8 ∷ []) ≡ 0 ∷ 1 ∷ 2 ∷ 4 ∷ []
   pub by_turns_learned : first_learns (job 1 1 1 1000) hall (tour_on (job 1 1 1 1000) hall by_turns) ≡ 6
   -- a run with more than R trials asked for answers settled
-  pub more_than_R : (run (job 1 1 1 1000) hall 6 85 figures fresh (replicate 85 blank)).answer ≡ Rn.Made 5 true
+  pub more_than_R : (run (job 1 1 1 1000) hall 6 85 figures fresh (replicate 85 blank)).answer ≡ made_run 5 true
 
 pub pins_settling : PinsSettling
 unfolding compute R K

@@ -7,9 +7,8 @@ use Rattle.answers.specs.declared.Answer.{Answer}
 use Rattle.answers.specs.declared.Answer.TheVariants as A
 use Rattle.answers.specs.declared.Job.{Job}
 use Rattle.answers.specs.declared.Place.TheVariants as P
-use Rattle.answers.specs.declared.Tried.TheVariants as Td
-use Rattle.answers.specs.declared.Verdict.{Verdict}
-use Rattle.answers.specs.declared.Verdict.TheVariants as Vd
+use Rattle.answers.specs.Outcomes.{Verdict}
+use Rattle.std.specs.Prelude.{Ok}
 use Rattle.model.specs.Floor.{one_goal}
 use Rattle.model.specs.Decision.{Outcome, decide}
 use Rattle.model.specs.Line.{aisle}
@@ -85,16 +84,16 @@ pub record PinsSlow : Type 0 where
   pub along_two : distances (row_job 4 0 1 0) (0 ∷ 2 ∷ 2 ∷ 0 ∷ []) ≡ 0 ∷ 20 ∷ 40 ∷ 60 ∷ []
   -- start and goal may be slow
   pub ends_open : distances (row_job 3 0 1 0) (2 ∷ 0 ∷ 2 ∷ []) ≡ 0 ∷ 20 ∷ 40 ∷ []
-  pub ends-met : along (2 ∷ 0 ∷ 2 ∷ []) 40 ≡ Vd.Done
+  pub ends-met : along (2 ∷ 0 ∷ 2 ∷ []) 40 ≡ Ok tt
   -- the opening figure stays, and so does its soundness; the true figure is met and passed by one, over 20 and over 28
-  pub through_met : along (0 ∷ 2 ∷ 0 ∷ []) 40 ≡ Vd.Done
+  pub through_met : along (0 ∷ 2 ∷ 0 ∷ []) 40 ≡ Ok tt
   pub through-above : along (0 ∷ 2 ∷ 0 ∷ []) 41 ≡ no 7 (P.Cell 2)
-  pub slant-met : slant 28 ≡ Vd.Done
+  pub slant-met : slant 28 ≡ Ok tt
   pub slant-above : slant 29 ≡ no 7 (P.Cell 3)
   -- a trial's counts: each of the two moves through costs 20, and each decision learns 10
-  pub ridden : (trial (row_job 3 0 1 1000) (0 ∷ 2 ∷ 0 ∷ []) 2 (0 ∷ 10 ∷ 20 ∷ []) fresh).answer ≡ Td.Made (record { decisions = 2; learned = 20; kept = 40; travel = 40 })
+  pub ridden : (trial (row_job 3 0 1 1000) (0 ∷ 2 ∷ 0 ∷ []) 2 (0 ∷ 10 ∷ 20 ∷ []) fresh).answer ≡ Ok (record { decisions = 2; learned = 20; kept = 40; travel = 40 })
   -- the kept cost is of the legs at the job's own depth: with windows of eight rings the second leg would cost 10 less
-  pub kept-depth : (trial bay bay_floor 0 (opening_of bay bay_floor) (replicate 15 77)).answer ≡ Td.Made (record { decisions = 2; learned = 0; kept = 80; travel = 80 })
+  pub kept-depth : (trial bay bay_floor 0 (opening_of bay bay_floor) (replicate 15 77)).answer ≡ Ok (record { decisions = 2; learned = 0; kept = 80; travel = 80 })
   -- `aisle` reads the letter
   pub printed : aisle (bytes "2 0 1\ntype octile\nheight 1\nwidth 3\nmap\n.S.\n") ≡ bytes "66 2 20 40 40\n66 2 10 40 40\n66 2 0 40 40\nsettled 3\n"
 

@@ -5,9 +5,8 @@ use mathlib.Core.List.{List, [], ◌∷◌, ◌++◌, map}
 use lib.ListN.{length, set, replicate, take, drop}
 use Rattle.answers.specs.declared.Place.{Place}
 use Rattle.answers.specs.declared.Place.TheVariants as P
-use Rattle.answers.specs.declared.Verdict.{Verdict}
-use Rattle.answers.specs.declared.Verdict.TheVariants as Vd
-use Rattle.answers.specs.declared.Written.TheVariants as Wr
+use Rattle.answers.specs.Outcomes.{Verdict}
+use Rattle.std.specs.Prelude.{Ok, Err}
 use Rattle.model.specs.Floor.{Floor, one_goal, opening_table}
 use Rattle.model.specs.TableFile.{check_trailer, find_records, read_verdict, read_table, write_table}
 use Rattle.model.specs.Compute.{compute}
@@ -40,7 +39,7 @@ abbrev reading : Floor → (q goal : ℕ) → (file table : List ℕ) → Verdic
 reading f q goal file table = (read_verdict f q (one_goal goal) file (length table), read_table f q (one_goal goal) file table)
 
 abbrev Read : List ℕ → List ℕ → Type 0
-Read file table = reading floor 1 0 file (replicate 9 5) ≡ (Vd.Done, table)
+Read file table = reading floor 1 0 file (replicate 9 5) ≡ (Ok tt, table)
 
 abbrev Unread : Floor → (q goal : ℕ) → (file table : List ℕ) → (number : ℕ) → Place → Type 0
 Unread f q goal file table number place = reading f q goal file table ≡ (no number place, table)
@@ -48,7 +47,7 @@ Unread f q goal file table number place = reading f q goal file table ≡ (no nu
 -- a refused writing leaves the buffer as lent
 abbrev Unwritten : Floor → (q goal : ℕ) → (table buffer : List ℕ) → (number : ℕ) → Place → Type 0
 Unwritten f q goal table buffer number place =
-    write_table f q (one_goal goal) table buffer ≡ record { answer = Wr.Refused (record { number = number; place = place }); buffer = buffer }
+    write_table f q (one_goal goal) table buffer ≡ record { answer = Err (record { number = number; place = place }); buffer = buffer }
 
 -- one row of two free cells, and its file with q 3 where cell 1 is at 31, in edition 1 and as it is written
 abbrev oblong : Floor
@@ -87,7 +86,7 @@ pub record PinsTable : Type 0 where
   pub found_none : find_records (entry 6 48 ++ trailer 0 16) ≡ []
   pub found_faulty : find_records (set first_file 39 85) ≡ []
   -- the trailer's check tells that apart from a count of 0
-  pub check_none : check_trailer (trailer 0 16) ≡ Vd.Done
+  pub check_none : check_trailer (trailer 0 16) ≡ Ok tt
   pub check_faulty : check_trailer (set first_file 39 85) ≡ no 13 P.Nowhere
   -- 13: under 16 bytes
   pub short : map reads ([] ∷ drop 1 (trailer 0 16) ∷ []) ≡ no 13 P.Nowhere ∷ no 13 P.Nowhere ∷ []
@@ -98,7 +97,7 @@ pub record PinsTable : Type 0 where
   -- `back` not 16 + 6 × count, in each of its bytes
   pub back : map (λ i. with (8 + i) 23) (0 ∷ 1 ∷ 2 ∷ 3 ∷ []) ≡ no 13 P.Nowhere ∷ no 13 P.Nowhere ∷ no 13 P.Nowhere ∷ no 13 P.Nowhere ∷ []
   pub count : map (with 7) (0 ∷ 2 ∷ []) ≡ no 13 P.Nowhere ∷ no 13 P.Nowhere ∷ []
-  pub count_both : check_trailer (replicate 1536 0 ++ (3 ∷ 3 ∷ 0 ∷ 0 ∷ 1 ∷ 1 ∷ 1 ∷ 0 ∷ 0 ∷ 0 ∷ 6 ∷ 16 ∷ 80 ∷ 68 ∷ 76 ∷ 84 ∷ [])) ≡ Vd.Done
+  pub count_both : check_trailer (replicate 1536 0 ++ (3 ∷ 3 ∷ 0 ∷ 0 ∷ 1 ∷ 1 ∷ 1 ∷ 0 ∷ 0 ∷ 0 ∷ 6 ∷ 16 ∷ 80 ∷ 68 ∷ 76 ∷ 84 ∷ [])) ≡ Ok tt
   -- or `back` past the file's start
   pub past_start : reads (drop 1 first_file) ≡ no 13 P.Nowhere
   pub check_past : check_trailer (drop 1 first_file) ≡ no 13 P.Nowhere
@@ -113,7 +112,7 @@ pub record PinsTable : Type 0 where
   -- 18 off the floor: it names the first such record
   pub off : Unread floor 1 0 (entry 9 48 ++ trailer 1 22) (replicate 9 5) 18 (P.Record 0)
   pub off_high : reads (1 ∷ 6 ∷ 0 ∷ 0 ∷ 0 ∷ 48 ∷ trailer 1 22) ≡ no 18 (P.Record 0)
-  pub last_cell : reads (entry 8 48 ++ trailer 1 22) ≡ Vd.Done
+  pub last_cell : reads (entry 8 48 ++ trailer 1 22) ≡ Ok tt
   -- 19 blocked
   pub blocked : Unread floor 1 0 (entry 2 48 ++ (entry 3 48 ++ trailer 2 28)) (replicate 9 5) 19 (P.Record 1)
   -- 20 not above the cell before: the record just before, not one further ahead
@@ -121,7 +120,7 @@ pub record PinsTable : Type 0 where
   pub lower-cell : reads (entry 5 48 ++ (entry 7 48 ++ (entry 6 48 ++ trailer 3 34))) ≡ no 20 (P.Record 2)
   -- 21 figure not above the opening figure
   pub not_above : Unread floor 1 0 (entry 6 48 ++ (entry 7 24 ++ (entry 3 48 ++ trailer 3 34))) (replicate 9 5) 21 (P.Record 1)
-  pub just_above : reads (entry 6 48 ++ (entry 7 25 ++ trailer 2 28)) ≡ Vd.Done
+  pub just_above : reads (entry 6 48 ++ (entry 7 25 ++ trailer 2 28)) ≡ Ok tt
   -- the opening figure with the job's own q: 30 at cell 1
   pub not_above_scaled : Unread oblong 3 0 (set oblong_file 5 30) (5 ∷ 5 ∷ []) 21 (P.Record 0)
   -- 22 figure above the ceiling
@@ -162,19 +161,19 @@ pub record PinsTable : Type 0 where
   pub blocked_below : Unwritten floor 1 0 (set figures 4 13) [] 16 (P.Cell 4)
   -- 17: no room
   pub no_room : Unwritten floor 1 0 learnt (replicate 47 5) 17 P.Nowhere
-  pub room : write_table floor 1 (one_goal 0) learnt (replicate 48 5) ≡ record { answer = Wr.Length 48; buffer = worked_file }
+  pub room : write_table floor 1 (one_goal 0) learnt (replicate 48 5) ≡ record { answer = Ok 48; buffer = worked_file }
   -- Figures that differ from the opening figure: none
-  pub write_none : write_table floor 1 (one_goal 0) figures (replicate 25 5) ≡ record { answer = Wr.Length 24; buffer = written 0 24 ++ 5 ∷ [] }
+  pub write_none : write_table floor 1 (one_goal 0) figures (replicate 25 5) ≡ record { answer = Ok 24; buffer = written 0 24 ++ 5 ∷ [] }
   -- up to the ceiling, the first cell and the last; numbers are big-endian
   pub write-ends : write_table floor 1 (one_goal 0) (set (set (set figures 0 1834560) 7 131071) 8 131072) (replicate 42 5)
-      ≡ record { answer = Wr.Length 42; buffer = 0 ∷ 0 ∷ 0 ∷ 27 ∷ 254 ∷ 64 ∷ 0 ∷ 7 ∷ 0 ∷ 1 ∷ 255 ∷ 255 ∷ 0 ∷ 8 ∷ 0 ∷ 2 ∷ 0 ∷ 0 ∷ written 3 42 }
+      ≡ record { answer = Ok 42; buffer = 0 ∷ 0 ∷ 0 ∷ 27 ∷ 254 ∷ 64 ∷ 0 ∷ 7 ∷ 0 ∷ 1 ∷ 255 ∷ 255 ∷ 0 ∷ 8 ∷ 0 ∷ 2 ∷ 0 ∷ 0 ∷ written 3 42 }
   -- width before height
-  pub write-oblong : write_table oblong 3 (one_goal 0) (0 ∷ 31 ∷ []) (replicate 30 5) ≡ record { answer = Wr.Length 30; buffer = oblong_written }
-  pub read-oblong : map (λ file. reading oblong 3 0 file (5 ∷ 5 ∷ [])) (oblong_file ∷ oblong_written ∷ []) ≡ (Vd.Done, 0 ∷ 31 ∷ []) ∷ (Vd.Done, 0 ∷ 31 ∷ []) ∷ []
+  pub write-oblong : write_table oblong 3 (one_goal 0) (0 ∷ 31 ∷ []) (replicate 30 5) ≡ record { answer = Ok 30; buffer = oblong_written }
+  pub read-oblong : map (λ file. reading oblong 3 0 file (5 ∷ 5 ∷ [])) (oblong_file ∷ oblong_written ∷ []) ≡ (Ok tt, 0 ∷ 31 ∷ []) ∷ (Ok tt, 0 ∷ 31 ∷ []) ∷ []
   -- cell and goal take two bytes, figure and back four, and are read as they are written
-  pub write-long : write_table long 2 (one_goal 257) (set long_table 300 70000) (replicate 30 5) ≡ record { answer = Wr.Length 30; buffer = long_written }
-  pub read-long : reading long 2 257 long_file (replicate 320 5) ≡ (Vd.Done, set long_table 300 70000)
-  pub read-long_written : reading long 2 257 long_written (replicate 320 5) ≡ (Vd.Done, set long_table 300 70000)
+  pub write-long : write_table long 2 (one_goal 257) (set long_table 300 70000) (replicate 30 5) ≡ record { answer = Ok 30; buffer = long_written }
+  pub read-long : reading long 2 257 long_file (replicate 320 5) ≡ (Ok tt, set long_table 300 70000)
+  pub read-long_written : reading long 2 257 long_written (replicate 320 5) ≡ (Ok tt, set long_table 300 70000)
   -- and count two: 320 records
   pub count_long : drop 1920 (write_table long 2 (one_goal 257) (replicate 320 900000) (replicate 1944 5)).buffer
       ≡ 64 ∷ 5 ∷ 1 ∷ 0 ∷ 1 ∷ 1 ∷ 255 ∷ 255 ∷ 255 ∷ 255 ∷ 255 ∷ 255 ∷ 2 ∷ 2 ∷ 1 ∷ 64 ∷ 0 ∷ 0 ∷ 7 ∷ 152 ∷ 80 ∷ 68 ∷ 76 ∷ 84 ∷ []

@@ -7,9 +7,8 @@ use lib.ListN.{set, replicate}
 use Rattle.learning.specs.Ground.{list_of}
 use Rattle.answers.specs.declared.Place.{Place}
 use Rattle.answers.specs.declared.Place.TheVariants as P
-use Rattle.answers.specs.declared.Verdict.{Verdict}
-use Rattle.answers.specs.declared.Verdict.TheVariants as Vd
-use Rattle.answers.specs.declared.FloorRead.TheVariants as Fr
+use Rattle.answers.specs.Outcomes.{Verdict, read_sizes}
+use Rattle.std.specs.Prelude.{Ok, Err}
 use Rattle.model.specs.FloorText.{FloorOutcome, read_floor, floor_verdict}
 use Rattle.model.specs.Compute.{compute}
 use Rattle.worked.proofs.Hall.{no}
@@ -21,7 +20,7 @@ reads text room = read_floor text (replicate room 9)
 
 abbrev Unread : String → (room number : ℕ) → Place → Type 0
 Unread text room number place =
-    reads (bytes text) room ≡ record { answer = Fr.Refused (record { number = number; place = place }); buffer = replicate room 9 }
+    reads (bytes text) room ≡ record { answer = Err (record { number = number; place = place }); buffer = replicate room 9 }
 
 -- a floor of one column, its height written so; and of one row, its width written so
 abbrev high : String → ℕ → Verdict
@@ -37,9 +36,9 @@ dot = bytes "type octile\nheight 1\nwidth 1\nmap\n.\n"
 pub record PinsText : Type 0 where
   -- `.` and `G` are free, byte 0; `@`, `O`, `T` blocked, byte 1; `S` slow, byte 2. Buffer bytes beyond width × height are untouched
   pub letters : reads (bytes "type octile\nheight 2\nwidth 3\nmap\n.G@\nOTS\n") 8
-      ≡ record { answer = Fr.Sizes 3 2; buffer = 0 ∷ 0 ∷ 1 ∷ 1 ∷ 1 ∷ 2 ∷ 9 ∷ 9 ∷ [] }
+      ≡ record { answer = read_sizes 3 2; buffer = 0 ∷ 0 ∷ 1 ∷ 1 ∷ 1 ∷ 2 ∷ 9 ∷ 9 ∷ [] }
   -- `S` no longer gives 12
-  pub lane : reads (bytes "type octile\nheight 1\nwidth 1\nmap\nS\n") 1 ≡ record { answer = Fr.Sizes 1 1; buffer = 2 ∷ [] }
+  pub lane : reads (bytes "type octile\nheight 1\nwidth 1\nmap\nS\n") 1 ≡ record { answer = read_sizes 1 1; buffer = 2 ∷ [] }
   -- Any other letter, `W` and a small `s` included, is refused
   pub small-s : Unread "type octile\nheight 1\nwidth 1\nmap\ns\n" 1 12 (P.Line 5)
   pub beside-s : Unread "type octile\nheight 1\nwidth 1\nmap\nR\n" 1 12 (P.Line 5)
@@ -53,8 +52,8 @@ pub record PinsText : Type 0 where
   pub header-cut : Unread "type octile\nheight 1\nwidth 1\nmap" 1 11 P.Nowhere
   pub swapped : Unread "type octile\nwidth 1\nheight 1\nmap\n.\n" 1 11 P.Nowhere
   -- or its sizes: 1 to 64 with no zero in front
-  pub heights : high "1" 1 ∷ high "9" 9 ∷ high "10" 10 ∷ high "19" 19 ∷ high "64" 64 ∷ [] ≡ replicate 5 Vd.Done
-  pub widths : wide "1" 1 ∷ wide "9" 9 ∷ wide "10" 10 ∷ wide "19" 19 ∷ wide "64" 64 ∷ [] ≡ replicate 5 Vd.Done
+  pub heights : high "1" 1 ∷ high "9" 9 ∷ high "10" 10 ∷ high "19" 19 ∷ high "64" 64 ∷ [] ≡ replicate 5 (Ok tt)
+  pub widths : wide "1" 1 ∷ wide "9" 9 ∷ wide "10" 10 ∷ wide "19" 19 ∷ wide "64" 64 ∷ [] ≡ replicate 5 (Ok tt)
   pub no_height : high "0" 0 ∷ high "01" 1 ∷ high "65" 65 ∷ high "100" 100 ∷ high "" 0 ∷ high "1 " 1 ∷ high " 1" 1 ∷ high "1:" 20 ∷ high "1/" 9 ∷ high ":" 10 ∷ high "/" 1 ∷ []
       ≡ replicate 11 (no 11 P.Nowhere)
   pub no_width : wide "0" 0 ∷ wide "01" 1 ∷ wide "65" 65 ∷ wide "100" 100 ∷ wide "" 0 ∷ wide "1 " 1 ∷ wide " 1" 1 ∷ wide "1:" 20 ∷ wide "1/" 9 ∷ wide ":" 10 ∷ wide "/" 1 ∷ []
@@ -67,7 +66,7 @@ pub record PinsText : Type 0 where
   pub eleven_first : Unread "type octile\nheight 2\nwidth 2\nmao\n..\n..\n" 3 11 P.Nowhere
   -- 2: floor buffer too short; before 12
   pub two : Unread "type octile\nheight 2\nwidth 2\nmap\n..\n.W\n" 3 2 P.Nowhere
-  pub room : reads (bytes "type octile\nheight 2\nwidth 2\nmap\n..\n.@\n") 4 ≡ record { answer = Fr.Sizes 2 2; buffer = 0 ∷ 0 ∷ 0 ∷ 1 ∷ [] }
+  pub room : reads (bytes "type octile\nheight 2\nwidth 2\nmap\n..\n.@\n") 4 ≡ record { answer = read_sizes 2 2; buffer = 0 ∷ 0 ∷ 0 ∷ 1 ∷ [] }
   -- 12: a row too short, too long or without its LF, or bytes after the last; names the first such line, counted from 1 at the `type` line
   pub row-short : Unread "type octile\nheight 2\nwidth 2\nmap\n.\n..\n" 4 12 (P.Line 5)
   pub row-long : Unread "type octile\nheight 2\nwidth 2\nmap\n..\n...\n" 4 12 (P.Line 6)

@@ -7,7 +7,7 @@ use mathlib.Core.List.{List, [], ◌∷◌, map}
 use native.Mathlib.Omega.{arith}
 use lib.ListN.{get_or, replicate}
 use Rattle.answers.specs.declared.Job.{Job}
-use Rattle.answers.specs.declared.Verdict.TheVariants as Vd
+use Rattle.std.specs.Prelude.{Ok}
 use Rattle.model.specs.Floor.{one_goal}
 use Rattle.model.specs.Opening.{open_trial}
 use Rattle.model.specs.Ride.{Ride}
@@ -30,7 +30,7 @@ abbrev told : Ride → List ℕ
 told r = r.decisions ∷ r.learned ∷ get_or r.table 16 0 ∷ get_or r.table 17 0 ∷ []
 
 pub record ThirdTrial : Type 0 where
-  pub accepted : open_trial round_job round 17 lent.table lent.path ≡ Vd.Done
+  pub accepted : open_trial round_job round 17 lent.table lent.path ≡ Ok tt
   -- In the first trial 17 is left for 21 with figure 380, when its first ring's best is 10 + 280, by 16. Then 16 is raised to 390, from 21, which holds its own figure and
   -- goes on by 14. So in the second trial the first ring's best at 17 is 394, by 22, and 17 learns
   pub trials : map told (trips round_job round 17 3 lent) ≡ (9 ∷ 210 ∷ 390 ∷ 380 ∷ []) ∷ (6 ∷ 14 ∷ 390 ∷ 394 ∷ []) ∷ (5 ∷ 0 ∷ 390 ∷ 394 ∷ []) ∷ []
@@ -41,7 +41,7 @@ third-trial = record { accepted = refl; trials = refl }
 
 -- so what the theorem says of every job is not so of those at depth 2, not even from opening tables
 pub theorem_7_8_fails_at_depth_2 :
-    ¬ ((j : Job) (bytes : List ℕ) (start : ℕ) (path : List ℕ) → open_trial j bytes start (opening_of j bytes) path ≡ Vd.Done → j.depth ≡ 2 → j.quota ≡ 0
+    ¬ ((j : Job) (bytes : List ℕ) (start : ℕ) (path : List ℕ) → open_trial j bytes start (opening_of j bytes) path ≡ Ok tt → j.depth ≡ 2 → j.quota ≡ 0
     → (trip j bytes start 1 (record { table = opening_of j bytes; path = path })).learned ≡ 0)
 theorem_7_8_fails_at_depth_2 all =
     let second : (trip round_job round 17 1 lent).learned ≡ 14 = ap (λ rows. get_or (get_or rows 1 []) 1 0) third-trial.trials in

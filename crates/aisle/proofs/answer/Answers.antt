@@ -1,10 +1,11 @@
--- `aisle::answer` meets its contract: the line is malformed, or asks for settings with the text after it.
-use Rattle.aisle.proofs.Answers.{refused, line_none, line_some, line-rest, malformed, asked-told}
+-- `aisle::answer` meets its contract: a refusal is told by its line, and all else is told already.
+use Rattle.aisle.proofs.Answers.{refused, answered}
 use Rattle.aisle.proofs.answer.Goals as goal
 
-pub returns-in-Malformed : goal.returns-in-Malformed
-returns-in-Malformed c = search (malformed, line_none, refused)
+pub returns-in-Err : goal.returns-in-Err
+returns-in-Err c =
+    let (is, still) = c.in-Err.ensures in
+    answered (refused _ c.requires is (rw still at c.refusal_line.ensures))
 
-pub returns-in-Asked : goal.returns-in-Asked
-returns-in-Asked c =
-    asked-told _ _ _ (line_some c.read_line.ensures c.in-Asked.is) (line-rest c.read_line.ensures c.in-Asked.is) c.asked.ensures
+pub returns-in_default : goal.returns-in_default
+returns-in_default c = answered c.in_default.ensures

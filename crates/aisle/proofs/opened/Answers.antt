@@ -1,17 +1,21 @@
 -- `aisle::opened` meets its contract: what the opening says decides what is told.
 use Rattle.learning.proofs.Words.{refl}
-use Rattle.aisle.proofs.Answers.{refused, fill-refused, open-refused, open_told}
+use Rattle.aisle.proofs.Answers.{fill-refused, open-refused, open_told, says_exit}
 use Rattle.aisle.proofs.opened.Goals as goal
 
-pub returns-in-Refused : goal.returns-in-Refused
-returns-in-Refused c = search (fill-refused, refused)
+pub returns-in_err-fill_opening : goal.returns-in_err-fill_opening
+returns-in_err-fill_opening c =
+    says_exit _ _ _ c.from_residual.ensures.1 (fill-refused _ _ _ _ _ c.requires.readied c.in_err-fill_opening.ensures c.requires.lent.figures refl)
 
-pub returns-in-Refused-open_trial : goal.returns-in-Refused-open_trial
-returns-in-Refused-open_trial c =
-    let ready = c.requires.fact_1 in
-    let lent = c.requires.fact_2 in
-    open-refused _ _ _ _ c.args.path.now ready c.fill_opening.ensures lent.figures (search) lent.places (c.open_trial.ensures _ refl)
-    c.in-Refused-open_trial.is (refused _ c.refusal_line-in-Refused-open_trial.ensures lent.room)
+pub returns-in_err-open_trial : goal.returns-in_err-open_trial
+returns-in_err-open_trial c =
+    let R = c.requires.readied in
+    let L = c.requires.lent in
+    says_exit _ _ _ c.from_residual-in_err-open_trial.ensures.1
+    (open-refused _ _ _ _ _ R c.in_ok-fill_opening.ensures L.figures refl L.places (c.in_err-open_trial.ensures _ refl) refl)
 
-pub returns-in-Done-open_trial : goal.returns-in-Done-open_trial
-returns-in-Done-open_trial c = search (open_told, c.open_trial.ensures c.args.path.now refl)
+pub returns : goal.returns
+returns c =
+    let R = c.requires.readied in
+    let L = c.requires.lent in
+    open_told _ _ _ _ _ R c.in_ok-fill_opening.ensures L.figures refl L.places (c.in_ok-open_trial.ensures _ refl) refl c.tell_all.ensures

@@ -1,12 +1,11 @@
 -- `checks::figures` meets its contract. The invariant: no cell that was passed has a figure above the ceiling.
-use Rattle.learning.proofs.Words.{sym, ◌∙◌, arith}
+use Rattle.learning.proofs.Words.{sym, arith}
 use Rattle.model.proofs.Accepted.{figures-names, figures-done}
 use Rattle.checks.proofs.figures.Goals as goal
 
-pub returns-then-table-x-gt-HIGHEST : goal.returns-then-table-x-gt-HIGHEST
-returns-then-table-x-gt-HIGHEST c f e =
-    c.refuse_at.ensures ∙ sym (figures-names f _ _ (omega arith) c.loop-x.invariant.1 c.if-table-x-gt-HIGHEST.true)
+pub returns-then-figure-gt-HIGHEST : goal.returns-then-figure-gt-HIGHEST
+returns-then-figure-gt-HIGHEST c f e =
+    sym (figures-names f _ _ (omega arith) c.loop-x.invariant c.if-figure-gt-HIGHEST.true)
 
 pub returns : goal.returns
-returns c f e =
-    sym (figures-done f _ (λ k h. c.loop-x.invariant.1 k (omega arith)))
+returns c f e = sym (figures-done f _ (λ k h. c.loop-x.invariant k (omega arith)))

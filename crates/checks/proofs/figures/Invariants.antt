@@ -1,11 +1,8 @@
 -- `checks::figures` meets its contract. The invariant: no cell that was passed has a figure above the ceiling.
-use Rattle.learning.proofs.Words.{◌-◌, ◌≤◌, ltb, length, get_or}
+use Rattle.learning.proofs.Words.{ltb, get_or}
 use Rattle.model.specs.Checks.{ceiling}
 use Rattle.model.proofs.Accepted.{NoneBelow}
 use Rattle.checks.proofs.figures.Given as goal
 
 abbrev pub invariant-loop-x : goal.invariant-loop-x
-invariant-loop-x l = (l.x ≤ length l.table) × NoneBelow (λ y. ltb ceiling (get_or l.table y 0)) l.x
-
-abbrev pub decreases-loop-x : goal.decreases-loop-x
-decreases-loop-x l = length l.table - l.x
+invariant-loop-x l = NoneBelow (λ y. ltb ceiling (get_or l.table y 0)) l.x

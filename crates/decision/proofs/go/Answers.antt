@@ -1,13 +1,11 @@
 -- `decision::go` meets its contract: by the two cases of the lookahead, its window or an empty ring.
-use Rattle.decision.proofs.Acting.{looked-window, looked-empty, acts_as, act-full, acts_blind}
+use Rattle.decision.proofs.Acting.{acts_as, act-full, acts_blind}
 use Rattle.decision.proofs.go.Goals as goal
 
-pub returns-in-Window-clause-acts : goal.returns-in-Window-clause-acts
-returns-in-Window-clause-acts c =
-    let v = looked-window c.in-Window.is c.look.ensures in
-    acts_as (act-full _ _ _ _ _ c.requires.fact_2 v) c.learn.ensures.acts
+pub returns-in_default-clause-acts : goal.returns-in_default-clause-acts
+returns-in_default-clause-acts c =
+    acts_blind c.requires.asked c.in_default.ensures.1 c.refuse.ensures
 
-pub returns-in-Empty-clause-acts : goal.returns-in-Empty-clause-acts
-returns-in-Empty-clause-acts c =
-    let v = looked-empty _ _ _ c.in-Empty.is c.look.ensures in
-    acts_blind c.requires.fact_2 v.1 c.refuse.ensures
+pub returns-clause-acts : goal.returns-clause-acts
+returns-clause-acts c =
+    acts_as (act-full _ _ _ _ _ c.requires.asked c.in-Some.ensures) c.learn.ensures.acts

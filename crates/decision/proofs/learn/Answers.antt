@@ -5,7 +5,7 @@ use Rattle.decision.proofs.learn.Goals as goal
 
 pub offset_bounds-table-s : goal.offset_bounds-table-s
 offset_bounds-table-s c =
-    let r = c.requires.fact_1 in omega (arith, current_in r, table-short r)
+    let r = c.requires.ready in omega (arith, current_in r, table-short r)
 
 pub bounds-table-s : goal.bounds-table-s
 bounds-table-s c =

@@ -8,22 +8,22 @@ pub returns-then-not-row_holds : goal.returns-then-not-row_holds
 returns-then-not-row_holds c =
     search rowed_fault
 
-pub slice_bounds-t-count : goal.slice_bounds-t-count
-slice_bounds-t-count c =
+pub slice_bounds-left-count : goal.slice_bounds-left-count
+slice_bounds-left-count c =
     omega (arith, (row_gives _ _ (sym c.row_holds.ensures ∙ c.if-not-row_holds.false)).0)
 
-pub slice_bounds-t-start : goal.slice_bounds-t-start
-slice_bounds-t-start c =
+pub slice_bounds-left-start : goal.slice_bounds-left-start
+slice_bounds-left-start c =
     omega (arith, (row_gives _ _ (sym c.row_holds.ensures ∙ c.if-not-row_holds.false)).0)
 
 pub loop-row-preserved : goal.loop-row-preserved
 loop-row-preserved c =
     search rowed_more
 
-pub returns-then-t-eq0 : goal.returns-then-t-eq0
-returns-then-t-eq0 c =
-    search rowed_done
+pub returns-then-is_empty : goal.returns-then-is_empty
+returns-then-is_empty c =
+    rowed_done c.loop-row.invariant (omega arith) c.is_empty.ensures c.if-is_empty.true
 
 pub returns : goal.returns
 returns c =
-    search rowed_over
+    rowed_over c.loop-row.invariant (omega arith) c.is_empty.ensures c.if-is_empty.false

@@ -1,24 +1,32 @@
 -- `floor_text::size_in` meets its contract: each `return` is one law of the run of digits at the front.
-use Rattle.learning.proofs.Words.{arith}
-use Rattle.floor_text.proofs.Sizes.{size-zero, size-long, size_no_LF, size_past, size-whole}
+use Rattle.std.proofs.Common.{arith}
+use Rattle.floor_text.proofs.Sizes.{run_there, no_zero, size-zero, size_out, size_no_LF, size-whole}
 use Rattle.floor_text.proofs.size_in.Goals as goal
 
-pub returns-then-byte_at-eq48 : goal.returns-then-byte_at-eq48
-returns-then-byte_at-eq48 c =
-    (size-zero _ (omega arith), omega arith)
+pub returns-then-starts_with : goal.returns-then-starts_with
+returns-then-starts_with c = size-zero c.args.text.now c.starts_with.ensures.value c.if-starts_with.true
 
-pub returns-then-end-gt2 : goal.returns-then-end-gt2
-returns-then-end-gt2 c =
-    (search size-long, omega arith)
+pub returns-then-run-gt2 : goal.returns-then-run-gt2
+returns-then-run-gt2 c =
+    let t = c.args.text.now in
+    size_out t (no_zero t c.starts_with.ensures.value c.if-starts_with.false) c.read-run.ensures c.then-run-gt2.either
 
-pub returns-then-byte_at-ne10 : goal.returns-then-byte_at-ne10
-returns-then-byte_at-ne10 c =
-    (search size_no_LF, omega arith)
+pub slice_bounds-strip_prefix-count : goal.slice_bounds-strip_prefix-count
+slice_bounds-strip_prefix-count c =
+    let t = c.args.text.now in
+    run_there t (no_zero t c.starts_with.ensures.value c.if-starts_with.false) c.read-run.ensures
 
-pub returns-then-run-gt64 : goal.returns-then-run-gt64
-returns-then-run-gt64 c =
-    (search size_past, omega arith)
+pub slice_bounds-strip_prefix-start : goal.slice_bounds-strip_prefix-start
+slice_bounds-strip_prefix-start c =
+    let t = c.args.text.now in
+    run_there t (no_zero t c.starts_with.ensures.value c.if-starts_with.false) c.read-run.ensures
+
+pub returns-in_err-rest : goal.returns-in_err-rest
+returns-in_err-rest c =
+    let t = c.args.text.now in
+    rw c.from_residual.ensures (size_no_LF t (no_zero t c.starts_with.ensures.value c.if-starts_with.false) c.read-run.ensures c.in_err-rest.ensures.cases)
 
 pub returns : goal.returns
 returns c =
-    (search size-whole, omega arith)
+    let t = c.args.text.now in
+    size-whole t (no_zero t c.starts_with.ensures.value c.if-starts_with.false) c.read-run.ensures (omega arith, omega arith, omega arith) c.in_ok-rest.ensures.cases.0 c.in_ok-rest.ensures.cases.1

@@ -1,10 +1,7 @@
--- `floor_text::store_row` meets its contract: the invariant: `Stored`, i letters are stored.
-use Rattle.learning.proofs.Words.{◌-◌, length}
-use Rattle.floor_text.proofs.Laws.{Stored}
+-- `floor_text::store_row` meets its contract: the invariant: the first letters are stored, and the rest of the part is as it was.
+use Rattle.std.proofs.Common.{◌≡◌, ◌++◌, map, take, drop}
+use Rattle.model.specs.FloorText.{byte_of}
 use Rattle.floor_text.proofs.store_row.Given as goal
 
 abbrev pub invariant-loop-i : goal.invariant-loop-i
-invariant-loop-i l = Stored l.letters l.initial.part l.part l.i
-
-abbrev pub decreases-loop-i : goal.decreases-loop-i
-decreases-loop-i l = length l.letters - l.i
+invariant-loop-i l = l.part ≡ map byte_of (take l.i l.letters) ++ drop l.i l.initial.part

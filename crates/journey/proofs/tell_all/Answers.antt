@@ -1,15 +1,16 @@
--- `journey::tell_all` meets its contract: the laws of the loop are `Course.antt`'s; the trials left fall.
-use Rattle.learning.proofs.Words.{refl, arith}
-use Rattle.journey.proofs.Course.{none_yet, one_told, all_told}
+-- `journey::tell_all` meets its contract: the laws of the loop are `Course.antt`'s.
+use Rattle.learning.proofs.Words.{arith}
+use Rattle.journey.proofs.Course.{none_yet, settled_told, one_told, all_told}
 use Rattle.journey.proofs.tell_all.Goals as goal
 
-pub loop-made-init : goal.loop-made-init
-loop-made-init c =
-    let a = c.requires in (none_yet a.fact_1 a.fact_2.0 a.fact_2.1 a.fact_2.2, refl, refl, refl)
+pub loop-i-init : goal.loop-i-init
+loop-i-init c = none_yet c.requires.opened c.requires.room
 
-pub loop-made-preserved : goal.loop-made-preserved
-loop-made-preserved c =
-    (rw c.limit_after-limit.ensures (one_told c.loop-made.invariant.0 (search) c.tell-t.ensures), omega arith, omega arith, omega arith)
+pub returns-then-report-eq0 : goal.returns-then-report-eq0
+returns-then-report-eq0 c = settled_told c.loop-i.invariant c.loop-i-test.true c.tell-report.ensures c.if-report-eq0.true c.last_line.ensures
+
+pub loop-i-preserved : goal.loop-i-preserved
+loop-i-preserved c = one_told c.loop-i.invariant c.loop-i-test.true c.tell-report.ensures c.if-report-eq0.false
 
 pub returns : goal.returns
-returns c = all_told c.loop-made.invariant.0 (omega arith) (search)
+returns c = all_told c.loop-i.invariant (omega arith) c.last_line-2.ensures

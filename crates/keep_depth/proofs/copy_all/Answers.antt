@@ -1,16 +1,18 @@
 -- `keep_depth::copy_all` meets its contract: each part that is copied keeps what is read of the whole, and what is left at the end is told.
-use Rattle.learning.proofs.Words.{refl, arith, rules}
-use Rattle.keep_depth.proofs.Parting.{reading, part-goes, ended-told, stopped-told}
+use Rattle.std.proofs.Common.{arith, rules}
+use Rattle.keep_depth.proofs.Parting.{reading, ended-told, part_stops, part-goes}
 use Rattle.keep_depth.proofs.copy_all.Goals as goal
 
-pub loop-turns-init : goal.loop-turns-init
-loop-turns-init c = (reading _, refl, refl, refl)
+pub loop-init : goal.loop-init
+loop-init c = reading _
 
 pub returns-then-got-eq0 : goal.returns-then-got-eq0
-returns-then-got-eq0 c = let i = c.loop-turns.invariant.0 in ended-told i (omega (arith, i.few)) c.at_end.ensures
+returns-then-got-eq0 c = let i = c.loop.invariant in ended-told i (omega (arith, i.few)) c.at_end.ensures.whole c.at_end.ensures.left
 
-pub returns-then-s : goal.returns-then-s
-returns-then-s c = search (stopped-told, rules)
+pub returns-in_err-held : goal.returns-in_err-held
+returns-in_err-held c =
+    let told = part_stops c.loop.invariant c.copy_part-step.ensures c.in_err-held.ensures.ok_part in
+    search rules
 
-pub loop-turns-preserved : goal.loop-turns-preserved
-loop-turns-preserved c = (part-goes c.loop-turns.invariant.0 c.copy_part-s.ensures c.if-s.false (omega arith), search rules, search rules, search rules)
+pub loop-preserved : goal.loop-preserved
+loop-preserved c = part-goes c.loop.invariant c.copy_part-step.ensures c.in_ok-held.ensures.ok_part

@@ -1,12 +1,13 @@
--- `line::read_line` meets its contract: the scanned numbers ask for what the line asks for.
-use Rattle.learning.proofs.Words.{not-true, not-false, rules}
-use Rattle.line.proofs.Laws.{reads_none, reads}
+-- `line::read_line` meets its contract: no line, one of too many numbers or too few, or what its numbers ask for.
+use Rattle.std.proofs.Common.{rules}
+use Rattle.line.proofs.Laws.{too_many, asks_nothing, asks}
 use Rattle.line.proofs.read_line.Goals as goal
 
-pub returns-then-not-r : goal.returns-then-not-r
-returns-then-not-r c =
-    search (reads_none, not-true, rules)
+pub returns-in_err-line-clause-malformed : goal.returns-in_err-line-clause-malformed
+returns-in_err-line-clause-malformed c = search (too_many, rules)
 
-pub returns : goal.returns
-returns c =
-    search (reads, not-false, rules)
+pub returns-in_err-settings-clause-malformed : goal.returns-in_err-settings-clause-malformed
+returns-in_err-settings-clause-malformed c = search (asks_nothing, rules)
+
+pub returns-clause-asked : goal.returns-clause-asked
+returns-clause-asked c = search (asks, rules)

@@ -1,8 +1,7 @@
--- `line::scan` meets its contract. The loop's invariant: the numbers so far, with those of the bytes left, are the line's (`Scanning`), and they are seven at most.
-use Rattle.learning.proofs.Words.{rules}
-use Rattle.line.proofs.Laws.{scanned_none, refused}
+-- `line::scan` meets its contract. The loop's invariant: the numbers so far, with those of the bytes left, are the line's, and they are seven at most.
+use Rattle.std.proofs.Common.{rules}
+use Rattle.line.proofs.Laws.{unended}
 use Rattle.line.proofs.scan.Goals as goal
 
-pub returns : goal.returns
-returns c =
-    search (refused, scanned_none 0, rules)
+pub returns-clause-none : goal.returns-clause-none
+returns-clause-none c = search (unended, rules)

@@ -3,8 +3,8 @@ use Rattle.learning.proofs.Words.{rules}
 use Rattle.lookahead.proofs.Aiming.{scores, aimed}
 use Rattle.lookahead.proofs.aim.Goals as goal
 
-pub weigh_all-requires-clause-fact_1 : goal.weigh_all-requires-clause-fact_1
-weigh_all-requires-clause-fact_1 c =
+pub weigh_all-requires-clause-scores : goal.weigh_all-requires-clause-scores
+weigh_all-requires-clause-scores c =
     search (rules, scores)
 
 pub returns : goal.returns

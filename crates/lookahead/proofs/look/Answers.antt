@@ -2,13 +2,12 @@
 use Rattle.lookahead.proofs.Meaning.{looked, blocked}
 use Rattle.lookahead.proofs.look.Goals as goal
 
-pub returns-in-Window : goal.returns-in-Window
-returns-in-Window c =
+pub returns-in_err-extent : goal.returns-in_err-extent
+returns-in_err-extent c =
     let p = c.requires in
-    looked p.fact_1 (rw c.in-Window.is at c.rings.ensures) p.fact_2.marks.room c.relax.ensures
+    rw c.from_residual.ensures (blocked p.asked c.in_err-extent.ensures.2 p.fresh.marks.room)
 
-pub returns-in-Empty : goal.returns-in-Empty
-returns-in-Empty c =
+pub returns : goal.returns
+returns c =
     let p = c.requires in
-    let empty = rw c.in-Empty.is at c.rings.ensures in
-    blocked p.fact_1 empty.2 p.fact_2.marks.room
+    looked p.asked c.in_ok-extent.ensures p.fresh.marks.room c.relax.ensures

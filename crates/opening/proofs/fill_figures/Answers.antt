@@ -8,12 +8,11 @@ use Rattle.opening.proofs.fill_figures.Goals as goal
 
 pub overflow_cast-table : goal.overflow_cast-table
 overflow_cast-table c =
-    let l = c.before.before in
-    let a = l.args in
-    let p = l.requires in
-    let high = opening-high (flat a.width a.height []) p.0 p.1 p.2 a.q (goals_of a.goals) l.loop-x.x p.3 p.4.on (omega arith) in
+    let a = c.args in
+    let p = c.requires in
+    let high = opening-high (flat a.width a.height []) p.0 p.1 p.2 a.q (goals_of a.goals) c.loop-x.x p.3 p.4.on (omega arith) in
     omega (arith, c.opening.ensures [], high)
 
 pub returns : goal.returns
 unfolding opening_table
-returns c bytes = let l = c.before in fill_all _ _ _ (l.loop-x.invariant.1 ∙ l.requires.5) (λ k h. l.loop-x.invariant.2 bytes k (omega arith))
+returns c bytes = fill_all _ _ _ (c.loop-x.invariant.0 ∙ c.requires.5) (λ k h. c.loop-x.invariant.1 bytes k (omega arith))

@@ -4,9 +4,7 @@ use Rattle.opening.proofs.Truth.{judged-far, judged-near}
 use Rattle.opening.proofs.judge_distances.Goals as goal
 
 pub returns-then-dist-start-ge-FAR : goal.returns-then-dist-start-ge-FAR
-returns-then-dist-start-ge-FAR c =
-    search (rules, judged-far)
+returns-then-dist-start-ge-FAR c = search (rules, judged-far)
 
 pub returns : goal.returns
-returns c =
-    search (rules, judged-near)
+returns c = search (rules, judged-near)

@@ -1,29 +1,25 @@
 -- `opening::open_table` meets its contract: one check after another.
-use Rattle.learning.proofs.Words.{rules, sym, ◌∙◌}
-use Rattle.model.proofs.Accepted.{then_stops, then_goes, sizes_judges}
+use Rattle.learning.proofs.Words.{rules}
+use Rattle.model.proofs.Accepted.{then_stops, then_goes}
 use Rattle.model.specs.Opening.{open_table}
 use Rattle.opening.proofs.open_table.Goals as goal
 
-pub returns-in_default : goal.returns-in_default
+pub returns-in_err-floor : goal.returns-in_err-floor
 unfolding open_table
-returns-in_default c =
-    search (rules, then_stops)
+returns-in_err-floor c = search (rules, then_stops)
 
-pub returns-in_default-v : goal.returns-in_default-v
+pub returns-in_err-scale : goal.returns-in_err-scale
 unfolding open_table
-returns-in_default-v c =
-    search (rules, then_stops, then_goes)
+returns-in_err-scale c = search (rules, then_stops, then_goes)
 
-pub benches-v-requires : goal.benches-v-requires
-benches-v-requires c =
-    let sized = c.before.before.before in ((sizes_judges _ _).gives (sym sized.sizes-v.ensures ∙ sized.in-Done.is)).0
-
-pub returns-in_default-v-2 : goal.returns-in_default-v-2
+pub returns-in_err-benches : goal.returns-in_err-benches
 unfolding open_table
-returns-in_default-v-2 c =
-    search (rules, then_stops, then_goes)
+returns-in_err-benches c = search (rules, then_stops, then_goes)
+
+pub returns-in_err-goals_hold : goal.returns-in_err-goals_hold
+unfolding open_table
+returns-in_err-goals_hold c = search (rules, then_stops, then_goes)
 
 pub returns : goal.returns
 unfolding open_table
-returns c =
-    search (rules, then_goes)
+returns c = search (rules, then_goes)

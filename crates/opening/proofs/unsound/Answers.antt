@@ -5,10 +5,7 @@ use Rattle.opening.proofs.unsound.Goals as goal
 
 pub returns-then-is_above : goal.returns-then-is_above
 returns-then-is_above c =
-    let at_loop = c.before.before.before.before.before.before in
-    let l = at_loop.loop-x in
-    c.refuse_at.ensures ∙ sym (naming-names _ _ 7 l.x (omega arith) l.invariant.1 (sym c.is_above.ensures ∙ c.if-is_above.true))
+    sym (naming-names _ _ 7 c.loop-x.x (omega arith) c.loop-x.invariant (sym c.is_above.ensures ∙ c.if-is_above.true))
 
 pub returns : goal.returns
-returns c =
-    sym (naming-done _ _ 7 (λ k h. c.loop-x.invariant.1 k (omega arith)))
+returns c = sym (naming-done _ _ 7 (λ k h. c.loop-x.invariant k (omega arith)))

@@ -2,10 +2,10 @@
 use Rattle.decision.proofs.Acting.{acts_lost, acts_returns}
 use Rattle.decision.proofs.back.back_to.Goals as goal
 
-pub returns-then-not-on_last-clause-by_index : goal.returns-then-not-on_last-clause-by_index
-returns-then-not-on_last-clause-by_index c = λ path e. search acts_lost
+pub returns-then-not-on_last-clause-acts : goal.returns-then-not-on_last-clause-acts
+returns-then-not-on_last-clause-acts c = λ path e. search acts_lost
 
-pub returns-clause-by_index : goal.returns-clause-by_index
-returns-clause-by_index c =
-    let p = c.requires.fact_4 in
-    λ path e. acts_returns _ _ p.5 (search) e p.1 c.on_last.ensures c.if-not-on_last.false (search)
+pub returns-clause-acts : goal.returns-clause-acts
+returns-clause-acts c =
+    let p = c.requires in
+    λ path e. acts_returns _ _ p.risen.1 (search) e p.path c.on_last.ensures c.if-not-on_last.false (search)

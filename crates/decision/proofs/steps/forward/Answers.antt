@@ -3,12 +3,12 @@ use Rattle.learning.proofs.Words.{rules}
 use Rattle.decision.proofs.Acting.{aimed-near, near-place, opened, current_in, acts_forward}
 use Rattle.decision.proofs.steps.forward.Goals as goal
 
-pub extend-length-requires-clause-fact_1 : goal.extend-length-requires-clause-fact_1
-extend-length-requires-clause-fact_1 c =
+pub extend-length-requires-clause-writable : goal.extend-length-requires-clause-writable
+extend-length-requires-clause-writable c =
     search opened
 
-pub extend-length-requires-clause-fact_2 : goal.extend-length-requires-clause-fact_2
-extend-length-requires-clause-fact_2 c =
+pub extend-length-requires-clause-target : goal.extend-length-requires-clause-target
+extend-length-requires-clause-target c =
     search (near-place, aimed-near)
 
 pub store-requires : goal.store-requires

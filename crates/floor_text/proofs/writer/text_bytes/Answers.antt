@@ -4,4 +4,4 @@ use Rattle.model.proofs.FloorTexts.{length-text}
 use Rattle.floor_text.proofs.writer.text_bytes.Goals as goal
 
 pub returns : goal.returns
-returns c bytes s = omega (arith, length-text _ s)
+returns c = rw (← c.floor.view_is) (omega (arith, length-text _ c.floor.invariant))

@@ -1,17 +1,20 @@
 -- `keep_depth::lines::copy_lines` meets its contract. The loop's invariant: `Going`, whatever follows, what is told of the whole is what is written and then what is told
 -- of the bytes that are left.
-use Rattle.learning.proofs.Words.{◌≤◌, arith, rules}
-use Rattle.keep_depth.proofs.Copying.{going_none, going_more, room_more, line_given}
+use Rattle.std.proofs.Common.{◌∙◌, rules}
+use Rattle.std.proofs.lemmas.List.{take_rest}
+use Rattle.keep_depth.proofs.Copying.{going_ends, going_more, room_more, gives}
 use Rattle.keep_depth.proofs.lines.copy_lines.Goals as goal
 
-pub returns-then-f-eq0 : goal.returns-then-f-eq0
-returns-then-f-eq0 c =
-    search (going_none, rules)
+pub put_line-requires-clause-given : goal.put_line-requires-clause-given
+put_line-requires-clause-given c = gives c.in-Some.ensures.formed
 
-pub put_line-requires : goal.put_line-requires
-put_line-requires c =
-    let given : 1 ≤ c.first_line-f.result.given = omega arith in
-    (line_given c.first_line-f.ensures given, given, room_more c.requires c.loop-c.invariant c.first_line-f.ensures given)
+pub put_line-requires-clause-room : goal.put_line-requires-clause-room
+put_line-requires-clause-room c = room_more c.requires c.loop-given.invariant.0 c.in-Some.ensures.formed
 
-pub loop-c-preserved : goal.loop-c-preserved
-loop-c-preserved c = going_more c.requires c.loop-c.invariant c.first_line-f.ensures (omega arith) c.put_line.ensures (omega arith)
+pub loop-given-preserved : goal.loop-given-preserved
+loop-given-preserved c = (going_more c.requires c.loop-given.invariant.0 c.in-Some.ensures.formed c.put_line.ensures, c.put_line.ensures.lent ∙ c.loop-given.invariant.1)
+
+pub returns : goal.returns
+returns c =
+    rw c.then_some.ensures
+    (going_ends c.requires c.loop-given.invariant.0 _ c.in_default.ensures.malformed (rw take_rest at c.contains-malformed.ensures.cases) (search rules))

@@ -1,11 +1,11 @@
 -- `keep_depth::lines::copy_lines` meets its contract. The loop's invariant: `Going`, whatever follows, what is told of the whole is what is written and then what is told
 -- of the bytes that are left.
-use Rattle.learning.proofs.Words.{◌-◌, length}
+use Rattle.std.proofs.Common.{◌≡◌, ◌-◌, length}
 use Rattle.keep_depth.proofs.Copying.{Going}
 use Rattle.keep_depth.proofs.lines.copy_lines.Given as goal
 
-abbrev pub invariant-loop-c : goal.invariant-loop-c
-invariant-loop-c l = Going l.bytes l.first l.initial.out l.c l.out
+abbrev pub invariant-loop-given : goal.invariant-loop-given
+invariant-loop-given l = Going l.bytes l.first l.initial.copies.out.now l.copies l.line l.done × (l.copies.out.ghost_name ≡ l.initial.copies.out.ghost_name)
 
-abbrev pub decreases-loop-c : goal.decreases-loop-c
-decreases-loop-c l = length l.bytes - l.c.done
+abbrev pub decreases-loop-given : goal.decreases-loop-given
+decreases-loop-given l = length l.bytes - l.done

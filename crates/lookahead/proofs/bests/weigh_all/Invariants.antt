@@ -1,10 +1,6 @@
 -- `lookahead::bests::weigh_all` meets its contract. The loop's invariant: the keys of the first i cells are entered.
-use Rattle.learning.proofs.Words.{◌-◌, ◌≤◌}
 use Rattle.lookahead.specs.Bests.{Bests}
 use Rattle.lookahead.proofs.bests.weigh_all.Given as goal
 
 abbrev pub invariant-loop-i : goal.invariant-loop-i
-invariant-loop-i l = (l.i ≤ l.n) × Bests l.base l.mark l.cost l.table l.p l.list l.i l.best
-
-abbrev pub decreases-loop-i : goal.decreases-loop-i
-decreases-loop-i l = l.n - l.i
+invariant-loop-i l = Bests l.base l.scratch.mark l.scratch.cost l.table l.p l.scratch.list l.i l.best

@@ -1,10 +1,6 @@
 -- `lookahead::costs::highest` meets its contract. The loop's invariant: no cost of the first i cells is above the greatest so far.
-use Rattle.learning.proofs.Words.{◌-◌, ◌≤◌}
 use Rattle.lookahead.specs.Costs.{Highest}
 use Rattle.lookahead.proofs.costs.highest.Given as goal
 
 abbrev pub invariant-loop-i : goal.invariant-loop-i
-invariant-loop-i l = (l.i ≤ l.n) × Highest l.cost l.list l.i l.high
-
-abbrev pub decreases-loop-i : goal.decreases-loop-i
-decreases-loop-i l = l.n - l.i
+invariant-loop-i l = Highest l.cost l.list l.i l.high

@@ -6,9 +6,9 @@ use Rattle.model.proofs.Moves.{free_few}
 use Rattle.lookahead.proofs.Lowering.{falling_more, relaxed}
 use Rattle.lookahead.proofs.costs.relax.Goals as goal
 
-pub highest-high-requires-clause-fact_2 : goal.highest-high-requires-clause-fact_2
-highest-high-requires-clause-fact_2 c =
-    let p = c.requires in (search rules, λ x h. free_few _ x p.fact_1 (p.fact_2.free x h))
+pub highest-high-requires-clause-costs : goal.highest-high-requires-clause-costs
+highest-high-requires-clause-costs c =
+    let p = c.requires.costs in (p.costs, λ x h. free_few _ x p.sized (p.free x h))
 
 pub loop-preserved : goal.loop-preserved
 loop-preserved c =

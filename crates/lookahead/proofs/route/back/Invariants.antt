@@ -1,11 +1,6 @@
 -- `lookahead::route::back` meets its contract. The loop's invariant: the first k moves, those to the lowest cells, lead to no cell before x.
-use Rattle.learning.proofs.Words.{◌-◌}
-use Rattle.floor.specs.Moves.{flat}
 use Rattle.lookahead.specs.Way.{Unled}
 use Rattle.lookahead.proofs.route.back.Given as goal
 
 abbrev pub invariant-loop-k : goal.invariant-loop-k
-invariant-loop-k l = Unled (flat l.width l.height l.floor) l.base l.mark l.cost l.x l.k
-
-abbrev pub decreases-loop-k : goal.decreases-loop-k
-decreases-loop-k l = 8 - l.k
+invariant-loop-k l = Unled l.floor l.base l.scratch.mark l.scratch.cost l.x l.k

@@ -1,54 +1,28 @@
 -- `lookahead::route::led` meets its contract: each test that fails leads nowhere.
-use Rattle.learning.proofs.Words.{arith, rules}
+use Rattle.learning.proofs.Words.{arith}
 use Rattle.model.proofs.Moves.{free_few}
-use Rattle.floor.specs.Moves.{flat}
-use Rattle.lookahead.proofs.Grow.{Moved, moved}
-use Rattle.lookahead.proofs.Linking.{led_slack, led_new}
+use Rattle.lookahead.proofs.Grow.{moved}
+use Rattle.lookahead.proofs.Linking.{led_out, led_slack, led_new}
 use Rattle.lookahead.proofs.route.led.Goals as goal
-use Rattle.lookahead.proofs.route.led.Goals.{In-To}
+use Rattle.lookahead.proofs.route.led.Goals.{then-scratch-cell-via-then-scratch-cell, then-scratch-cell-via-else-scratch-cell+then-scratch-cell-2}
 
--- the step leads to the cell
-to_cell : (c : In-To) →
-    let a = c.args in
-    Moved (flat a.width a.height a.floor.now) a.x a.j c.in-To.cell c.in-To.v
-to_cell c = moved c.requires.fact_1 c.step_from.ensures c.in-To.is
+pub offset_bounds-scratch-x : goal.offset_bounds-scratch-x
+offset_bounds-scratch-x c =
+    omega (arith, free_few _ _ c.requires.costs.sized c.requires.cell.placed.free)
 
-pub offset_bounds-mark-cell : goal.offset_bounds-mark-cell
-offset_bounds-mark-cell c =
-    omega (arith, (to_cell (goal.at.offset_bounds-mark-cell c).In-To).at.few)
+pub bounds-scratch-x : goal.bounds-scratch-x
+bounds-scratch-x c =
+    omega (arith, free_few _ _ c.requires.costs.sized c.requires.cell.placed.free)
 
-pub bounds-mark-cell : goal.bounds-mark-cell
-bounds-mark-cell c =
-    omega (arith, (to_cell (goal.at.bounds-mark-cell c).In-To).at.few)
+pub returns-then-scratch-cell : goal.returns-then-scratch-cell
+returns-then-scratch-cell c =
+    let M = moved c.requires.costs.sized c.in_ok-cell.ensures in
+    elim c.then-scratch-cell.branch [
+      | then-scratch-cell-via-then-scratch-cell w ↦ led_out M w.if-scratch-cell.true
+      | then-scratch-cell-via-else-scratch-cell+then-scratch-cell-2 w ↦ led_slack M c.in_ok-cell.ensures.is w.if-scratch-cell-2.true
+    ]
 
-pub offset_bounds-cost-cell : goal.offset_bounds-cost-cell
-offset_bounds-cost-cell c =
-    omega (arith, (to_cell (goal.at.offset_bounds-cost-cell c).In-To).at.few)
-
-pub bounds-cost-cell : goal.bounds-cost-cell
-bounds-cost-cell c =
-    omega (arith, (to_cell (goal.at.bounds-cost-cell c).In-To).at.few)
-
-pub fine-requires : goal.fine-requires
-fine-requires c =
-    omega (arith, (to_cell (goal.at.fine-requires c).In-To).at.most)
-
-pub overflow_add-sum : goal.overflow_add-sum
-overflow_add-sum c =
-    omega (arith, c.requires.fact_2.small c.in-To.cell (omega arith), (to_cell (goal.at.overflow_add-sum c).In-To).at.most)
-
-pub offset_bounds-cost-x : goal.offset_bounds-cost-x
-offset_bounds-cost-x c =
-    omega (arith, free_few _ _ c.requires.fact_1 c.requires.fact_3.placed.free)
-
-pub bounds-cost-x : goal.bounds-cost-x
-bounds-cost-x c =
-    omega (arith, free_few _ _ c.requires.fact_1 c.requires.fact_3.placed.free)
-
-pub returns-then-sum-cost : goal.returns-then-sum-cost
-returns-then-sum-cost c =
-    search (rules, led_slack, to_cell (goal.at.returns-then-sum-cost c).In-To)
-
-pub returns-else-sum-cost : goal.returns-else-sum-cost
-returns-else-sum-cost c =
-    search (rules, led_new, to_cell (goal.at.returns-else-sum-cost c).In-To)
+pub returns : goal.returns
+returns c =
+    let p = c.requires in
+    led_new p.costs.sized p.eight (moved p.costs.sized c.in_ok-cell.ensures) c.if-scratch-cell.false c.in_ok-cell.ensures.is c.if-scratch-cell-2.false

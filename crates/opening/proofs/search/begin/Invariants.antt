@@ -1,11 +1,7 @@
 -- `opening::search::begin` meets its contract. The invariant is `Lining`: the first i goals have been entered.
-use Rattle.learning.proofs.Words.{◌-◌}
 use Rattle.model.specs.Floor.{goals_of}
 use Rattle.opening.proofs.Chain.{Lining}
 use Rattle.opening.proofs.search.begin.Given as goal
 
 abbrev pub invariant-loop-i : goal.invariant-loop-i
 invariant-loop-i l = Lining l.initial.list (goals_of l.goals) l.list l.last l.i
-
-abbrev pub decreases-loop-i : goal.decreases-loop-i
-decreases-loop-i l = l.n - l.i

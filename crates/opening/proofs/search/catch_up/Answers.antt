@@ -4,5 +4,4 @@ use Rattle.opening.proofs.Fill.{changed_all}
 use Rattle.opening.proofs.search.catch_up.Goals as goal
 
 pub returns : goal.returns
-returns c =
-    changed_all c.loop-k.invariant (omega arith)
+returns c = changed_all c.loop-place.invariant (omega arith)

@@ -3,9 +3,8 @@ use Rattle.learning.proofs.Words.{◌∙◌}
 use Rattle.opening.proofs.Held.{certified_distances}
 use Rattle.opening.proofs.search.find_distances.Goals as goal
 
+pub explore-requires-clause-benched : goal.explore-requires-clause-benched
+explore-requires-clause-benched c = c.requires.benched
+
 pub returns : goal.returns
-returns c =
-    let s = c.before.before.before.before.before.before in
-    let e = s.before.before.before.before in
-    let p = e.requires in
-    certified_distances _ p.0 (s.explore.auto.list ∙ e.clear.auto.list ∙ p.1) s.explore.ensures c.unpack.ensures
+returns c = certified_distances c.explore.new.list c.explore.ensures.sized (c.explore.auto.list ∙ c.fill.auto.self ∙ c.requires.long) c.explore.ensures.certified c.unpack.ensures

@@ -5,13 +5,10 @@ use Rattle.floor.proofs.Steps.{not_so}
 use Rattle.opening.proofs.search.follow.Goals as goal
 
 pub returns-then-not-is_free : goal.returns-then-not-is_free
-returns-then-not-is_free c =
-    search (rules, follows_blocked, not_so)
+returns-then-not-is_free g c = search (rules, follows_blocked, not_so)
 
 pub loop-m-preserved : goal.loop-m-preserved
-loop-m-preserved c =
-    search (rules, follows_more)
+loop-m-preserved g c = search (rules, follows_more)
 
 pub returns : goal.returns
-returns c =
-    search (rules, follows_all)
+returns g c = search (rules, follows_all)

@@ -1,53 +1,65 @@
--- `opening::search::spread` meets its contract. The invariant is `Held`, of whatever goals it began with; the places pass each cell once, which bounds the steps.
-use Rattle.learning.proofs.Words.{length, ◌≡◌, arith}
-use Rattle.model.specs.Floor.{goals_of}
-use Rattle.floor.specs.Moves.{flat}
-use Rattle.opening.proofs.Held.{held_same, held_offered, held-offer, held_none, step-follow, step_move, held-step, held-done}
-use Rattle.opening.specs.Chain.{Least, Held}
+-- `opening::search::spread` meets its contract. The invariant is `Held`; the places pass each cell once, which bounds the steps.
+use native.Mathlib.Nat.{mul-le-mul_left}
+use Rattle.learning.proofs.Words.{◌≡◌, ◌*◌, ◌-◌, ◌≤◌, ap, arith, length, length-replicate}
+use Rattle.model.specs.Floor.{size}
+use Rattle.model.proofs.Moves.{sized-cells}
+use Rattle.floor.specs.Moves.{all_kinds}
+use Rattle.floor.proofs.Steps.{kinds-between}
+use Rattle.opening.proofs.Held.{held_start, held_same, held_offered, held-offer, held_none, step-follow, step_move, held-step, held-done}
+use Rattle.opening.proofs.search.spread.Given.{Over}
 use Rattle.opening.proofs.search.spread.Goals as goal
-use Rattle.opening.proofs.search.spread.Goals.{After-lesser-k, At-loop-left}
+use Rattle.opening.proofs.search.spread.Goals.{After-cells-steps}
 
--- what a turn holds, of the goals of the job
-held : (c : At-loop-left) → let a = c.args in let l = c.loop-left in
-    Held (flat a.width a.height a.floor.now) (goals_of a.goals) l.list l.last l.places l.left
-held c = c.loop-left.invariant _ (held_same c.requires.0 c.last_goal-last.ensures)
+few : (g : Over) (c : After-cells-steps g) → g.row.K ≤ all_kinds
+few g c = omega (arith, c.requires.kinds, (kinds-between c.args.floor.now.bytes).1)
 
--- two places still, so that the lesser offer is the least
-two : (c : At-loop-left) → length c.loop-left.places ≡ 2
-two c = omega (arith, held c, c.requires)
+pub overflow_mul-steps : goal.overflow_mul-steps
+overflow_mul-steps g c = omega (arith, mul-le-mul_left c.cells-steps.result (few g c), c.cells-steps.ensures.count, sized-cells c.cells-steps.ensures.sized)
 
-least : (c : After-lesser-k) → let l = c.loop-left in length l.places ≡ 2 → Least l.list l.places (length l.places) c.lesser-k.result
-least c two = rw two c.lesser-k.ensures
+pub begin-last-requires : goal.begin-last-requires
+begin-last-requires g c =
+    let long : length c.args.list.now ≡ size c.args.floor.now = rw (c.requires.empty, length-replicate) in
+    (rw long c.requires.benched, omega (arith, sized-cells c.cells-steps.ensures.sized))
 
-pub lesser-k-requires-clause-fact_1 : goal.lesser-k-requires-clause-fact_1
-lesser-k-requires-clause-fact_1 c =
-    held_offered (held (goal.at.lesser-k-requires-clause-fact_1 c).At-loop-left)
+pub loop-init : goal.loop-init
+loop-init g c =
+    let steps : g.row.K * c.cells-steps.result - 0 ≡ g.row.K * size c.args.floor.now = omega (arith, ap (λ n. g.row.K * n) c.cells-steps.ensures.count) in
+    held_same (held_start c.cells-steps.ensures.sized c.requires.benched c.requires.empty c.begin-last.ensures.0 c.goal_at-places.ensures g.row.K c.requires.kinds)
+    c.begin-last.ensures.1 steps
+
+pub least-k-requires : goal.least-k-requires
+least-k-requires g c = (omega (arith, few g (goal.at.least-k-requires g c).After-cells-steps), held_offered c.loop.invariant)
+
+pub bounds-places-k : goal.bounds-places-k
+bounds-places-k g c = omega (arith, c.least-k.ensures.one, c.loop.invariant.whole, c.requires.kinds)
 
 pub returns-then-cell-eq-END : goal.returns-then-cell-eq-END
-returns-then-cell-eq-END c =
-    held_none (held (goal.at.returns-then-cell-eq-END c).At-loop-left) (least (goal.at.returns-then-cell-eq-END c).After-lesser-k (two (goal.at.returns-then-cell-eq-END c).At-loop-left)) c.if-cell-eq-END.true
+returns-then-cell-eq-END g c = held_none c.loop.invariant c.least-k.ensures c.if-cell-eq-END.true
 
 pub offer-v-requires : goal.offer-v-requires
-offer-v-requires c =
-    held-offer (held (goal.at.offer-v-requires c).At-loop-left) (least (goal.at.offer-v-requires c).After-lesser-k (two (goal.at.offer-v-requires c).At-loop-left))
+offer-v-requires g c = held-offer c.loop.invariant c.least-k.ensures
 
-pub follow-end-requires-clause-fact_1 : goal.follow-end-requires-clause-fact_1
-follow-end-requires-clause-fact_1 c =
-    (step-follow (held (goal.at.follow-end-requires-clause-fact_1 c).At-loop-left) (least (goal.at.follow-end-requires-clause-fact_1 c).After-lesser-k (two (goal.at.follow-end-requires-clause-fact_1 c).At-loop-left)) c.offer-v.ensures c.if-cell-eq-END.false).0
+pub follow-end-requires-clause-one : goal.follow-end-requires-clause-one
+follow-end-requires-clause-one g c = (step-follow c.loop.invariant c.least-k.ensures c.offer-v.ensures c.if-cell-eq-END.false).0
 
-pub follow-end-requires-clause-fact_2 : goal.follow-end-requires-clause-fact_2
-follow-end-requires-clause-fact_2 c =
-    (step-follow (held (goal.at.follow-end-requires-clause-fact_2 c).At-loop-left) (least (goal.at.follow-end-requires-clause-fact_2 c).After-lesser-k (two (goal.at.follow-end-requires-clause-fact_2 c).At-loop-left)) c.offer-v.ensures c.if-cell-eq-END.false).1
+pub follow-end-requires-clause-long : goal.follow-end-requires-clause-long
+follow-end-requires-clause-long g c = (step-follow c.loop.invariant c.least-k.ensures c.offer-v.ensures c.if-cell-eq-END.false).1
+
+pub follow-end-requires-clause-near : goal.follow-end-requires-clause-near
+follow-end-requires-clause-near g c = (step-follow c.loop.invariant c.least-k.ensures c.offer-v.ensures c.if-cell-eq-END.false).2
+
+pub offset_bounds-places-k : goal.offset_bounds-places-k
+offset_bounds-places-k g c = omega (arith, (held-offer c.loop.invariant c.least-k.ensures).1)
+
+pub whole_as_slice-move_on : goal.whole_as_slice-move_on
+whole_as_slice-move_on g c = omega (arith, few g (goal.at.whole_as_slice-move_on g c).After-cells-steps)
 
 pub move_on-requires : goal.move_on-requires
-move_on-requires c =
-    let g = goal.at.move_on-requires c in step_move (held g.At-loop-left) (least g.After-lesser-k (two g.At-loop-left)) c.offer-v.ensures c.if-cell-eq-END.false c.follow-end.ensures
+move_on-requires g c = step_move c.loop.invariant c.least-k.ensures c.offer-v.ensures c.if-cell-eq-END.false c.follow-end.ensures
 
-pub loop-left-preserved : goal.loop-left-preserved
-loop-left-preserved c gs begun =
-    let g = goal.at.loop-left-preserved c in
-    held-step (c.loop-left.invariant gs begun) (least g.After-lesser-k (two g.At-loop-left)) c.offer-v.ensures c.if-cell-eq-END.false c.follow-end.ensures c.move_on.ensures
+pub loop-preserved : goal.loop-preserved
+loop-preserved g c =
+    held-step c.loop.invariant c.least-k.ensures c.offer-v.ensures c.if-cell-eq-END.false c.follow-end.ensures c.move_on.ensures (omega arith)
 
 pub returns : goal.returns
-returns c =
-    held-done (held (goal.at.returns c).At-loop-left) c.loop-left-test.false
+returns g c = held-done c.loop.invariant (omega arith)

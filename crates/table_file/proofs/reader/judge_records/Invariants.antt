@@ -1,11 +1,13 @@
--- `table_file::reader::judge_records` meets its contract: the invariant: `Judging`, the records left answer like all of them.
-use Rattle.learning.proofs.Words.{◌-◌}
-use Rattle.table_file.specs.Site.{floor_at, goals_at}
-use Rattle.table_file.proofs.Reading.{Judging}
+-- `table_file::reader::judge_records` meets its contract: the invariant: the records left answer like all of them.
+use Rattle.std.proofs.Common.{◌≡◌, ◌+◌, ◌/◌, length}
+use Rattle.model.specs.TableFile.{judge_records}
+use Rattle.table_file.specs.Site.{goals_at}
 use Rattle.table_file.proofs.reader.judge_records.Given as goal
 
 abbrev pub invariant-loop-i : goal.invariant-loop-i
-invariant-loop-i l = Judging (floor_at l.site l.floor) l.site.q (goals_at l.site) l.n l.part l.i l.low l.t
-
-abbrev pub decreases-loop-i : goal.decreases-loop-i
-decreases-loop-i l = l.n - l.i
+invariant-loop-i l =
+    record {
+      count : length l.left / 6 + l.i ≡ length l.records / 6;
+      answers : judge_records l.site.floor l.site.q (goals_at l.site) (length l.left / 6) l.i l.low l.left
+          ≡ judge_records l.site.floor l.site.q (goals_at l.site) (length l.records / 6) 0 0 l.records;
+    }

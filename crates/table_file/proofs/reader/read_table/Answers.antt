@@ -1,37 +1,32 @@
 -- `table_file::reader::read_table` meets its contract: a refusal leaves the table; else the opening figures are filled in, then the records put.
-use Rattle.learning.proofs.Words.{◌≡◌, true, refl, sym, ◌∙◌, length, rules}
-use Rattle.answers.specs.declared.Verdict.TheVariants.{Done}
-use Rattle.model.specs.TableFile.{trailer_holds, read_verdict, read_table}
-use Rattle.floor.specs.Moves.{flat}
-use Rattle.table_file.proofs.Reading.{ending-room, records-long, read-open}
+use Rattle.std.proofs.Common.{rules, ◌∙◌}
+use Rattle.std.proofs.lemmas.Result.{err_from_is_err_and}
+use Rattle.model.specs.TableFile.{read_verdict}
+use Rattle.model.proofs.Accepted.{then_next, then_refused}
+use Rattle.model.proofs.Files.{openable}
+use Rattle.table_file.proofs.Reading.{read-refused, read-done}
 use Rattle.table_file.proofs.reader.read_table.Goals as goal
-use Rattle.table_file.proofs.reader.read_table.Goals.{In-Done}
 
-passed : (e : In-Done) → let a = e.args in
-    read_verdict (flat a.width a.height a.floor.now) a.q a.goals a.file.now (length a.table.now) ≡ Done
-passed e = sym e.judge_read-v.ensures ∙ e.in-Done.is
+pub returns-in_err-site : goal.returns-in_err-site
+unfolding read_verdict
+returns-in_err-site c =
+    let p = err_from_is_err_and c.from_residual.result c.from_residual.ensures.1 in
+    rw (p.1, p.2) (read-refused _ _ _ _ _ (then_refused _ c.in_err-site.ensures))
 
-holds : (e : In-Done) → trailer_holds e.args.file.now ≡ true
-holds e = (read-open _ _ _ _ _ (passed e)).1
-
-pub returns-in_default : goal.returns-in_default
-unfolding read_table
-returns-in_default c =
-    let refused = c.in_default.is in rw (sym c.judge_read-v.ensures ∙ refused, refused) (record { answer = refl; table = refl })
+pub returns-in_err-records : goal.returns-in_err-records
+unfolding read_verdict
+returns-in_err-records c =
+    let p = err_from_is_err_and c.from_residual-in_err-records.result c.from_residual-in_err-records.ensures.1 in
+    let z = c.in_ok-site.ensures in
+    rw (p.1, p.2) (read-refused _ _ _ _ _ (then_next _ z.3 ∙ rw (z.0, z.1, z.2) at c.in_err-records.ensures))
 
 pub fill_figures-requires : goal.fill_figures-requires
-fill_figures-requires c =
-    let o = (read-open _ _ _ _ _ (passed (goal.at.fill_figures-requires c).In-Done)).0 in search rules
-
-pub count_in-n-requires : goal.count_in-n-requires
-count_in-n-requires c =
-    search (ending-room, holds (goal.at.count_in-n-requires c).In-Done)
-
-pub apply_records-requires : goal.apply_records-requires
-apply_records-requires c =
-    search (records-long, holds (goal.at.apply_records-requires c).In-Done)
+fill_figures-requires c = let o = openable _ _ _ _ c.in_ok-site.ensures.3 in search rules
 
 pub returns : goal.returns
-unfolding read_table
+unfolding read_verdict
 returns c =
-    rw (passed (goal.at.returns c).In-Done) (record { answer = refl; table = cc (c.fill_figures.ensures c.args.floor.now) })
+    let z = c.in_ok-site.ensures in
+    let e = c.fill_figures.ensures c.args.floor.now in
+    let r = rw (z.0, z.1, z.2) at c.in_ok-records.ensures in
+    read-done _ _ _ _ _ (then_next _ z.3 ∙ r.1) r.0 (rw e at c.apply_records.ensures)

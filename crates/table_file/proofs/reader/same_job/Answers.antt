@@ -1,34 +1,24 @@
--- `table_file::reader::same_job` meets its contract: by what the trailer names, then by its q.
-use Rattle.learning.proofs.Words.{List, ℕ, ◌≡◌, sym, ◌∙◌, eqb, eq-eqb, ne_eqb}
-use Rattle.model.specs.Basics.{unless}
-use Rattle.model.specs.TableFile.{same_job}
-use Rattle.table_file.specs.Site.{floor_at, goals_at}
-use Rattle.table_file.proofs.Reading.{ending-room}
+-- `table_file::reader::same_job` meets its contract: by what the trailer names, and by its q.
+use Rattle.std.proofs.Common.{sym, ◌∙◌, ap}
+use Rattle.std.specs.Prelude.{Err}
+use Rattle.model.proofs.Accepted.{never}
+use Rattle.table_file.specs.Site.{goals_at}
+use Rattle.table_file.proofs.Reading.{ending-room, same_judges}
 use Rattle.table_file.proofs.reader.same_job.Goals as goal
-use Rattle.table_file.proofs.reader.same_job.Goals.{After-wide8}
+use Rattle.table_file.proofs.reader.same_job.Goals.{then-not-names-via-then-not-names, then-not-names-via-else-not-names+then-from-site}
 
--- once the trailer names this job, its q decides
-by_scale : (e : After-wide8) (bytes : List ℕ) → let a = e.args in
-    same_job (floor_at a.site bytes) a.site.q (goals_at a.site) a.file.now ≡ unless (eqb e.wide8.result a.site.q) 14
-unfolding same_job
-by_scale e bytes =
-    rw (sym (e.names.ensures bytes) ∙ e.if-not-names.false, ← e.ending_of-t.ensures.0, ← e.wide8.ensures.0)
+pub scale_in-requires : goal.scale_in-requires
+scale_in-requires c = search ending-room
 
 pub returns-then-not-names : goal.returns-then-not-names
-unfolding same_job
-returns-then-not-names c bytes =
-    rw (sym (c.names.ensures bytes) ∙ c.if-not-names.true) c.refuse.ensures
-
-pub ending_of-t-requires : goal.ending_of-t-requires
-ending_of-t-requires c =
-    search ending-room
-
-pub returns-then-wide8-site : goal.returns-then-wide8-site
-unfolding same_job
-returns-then-wide8-site c bytes =
-    rw (by_scale (goal.at.returns-then-wide8-site c).After-wide8 bytes, ne_eqb _ _ c.if-wide8-site.true) c.refuse-then-wide8-site.ensures
+returns-then-not-names c =
+    let z = c.args.site.now in
+    ap Err c.numbered.ensures ∙ sym ((same_judges z.floor z.q (goals_at z) c.args.file.now).refused (λ h. elim c.then-not-names.branch [
+      | then-not-names-via-then-not-names w ↦ never h.0 (sym c.names.ensures ∙ w.if-not-names.true)
+      | then-not-names-via-else-not-names+then-from-site w ↦ w.if-from-site.true (w.from.ensures ∙ w.scale_in.ensures ∙ h.1)
+    ]))
 
 pub returns : goal.returns
-unfolding same_job
-returns c bytes =
-    rw (by_scale (goal.at.returns c).After-wide8 bytes, eq-eqb _ _ c.if-wide8-site.false)
+returns c =
+    let z = c.args.site.now in
+    sym ((same_judges z.floor z.q (goals_at z) c.args.file.now).done (sym c.names.ensures ∙ c.if-not-names.false, sym c.scale_in.ensures ∙ sym c.from.ensures ∙ c.if-from-site.false))

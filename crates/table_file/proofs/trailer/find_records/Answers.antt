@@ -17,7 +17,7 @@ returns-then-not-trailer_holds-clause-part c =
 pub returns-then-not-trailer_holds-clause-own : goal.returns-then-not-trailer_holds-clause-own
 unfolding find_records start_of
 returns-then-not-trailer_holds-clause-own c =
-    let faulty = sym c.trailer_holds.ensures ∙ c.if-not-trailer_holds.true in (refl, rw faulty)
+    let faulty = sym c.trailer_holds.ensures ∙ c.if-not-trailer_holds.true in (refl, rw faulty (omega arith))
 
 pub back_in-requires : goal.back_in-requires
 back_in-requires c =

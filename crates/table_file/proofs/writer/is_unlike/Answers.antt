@@ -6,9 +6,9 @@ use Rattle.table_file.proofs.writer.is_unlike.Goals as goal
 pub returns-then-is_free : goal.returns-then-is_free
 unfolding unlike
 returns-then-is_free c =
-    rw (sym c.is_free.ensures ∙ c.if-is_free.true, c.wide32-figure.ensures.0, c.opening_of-least.ensures.0)
+    rw (sym c.is_free.ensures ∙ c.if-is_free.true, c.opening-least.ensures.0)
 
-pub returns : goal.returns
+pub returns-else-is_free : goal.returns-else-is_free
 unfolding unlike
-returns c =
-    rw (sym c.is_free.ensures ∙ c.if-is_free.false, c.wide32-figure.ensures.0, c.opening_of-least.ensures.0)
+returns-else-is_free c =
+    rw (sym c.is_free.ensures ∙ c.if-is_free.false, c.opening-least.ensures.0)

@@ -1,13 +1,12 @@
 -- `table_file::writer::judge_unlike` meets its contract: the invariant: no cell passed is unlike.
-use Rattle.learning.proofs.Words.{sym, ◌∙◌, arith}
+use Rattle.std.proofs.Common.{sym, ◌∙◌, arith}
 use Rattle.model.proofs.Accepted.{naming-names, naming-done}
 use Rattle.table_file.proofs.writer.judge_unlike.Goals as goal
 
 pub returns-then-is_unlike : goal.returns-then-is_unlike
 returns-then-is_unlike c =
-    let l = c.loop-x in
-    c.refuse_at.ensures ∙ sym (naming-names _ _ 16 _ (omega arith) l.invariant.1 (sym c.is_unlike.ensures ∙ c.if-is_unlike.true))
+    sym (naming-names _ _ 16 _ (omega arith) c.loop-x.invariant (sym c.is_unlike.ensures ∙ c.if-is_unlike.true))
 
 pub returns : goal.returns
 returns c =
-    sym (naming-done _ _ 16 (λ k h. c.loop-x.invariant.1 k (omega arith)))
+    sym (naming-done _ _ 16 (λ k h. c.loop-x.invariant k (omega arith)))

@@ -1,20 +1,15 @@
--- `table_file::writer::put_places` meets its contract: four halves, one after another.
-use Rattle.learning.proofs.Words.{arith}
-use Rattle.model.specs.TableFile.{half}
-use Rattle.table_file.proofs.Writing.{put_four}
+-- `table_file::writer::put_places` meets its contract: the invariant: the places passed are put.
+use Rattle.std.proofs.Common.{◌≡◌, arith, add-one}
+use Rattle.model.specs.Floor.{goals_of}
+use Rattle.notation.proofs.Prints.{prints_then, room_left}
+use Rattle.table_file.proofs.Writing.{places-long}
 use Rattle.table_file.proofs.writer.put_places.Goals as goal
 
+pub half-requires : goal.half-requires
+half-requires c = room_left c.loop-i.invariant _ _ c.requires (omega (arith, places-long (goals_of c.args.goals) c.loop-i.i))
+
+pub loop-i-preserved : goal.loop-i-preserved
+loop-i-preserved c = rw (add-one c.loop-i.i, ← c.goal_place.ensures) (prints_then c.loop-i.invariant c.half.ensures)
+
 pub returns : goal.returns
-returns c =
-    let fourth = c.before.before in
-    let third = fourth.before.before.before.before.before in
-    let second = third.before.before.before.before.before in
-    let first = second.before.before.before.before.before in
-    let a = first.args in
-    let p₀ = first.goal_place in
-    let p₁ = second.goal_place-2 in
-    let p₂ = third.goal_place-3 in
-    let p₃ = fourth.goal_place-4 in
-    rw (← p₀.ensures, ← p₁.ensures, ← p₂.ensures, ← p₃.ensures)
-    (put_four a.at (half p₀.result) (half p₁.result) (half p₂.result) (half p₃.result) _
-    first.put_half.ensures second.put_half-2.ensures third.put_half-3.ensures fourth.put_half-4.ensures (omega arith))
+returns c = let e : c.loop-i.i ≡ 4 = omega arith in rw e at c.loop-i.invariant

@@ -1,11 +1,8 @@
--- `table_file::writer::put_records` meets its contract: the invariant: `Putting`, n records of the cells passed are put.
-use Rattle.learning.proofs.Words.{◌-◌, ◌*◌, length}
-use Rattle.table_file.specs.Site.{floor_at, goals_at}
+-- `table_file::writer::put_records` meets its contract: the invariant: `Putting`, the records that are put and those that are left make the whole.
+use Rattle.model.specs.Floor.{size}
+use Rattle.table_file.specs.Site.{goals_at}
 use Rattle.table_file.proofs.Writing.{Putting}
 use Rattle.table_file.proofs.writer.put_records.Given as goal
 
 abbrev pub invariant-loop-x : goal.invariant-loop-x
-invariant-loop-x l = Putting (floor_at l.site l.floor) l.site.q (goals_at l.site) l.table l.initial.out (l.site.width * l.site.height) l.n l.x l.out
-
-abbrev pub decreases-loop-x : goal.decreases-loop-x
-decreases-loop-x l = length l.table - l.x
+invariant-loop-x l = Putting l.site.floor l.site.q (goals_at l.site) l.table l.fn.out l.out (size l.site.floor) l.x

@@ -1,0 +1,2 @@
+-- What the functions of calls promise: Printing.
+pub mod Printing

@@ -1,3 +1,0 @@
-// Lists lent on to a call, for walks by hand: no code.
-
-#![tactic(auto)]

@@ -1,0 +1,26 @@
+-- `numbers::Reader::several` meets its contract. The loop's invariant: `Filling`, reading on from here gives what reading the whole list gives.
+use Rattle.std.proofs.Common.{arith, ◌∙◌, refl}
+use Rattle.std.proofs.lemmas.List.{set-get_or}
+use Rattle.numbers.proofs.Lists.{filling, filling_long, filling_off, filling_more, filling_all}
+use Rattle.numbers.proofs.Reader.several.Goals as goal
+
+pub returns-then-list-n-clause-read : goal.returns-then-list-n-clause-read
+returns-then-list-n-clause-read g c = filling_long _ _ _ _ _ _ c.if-list-n.true
+
+pub loop-entry-init : goal.loop-entry-init
+loop-entry-init g c = record { filling = filling _ _ _ _ _ _ c.if-list-n.false; input = refl }
+
+pub returns-in_err-number-clause-read : goal.returns-in_err-number-clause-read
+returns-in_err-number-clause-read g c =
+    let r = c.loop-entry.invariant in
+    let s = rw (r.input, c.MOST.ensures) at c.number.ensures in
+    rw (c.from_residual.ensures, set-get_or) (filling_off r.filling (omega arith) s.value s.place c.in_err-number.was)
+
+pub loop-entry-preserved : goal.loop-entry-preserved
+loop-entry-preserved g c =
+    let r = c.loop-entry.invariant in
+    let s = rw (r.input, c.MOST.ensures) at c.number.ensures in
+    record { filling = filling_more r.filling (omega arith) s.value s.place _ cc; input = c.number.ensures.input ∙ r.input }
+
+pub returns-clause-read : goal.returns-clause-read
+returns-clause-read g c = filling_all c.loop-entry.invariant.filling (omega arith)

@@ -1,7 +1,0 @@
--- `renew::rooms::kept` meets its contract: by the length of a list that repeats, and not by going through it.
-use Rattle.learning.proofs.Words.{sym, ℕ, length-replicate}
-use Rattle.renew.proofs.rooms.kept.Goals as goal
-
-pub returns : goal.returns
-returns c =
-    sym (length-replicate {0} {A = ℕ} 1048576 0)
