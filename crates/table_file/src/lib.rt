@@ -10,5 +10,6 @@ mod writer;
 
 pub use reader::read_table;
 pub use renewal::renew_file;
+pub use site::Site;
 pub use trailer::{check_trailer, find_records};
 pub use writer::write_table;

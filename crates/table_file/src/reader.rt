@@ -6,7 +6,7 @@ ghost use Rattle.floor.specs.Moves.{flat};
 ghost use Rattle.table_file.specs.Site.{goals_at};
 ghost use Rattle.table_file.specs.Promises.{Judges, Reads};
 
-use super::site::Site;
+use super::site::{OpenSite, Site};
 use super::trailer::{
     FIRST_LONG, SECOND_LONG, back_in, check_trailer, edition_in, find_records, goal_place,
     scale_in, trailer_of,
@@ -19,7 +19,7 @@ use notation::bytes::{half_at, word_at};
 const FIRST_GOALS: usize = 1;
 
 // Whether the site that a trailer names is this one: of edition 1, which names one goal,
-fn first_names(site: &Site, t: &[u8]) -> bool
+fn first_names(site: &OpenSite, t: &[u8]) -> bool
     requires { length t.now ≡ first_long }
     ensures { result ≡ first_names site.now.floor (goals_at site.now) t.now }
 {
@@ -46,7 +46,7 @@ fn places_named(goals: Goals, t: &[u8]) -> bool
     true
 }
 
-fn second_names(site: &Site, t: &[u8]) -> bool
+fn second_names(site: &OpenSite, t: &[u8]) -> bool
     requires { length t.now ≡ second_long }
     ensures { result ≡ second_names site.now.floor (goals_at site.now) t.now }
 {
@@ -60,7 +60,7 @@ fn second_names(site: &Site, t: &[u8]) -> bool
 }
 
 // By the trailer's edition.
-fn names(site: &Site, file: &[u8]) -> bool
+fn names(site: &OpenSite, file: &[u8]) -> bool
     requires { trailer_holds file.now ≡ true }
     ensures { result ≡ named site.now.floor (goals_at site.now) file.now }
 {
@@ -71,7 +71,7 @@ fn names(site: &Site, file: &[u8]) -> bool
 }
 
 // 14: width, height, q or a goal not this job's.
-fn same_job(site: &Site, file: &[u8]) -> Result<(), Refusal>
+fn same_job(site: &OpenSite, file: &[u8]) -> Result<(), Refusal>
     requires { trailer_holds file.now ≡ true }
     ensures { result ≡ same_job site.now.floor site.now.q (goals_at site.now) file.now }
 {
@@ -82,7 +82,7 @@ fn same_job(site: &Site, file: &[u8]) -> Result<(), Refusal>
 }
 
 // 18 to 22: the number of a record's first fault. `low` is one more than the cell before.
-fn record_fault(site: &Site, low: usize, part: &[u8]) -> Option<usize>
+fn record_fault(site: &OpenSite, low: usize, part: &[u8]) -> Option<usize>
     requires { length part.now ≡ 6 }
     ensures { let fault = record_fault site.now.floor site.now.q (goals_at site.now) low part.now in
         MatchOption result (fault ≡ 0) (λ number. (fault ≡ number) × (1 ≤ number)) }
@@ -108,7 +108,7 @@ fn record_fault(site: &Site, low: usize, part: &[u8]) -> Option<usize>
 }
 
 // The records, one after another: names the first faulty one. The remaining part is passed on at each record.
-fn judge_records(site: &Site, records: &[u8]) -> Result<(), Refusal>
+fn judge_records(site: &OpenSite, records: &[u8]) -> Result<(), Refusal>
     ensures { result ≡ judge_records site.now.floor site.now.q (goals_at site.now) (length records.now / 6) 0 0 records.now }
 {
     let mut left = records;
@@ -150,7 +150,7 @@ fn apply_records(records: &[u8], table: &mut [u32])
 }
 
 // 13, 28, 14 and 18 to 22. It answers the records.
-fn judge_file<'a>(site: &Site, file: &'a [u8]) -> Result<&'a [u8], Refusal>
+fn judge_file<'a>(site: &OpenSite, file: &'a [u8]) -> Result<&'a [u8], Refusal>
     ensures { Judges site.now.floor site.now.q (goals_at site.now) file.now result }
 {
     check_trailer(file)?;
@@ -176,7 +176,13 @@ pub fn read_table(
     ensures { Reads (read_verdict (flat width height floor.now) q goals file.now (length table.old))
         (read_table (flat width height floor.now) q goals file.now table.old) result table.new }
 {
-    let site = Site::open(width, height, goals, q, floor, table.len())?;
+    let site = Site {
+        width,
+        height,
+        goals,
+        q,
+    };
+    let site = site.open(floor, table.len())?;
     let records = judge_file(&site, file)?;
     opening::fill_figures(width, height, goals, q, table);
     apply_records(records, table);

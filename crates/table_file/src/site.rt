@@ -9,9 +9,18 @@ ghost use Rattle.table_file.specs.Promises.{Opened};
 use answers::{Goals, Refusal};
 use floor::Floor;
 
-// A site that 1, 3, 4 and 27 let through.
+// What a table belongs to: the sizes of its floor, the goals, and the q of its figures.
+#[derive(Clone, Copy)]
+pub struct Site {
+    pub width: usize,
+    pub height: usize,
+    pub goals: Goals,
+    pub q: usize,
+}
+
+// A site with its floor, which 1, 3, 4 and 27 let through.
 #[derive(Drop)]
-pub struct Site<'a> {
+pub struct OpenSite<'a> {
     pub floor: Floor<'a>,
     pub goals: Goals,
     pub q: usize,
@@ -27,25 +36,31 @@ pub struct Named {
     pub q: u8,
 }
 
-impl<'a> Site<'a> {
+impl Site {
     // 1, 3, 4 and 27.
-    pub fn open(
-        width: usize,
-        height: usize,
-        goals: Goals,
-        q: usize,
-        floor: &'a [u8],
-        figures: usize,
-    ) -> Result<Site<'a>, Refusal>
-        ensures { let plan = flat width height floor.now in
+    pub fn open<'a>(self, floor: &'a [u8], figures: usize) -> Result<OpenSite<'a>, Refusal>
+        ensures { let plan = flat self.width self.height floor.now in
             MatchResult result
-            (λ s. (s.floor ≡ plan) × (s.goals ≡ goals) × (s.q ≡ q) × (open_table plan q goals figures ≡ Ok tt))
-            (λ r. open_table plan q goals figures ≡ Err r) }
+            (λ s. (s.floor ≡ plan) × (s.goals ≡ self.goals) × (s.q ≡ self.q) × (open_table plan self.q self.goals figures ≡ Ok tt))
+            (λ r. open_table plan self.q self.goals figures ≡ Err r) }
     {
-        let floor = opening::open_table(width, height, goals, q, floor, figures)?;
-        Ok(Site { floor, goals, q })
+        let floor = opening::open_table(
+            self.width,
+            self.height,
+            self.goals,
+            self.q,
+            floor,
+            figures,
+        )?;
+        Ok(OpenSite {
+            floor,
+            goals: self.goals,
+            q: self.q,
+        })
     }
+}
 
+impl<'a> OpenSite<'a> {
     // The opening figure of a cell. (Laid out where it is called: a call for each record takes an eighth of reading.)
     #[inline]
     pub fn opening(&self, cell: usize) -> usize

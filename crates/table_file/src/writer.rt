@@ -9,14 +9,14 @@ ghost use Rattle.notation.specs.Prints.{Prints, HasRoom};
 ghost use Rattle.table_file.specs.Site.{goals_at, changed_at, table_verdict};
 ghost use Rattle.table_file.specs.Trailer.{places_to, job_of, back_of, trailer_at};
 
-use super::site::{Named, Site};
+use super::site::{Named, OpenSite, Site};
 use super::trailer::{LETTERS, SECOND_LONG, goal_place};
 use answers::{Goals, Place, Refusal};
 use floor::MOST_GOALS;
 use notation::print::Printer;
 
 // Whether a free cell is below its opening figure, or a blocked one unlike it.
-fn is_unlike(site: &Site, table: &[u32], x: usize) -> bool
+fn is_unlike(site: &OpenSite, table: &[u32], x: usize) -> bool
     requires on_floor { x < size site.now.floor }
     requires long { length table.now ≡ size site.now.floor }
     ensures { result ≡ unlike site.now.floor site.now.q (goals_at site.now) table.now x }
@@ -31,7 +31,7 @@ fn is_unlike(site: &Site, table: &[u32], x: usize) -> bool
 }
 
 // 16: names the lowest such cell.
-fn judge_unlike(site: &Site, table: &[u32]) -> Result<(), Refusal>
+fn judge_unlike(site: &OpenSite, table: &[u32]) -> Result<(), Refusal>
     requires { length table.now ≡ size site.now.floor }
     ensures { result ≡ naming (size site.now.floor) (unlike site.now.floor site.now.q (goals_at site.now) table.now) 16 }
 {
@@ -47,7 +47,7 @@ fn judge_unlike(site: &Site, table: &[u32]) -> Result<(), Refusal>
 }
 
 // How many cells have a figure that differs from the opening figure.
-fn count_changed(site: &Site, table: &[u32]) -> usize
+fn count_changed(site: &OpenSite, table: &[u32]) -> usize
     requires { length table.now ≡ size site.now.floor }
     ensures { (result ≡ length (changed_at site.now table.now)) × (result ≤ 4096) }
 {
@@ -61,7 +61,7 @@ fn count_changed(site: &Site, table: &[u32]) -> usize
 }
 
 // A record of each such cell.
-fn put_records(out: &mut Printer, site: &Site, table: &[u32])
+fn put_records(out: &mut Printer, site: &OpenSite, table: &[u32])
     requires long { length table.now ≡ size site.now.floor }
     requires room { HasRoom out.old (6 * length (changed_at site.now table.now)) }
     ensures { Prints out.old (records_of table.now (changed_at site.now table.now)) out.new }
@@ -122,7 +122,7 @@ pub fn put_trailer(out: &mut Printer, named: Named, count: usize)
 }
 
 // 5, 16 and 17.
-fn judge_table(site: &Site, table: &[u32], room: usize) -> Result<(), Refusal>
+fn judge_table(site: &OpenSite, table: &[u32], room: usize) -> Result<(), Refusal>
     requires { length table.now ≡ size site.now.floor }
     ensures { result ≡ table_verdict site.now table.now room }
 {
@@ -151,7 +151,13 @@ pub fn write_table(
 ) -> Result<usize, Refusal>
     ensures { Writes (write_table (flat width height floor.now) q goals table.now buffer.old) result buffer.new }
 {
-    let site = Site::open(width, height, goals, q, floor, table.len())?;
+    let site = Site {
+        width,
+        height,
+        goals,
+        q,
+    };
+    let site = site.open(floor, table.len())?;
     judge_table(&site, table, buffer.len())?;
     let mut out = Printer { out: buffer, at: 0 };
     put_records(&mut out, &site, table);

@@ -1,7 +1,7 @@
--- `Site::opening` meets its contract: an opening figure is within the ceiling.
+-- `OpenSite::opening` meets its contract: an opening figure is within the ceiling.
 use Rattle.std.proofs.Common.{arith}
 use Rattle.model.proofs.OpeningSound.{opening-within}
-use Rattle.table_file.proofs.site.Site.opening.Goals as goal
+use Rattle.table_file.proofs.site.OpenSite.opening.Goals as goal
 
 pub returns : goal.returns
 returns c =
