@@ -16,19 +16,14 @@ extern "C" {
     fn probe_plan(
         width: usize, height: usize, count: usize, goal: usize, other: usize, depth: usize, p: usize,
         floor: *const u8, floor_len: usize, s: usize, table: *const u32, table_len: usize,
-        base: u32, scratch: *mut Scratch, out: *mut u8, out_len: usize,
+        base: u32, mark: *mut u32, mark_len: usize, cost: *mut u16, cost_len: usize,
+        list: *mut u16, list_len: usize, out: *mut u8, out_len: usize,
     ) -> usize;
 }
 
-// What the proved lookahead is lent, laid out as it lays it out: lists with a place a cell, and one of the window's cells with two.
+// How long the lists are that the proved lookahead is lent: those with a place a cell, and the list of the window's cells.
 const PLACES: usize = 4096;
-
-#[repr(C)]
-struct Scratch {
-    mark: [u32; PLACES],
-    cost: [u16; PLACES],
-    list: [u16; 2 * PLACES],
-}
+const LISTED: usize = 2 * PLACES;
 
 // The bytes of cells that are no ordinary free ones.
 const BLOCKED: u8 = 1;
@@ -66,10 +61,12 @@ impl Plain<'_> {
     }
 }
 
-// The proved lookahead, with the scratch that it is lent and that is never cleared.
+// The proved lookahead, with the lists that it is lent and that are never cleared.
 struct Proved {
     base: u32,
-    scratch: Box<Scratch>,
+    mark: Vec<u32>,
+    cost: Vec<u16>,
+    list: Vec<u16>,
     out: [u8; MOST_MOVES],
 }
 
@@ -78,7 +75,8 @@ impl Proved {
         let answer = unsafe {
             probe_plan(
                 j.side, j.side, j.goals.len(), j.goals[0], *j.goals.last().unwrap(), j.depth, j.p, j.bytes.as_ptr(), j.bytes.len(), s, j.table.as_ptr(), j.table.len(),
-                self.base, &mut *self.scratch, self.out.as_mut_ptr(), self.out.len(),
+                self.base, self.mark.as_mut_ptr(), self.mark.len(), self.cost.as_mut_ptr(), self.cost.len(),
+                self.list.as_mut_ptr(), self.list.len(), self.out.as_mut_ptr(), self.out.len(),
             )
         };
         self.base += 16;
@@ -134,8 +132,8 @@ fn main() {
         let floor = Floor::new(side, side, bytes);
         for &depth in depths {
             let j = Job { side, goals, depth, p: 16, bytes, table: &table };
-            let scratch = Box::new(Scratch { mark: [0; PLACES], cost: [0; PLACES], list: [0; 2 * PLACES] });
-            let mut ours = Proved { base: 1, scratch, out: [0; MOST_MOVES] };
+            let mut ours =
+                Proved { base: 1, mark: vec![0; PLACES], cost: vec![0; PLACES], list: vec![0; LISTED], out: [0; MOST_MOVES] };
             let mut plain = Plain { floor: &floor, window: Window::new(), out: [0; MOST_MOVES] };
             let mut starts = vec![];
             for s in (0..cells).filter(|&s| bytes[s] != BLOCKED && !goals.contains(&s)) {

@@ -29,7 +29,6 @@ use Rattle.model.proofs.Benches.{at_goal_lem}
 use Rattle.model.proofs.Meaning.{window-inside, nine_not}
 use Rattle.model.proofs.Cases.{act-arrived, act_blind, act-learns, learn_over, learn-forward, learn-back, back-stays, back_lost, back-goes, decide-refused, decide_acts}
 use Rattle.lookahead.specs.declared.Ahead.{Ahead}
-use Rattle.lookahead.specs.declared.Extent.{Extent}
 use Rattle.lookahead.specs.declared.Scratch.{Scratch}
 use Rattle.lookahead.specs.Contract.{Used, Asked, Near, Seen, Window, Aimed, Figures, moves_to}
 use Rattle.decision.specs.declared.Acted.{Acted}
@@ -105,8 +104,8 @@ lost {j} {bytes} {l} x a e = by (eqb (ring j bytes (seen j bytes l) x) (seen j b
     by false q = refl
 
 -- a cell on the last ring is in the window
-pub shows_last : {j : Job} {bytes : List ℕ} {l x base : ℕ} {scratch : Scratch} {on : Bool} → on ≡ eqb (ring j bytes (seen j bytes l) x) (seen j bytes l).last → on ≡ true → Asked j bytes l
-    → Seen j bytes l base scratch → Shows j bytes l x base scratch
+pub shows_last : {j : Job} {bytes : List ℕ} {l x base : ℕ} {mark cost : List ℕ} {on : Bool} → on ≡ eqb (ring j bytes (seen j bytes l) x) (seen j bytes l).last → on ≡ true → Asked j bytes l
+    → Seen j bytes l base mark cost → Shows j bytes l x base mark cost
 shows_last {j} {bytes} {l} {x} is e a h = record { asked = a; seen = h; near = omega (arith, eqb-true (ring j bytes (seen j bytes l) x) (seen j bytes l).last (sym is ∙ e)) }
 
 -- ---- the ways through
@@ -118,7 +117,7 @@ module _ {j : Job} {bytes : List ℕ} {s : State} where
   pub acts_refused : {r : Acted} {number base : ℕ} (table path : List ℕ) → r ≡ refusing s number base → Acts j bytes s (refused s table path number) r table path
   acts_refused table path q = rw q (record { answer = refl; way = refl; state = refl; rise = refl; cost = refl; table = refl; path = refl })
 
-  pub serves_refused : {r : Acted} {number base : ℕ} {scratch : Scratch} {place path : List ℕ} → r ≡ refusing s number base → Used base scratch
+  pub serves_refused : {r : Acted} {number base : ℕ} {scratch : Scratch} {place path : List ℕ} → r ≡ refusing s number base → Used base scratch.mark scratch.cost scratch.list
       → Places place path s.length → Serves j bytes s r scratch place path
   serves_refused q u p = rw q (record { used = u; places = p; shown = record { window = tt } })
 
@@ -186,7 +185,7 @@ module _ {j : Job} {bytes : List ℕ} {s : State} where
 -- ---- from the tests to the deed
 
 module _ (j : Job) (bytes : List ℕ) (s : State) (table path : List ℕ) where
-  pub act-full : {base : ℕ} {scratch : Scratch} {e : Extent} → Asked j bytes s.current → Window j bytes s.current base scratch e
+  pub act-full : {base : ℕ} {mark cost list : List ℕ} {n last : ℕ} → Asked j bytes s.current → Window j bytes s.current base mark cost list n last
       → act j bytes s table path ≡ learns j bytes s table path
   unfolding learns
   act-full a h = act-learns j bytes s table path (aside a) (rw h.last_is at h.full)

@@ -53,9 +53,9 @@ pub record Acts (j : Job) (bytes : List ℕ) (s : State) (d : Deed) (r : Acted) 
 
 -- The scratch after a decision serves the next one, and first to lay the moves of this one.
 pub record Serves (j : Job) (bytes : List ℕ) (s : State) (r : Acted) (scratch : Scratch) (place path : List ℕ) : Type 0 where
-  pub used : Used r.base scratch
+  pub used : Used r.base scratch.mark scratch.cost scratch.list
   pub places : Places place path r.state.length
-  pub shown : Shown j bytes s.current r.answer r.base scratch
+  pub shown : Shown j bytes s.current r.answer r.base scratch.mark scratch.cost
 
 -- The public decision's answer and lists are those of the model's outcome.
 pub record Decides (o : Outcome) (r : Decided) (table' path' moves' : List ℕ) : Type 0 where

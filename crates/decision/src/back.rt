@@ -22,23 +22,24 @@ fn back_to(
     last: usize,
     table: &mut [u32],
     base: u32,
-    scratch: &Scratch,
+    mark: &[u32],
+    cost: &[u16],
 ) -> Acted
     requires asked { Asked job floor.now l }
-    requires seen { Seen job floor.now l base scratch.now }
+    requires seen { Seen job floor.now l base mark.now cost.now }
     requires last { (last ≡ (seen job floor.now l).last) × (last ≤ deepest) }
     requires path { 1 ≤ state.length }
     requires table { (state.current < length table.old) × (length table.old ≤ 4096) }
     requires risen { (figure ≤ highest_new) × (rise ≡ figure - get_or table.old state.current 0) }
     ensures acts { (path : List ℕ) → l ≡ get_or path (state.length - 1) 0 → Acts job floor.now state
         (model.go_back job floor.now state table.old path figure) result table.new path }
-    ensures shown { (result.base ≡ base) × (result.state.length ≤ state.length) × Shown job floor.now state.current result.answer base scratch.now }
+    ensures shown { (result.base ≡ base) × (result.state.length ≤ state.length) × Shown job floor.now state.current result.answer base mark.now cost.now }
 {
     let x = state.current;
-    if !lookahead::on_last(job, floor, l, base, scratch, last, x) {
+    if !lookahead::on_last(job, floor, l, base, mark, cost, last, x) {
         return super::refuse(state, 8, base);
     }
-    let leg = lookahead::leg(job, floor, l, base, scratch, x);
+    let leg = lookahead::leg(job, floor, l, base, mark, cost, x);
     super::steps::store(table, x, figure);
     Acted {
         answer: Answer::BackedOut {
@@ -70,12 +71,12 @@ pub(crate) fn go_back(
     scratch: &mut Scratch,
 ) -> Acted
     requires ready { Ready job floor.now state table.old path.now }
-    requires used { Used base scratch.old }
+    requires used { Used base scratch.old.mark scratch.old.cost scratch.old.list }
     requires risen { (figure ≤ highest_new) × (rise ≡ figure - get_or table.old state.current 0) }
     ensures acts { Acts job floor.now state (model.go_back job floor.now state table.old path.now figure)
         result table.new path.now }
-    ensures used { Used result.base scratch.new × (result.state.length ≤ state.length)
-        × Shown job floor.now state.current result.answer result.base scratch.new }
+    ensures used { Used result.base scratch.new.mark scratch.new.cost scratch.new.list × (result.state.length ≤ state.length)
+        × Shown job floor.now state.current result.answer result.base scratch.new.mark scratch.new.cost }
 {
     let length = state.length;
     if length == 0 {
@@ -90,7 +91,15 @@ pub(crate) fn go_back(
     }
     let l = usize::from(path[length - 1]);
     let next = lookahead::renew(base, &mut scratch.mark);
-    let Some(extent) = lookahead::look(job, floor, l, next, scratch) else {
+    let Some(extent) = lookahead::look(
+        job,
+        floor,
+        l,
+        next,
+        &mut scratch.mark,
+        &mut scratch.cost,
+        &mut scratch.list,
+    ) else {
         return super::refuse(state, 8, next);
     };
     back_to(
@@ -103,6 +112,7 @@ pub(crate) fn go_back(
         extent.last,
         table,
         next,
-        scratch,
+        &scratch.mark,
+        &scratch.cost,
     )
 }

@@ -102,14 +102,24 @@ fn learn(
 ) -> Acted
     requires ready { Ready job floor.now state table.old path.old }
     requires asked { Asked job floor.now state.current }
-    requires window { Window job floor.now state.current base scratch.old extent }
+    requires window { Window job floor.now state.current base scratch.old.mark scratch.old.cost scratch.old.list extent.n extent.last }
     requires places { Places place.old path.old state.length }
     ensures acts { Acts job floor.now state (learns job floor.now state table.old path.old)
         result table.new path.new }
     ensures serves { Serves job floor.now state result scratch.new place.new path.new }
 {
     let s = state.current;
-    let aim = lookahead::aim(job, floor, s, table, base, scratch, extent);
+    let aim = lookahead::aim(
+        job,
+        floor,
+        s,
+        table,
+        base,
+        &scratch.mark,
+        &scratch.cost,
+        &scratch.list,
+        extent,
+    );
     let old = table[s] as usize;
     if too_high(old, aim.figure) {
         return refuse(state, 10, base);
@@ -136,13 +146,21 @@ fn go(
 ) -> Acted
     requires ready { Ready job floor.now state table.old path.old }
     requires asked { Asked job floor.now state.current }
-    requires fresh { Fresh base scratch.old }
+    requires fresh { Fresh base scratch.old.mark scratch.old.cost scratch.old.list }
     requires places { Places place.old path.old state.length }
     ensures acts { Acts job floor.now state (model.act job floor.now state table.old path.old)
         result table.new path.new }
     ensures serves { Serves job floor.now state result scratch.new place.new path.new }
 {
-    let Some(extent) = lookahead::look(job, floor, state.current, base, scratch) else {
+    let Some(extent) = lookahead::look(
+        job,
+        floor,
+        state.current,
+        base,
+        &mut scratch.mark,
+        &mut scratch.cost,
+        &mut scratch.list,
+    ) else {
         return refuse(state, 9, base);
     };
     learn(job, floor, state, extent, table, path, base, scratch, place)
@@ -161,7 +179,7 @@ pub fn act(
     place: &mut [u16],
 ) -> Acted
     requires ready { Ready job floor.now state table.old path.old }
-    requires used { Used base scratch.old }
+    requires used { Used base scratch.old.mark scratch.old.cost scratch.old.list }
     requires places { Places place.old path.old state.length }
     ensures acts { Acts job floor.now state (model.act job floor.now state table.old path.old)
         result table.new path.new }
@@ -205,7 +223,8 @@ fn decide_past(
         state.current,
         acted.answer,
         acted.base,
-        &scratch,
+        &scratch.mark,
+        &scratch.cost,
         moves,
         from,
     );

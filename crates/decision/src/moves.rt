@@ -7,7 +7,6 @@ ghost use Rattle.decision.specs.Laying.{way_back, way_of, counts, Shown, Lays};
 
 use super::LEAST_ROOM;
 use answers::{Answer, Job};
-use lookahead::Scratch;
 
 // The moves of the route from s to the cell x of the window go into the lent list from the place named; their number.
 fn lay_there(
@@ -15,19 +14,20 @@ fn lay_there(
     floor: &[u8],
     s: usize,
     base: u32,
-    scratch: &Scratch,
+    mark: &[u32],
+    cost: &[u16],
     x: usize,
     moves: &mut [u8],
     from: usize,
 ) -> usize
     requires asked { Asked job floor.now s }
-    requires seen { Seen job floor.now s base scratch.now }
+    requires seen { Seen job floor.now s base mark.now cost.now }
     requires near { Near job floor.now s x }
     requires room { from + least_room ≤ length moves.old }
     ensures { Lays moves.old from (moves_to job floor.now s x) moves.new result }
 {
     let end = from + LEAST_ROOM;
-    lookahead::trace(job, floor, s, base, scratch, x, &mut moves[from..end])
+    lookahead::trace(job, floor, s, base, mark, cost, x, &mut moves[from..end])
 }
 
 // The move that goes back.
@@ -55,19 +55,20 @@ fn lay_back(
     floor: &[u8],
     l: usize,
     base: u32,
-    scratch: &Scratch,
+    mark: &[u32],
+    cost: &[u16],
     x: usize,
     moves: &mut [u8],
     from: usize,
 ) -> usize
     requires asked { Asked job floor.now l }
-    requires seen { Seen job floor.now l base scratch.now }
+    requires seen { Seen job floor.now l base mark.now cost.now }
     requires near { Near job floor.now l x }
     requires room { from + least_room ≤ length moves.old }
     ensures { Lays moves.old from (way_back job floor.now l x) moves.new result }
 {
     let mut there = [0u8; LEAST_ROOM];
-    let n = lookahead::trace(job, floor, l, base, scratch, x, &mut there);
+    let n = lookahead::trace(job, floor, l, base, mark, cost, x, &mut there);
     let end = from + LEAST_ROOM;
     turn(&there, n, &mut moves[from..end]);
     n
@@ -80,20 +81,21 @@ pub fn lay(
     s: usize,
     answer: Answer,
     base: u32,
-    scratch: &Scratch,
+    mark: &[u32],
+    cost: &[u16],
     moves: &mut [u8],
     from: usize,
 ) -> usize
-    requires shown { Shown job floor.now s answer base scratch.now }
+    requires shown { Shown job floor.now s answer base mark.now cost.now }
     requires room { from + least_room ≤ length moves.old }
     ensures { Lays moves.old from (way_of job floor.now s answer) moves.new result }
 {
     match answer {
         Answer::Forward { target, .. } => {
-            lay_there(job, floor, s, base, scratch, target, moves, from)
+            lay_there(job, floor, s, base, mark, cost, target, moves, from)
         }
         Answer::BackedOut { target, .. } => {
-            lay_back(job, floor, target, base, scratch, s, moves, from)
+            lay_back(job, floor, target, base, mark, cost, s, moves, from)
         }
         Answer::Arrived | Answer::Stayed { .. } | Answer::Refused(_) => 0,
     }

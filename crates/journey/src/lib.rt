@@ -107,7 +107,8 @@ pub fn tell(
             from,
             stand.answer,
             stand.base,
-            &lists.scratch,
+            &lists.scratch.mark,
+            &lists.scratch.cost,
             &mut moves,
             0,
         );

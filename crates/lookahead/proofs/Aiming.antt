@@ -15,8 +15,6 @@ use Rattle.answers.specs.declared.Job.{Job}
 use Rattle.model.specs.Checks.{deepest, ground_in}
 use Rattle.model.specs.Lookahead.{seen}
 use Rattle.model.proofs.Rings.{empty-full}
-use Rattle.lookahead.specs.declared.Extent.{Extent}
-use Rattle.lookahead.specs.declared.Scratch.{Scratch}
 use Rattle.lookahead.specs.Contract.{Asked, Near, Figures, Aimed}
 use Rattle.lookahead.specs.Contract as contract
 use Rattle.lookahead.specs.Marks.{In}
@@ -34,23 +32,8 @@ bests_none = record {
 }
 
 module _ {j : Job} {bytes : List ℕ} {s : ℕ} (Q : Asked j bytes s) {table : List ℕ} (T : Figures j bytes table)
-    {base : ℕ} {scratch : Scratch} {e : Extent} (W : contract.Window j bytes s base scratch e)
+    {base : ℕ} {mark cost list : List ℕ} {n last : ℕ} (W : contract.Window j bytes s base mark cost list n last)
   where
-    abbrev n : ℕ
-    n = e.n
-
-    abbrev last : ℕ
-    last = e.last
-
-    abbrev mark : List ℕ
-    mark = scratch.mark
-
-    abbrev cost : List ℕ
-    cost = scratch.cost
-
-    abbrev list : List ℕ
-    list = scratch.list
-
     abbrev G : Ground
     G = ground_in j bytes
 

@@ -22,7 +22,6 @@ use Rattle.model.proofs.Accepted.{never}
 use Rattle.model.proofs.Lists.{any_some, any_fails}
 use Rattle.model.proofs.Moves.{free_few}
 use Rattle.floor.proofs.Steps.{price-step}
-use Rattle.lookahead.specs.declared.Scratch.{Scratch}
 use Rattle.lookahead.specs.Contract.{last_base, Fresh}
 use Rattle.lookahead.specs.Marks.{net, State, begun, mark_of, cost_at, cell_of, In, Sizes, Room, Spread, Kept, Swept, Segment}
 use Rattle.lookahead.specs.Rings.{Done, Level, Full, Marked, Framed, Unmet, Blocked}
@@ -37,18 +36,9 @@ pub record Ringed (f : Floor) (s : ℕ) (gs : List ℕ) (base r from : ℕ) (S :
   pub level : Level f s base (base + r) from S
 
 -- only s has a mark
-module _ {f : Floor} (z : Sized f) (s : ℕ) (on : free f s ≡ true) {base : ℕ} {scratch : Scratch} (F : Fresh base scratch) where
-  abbrev mark : List ℕ
-  mark = scratch.mark
-
-  abbrev cost : List ℕ
-  cost = scratch.cost
-
-  abbrev list : List ℕ
-  list = scratch.list
-
+module _ {f : Floor} (z : Sized f) (s : ℕ) (on : free f s ≡ true) {base : ℕ} {mark cost list : List ℕ} (F : Fresh base mark cost list) where
   abbrev S₀ : State
-  S₀ = begun base scratch s
+  S₀ = begun base mark cost list s
 
   inside : s < length mark
   inside = omega (arith, free_few f s z on)
@@ -103,7 +93,7 @@ module _ {f : Floor} (z : Sized f) (s : ℕ) (on : free f s ≡ true) {base : �
   begin_unmet : (gs : List ℕ) → member s gs ≡ false → Unmet gs base S₀
   begin_unmet gs n x m = by_store (λ y. y < base) mark s base x inside (λ e. absurd (never m (ap (λ y. member y gs) e ∙ n))) (λ o. F.marks.below x)
 
-  pub ringed_begin : {gs : List ℕ} {S : State} → S ≡ begun base scratch s → member s gs ≡ false → Ringed f s gs base 0 0 S
+  pub ringed_begin : {gs : List ℕ} {S : State} → S ≡ begun base mark cost list s → member s gs ≡ false → Ringed f s gs base 0 0 S
   ringed_begin {gs} e n =
       let none : base + 0 ≡ base = omega arith in
       rw e

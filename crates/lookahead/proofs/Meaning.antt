@@ -29,7 +29,6 @@ use Rattle.model.proofs.Moves.{is_true, free-below}
 use Rattle.model.proofs.Rings.{empty_none, empty_of}
 use Rattle.model.proofs.Accepted.{never}
 use Rattle.model.proofs.Benches.{goal_means}
-use Rattle.lookahead.specs.declared.Scratch.{Scratch}
 use Rattle.lookahead.specs.Contract.{last_base, Spent, Used, Asked, Near, fine_cost, Seen}
 use Rattle.lookahead.specs.Contract as contract
 use Rattle.lookahead.specs.Marks.{state, In}
@@ -118,7 +117,7 @@ module _ {j : Job} {bytes : List ℕ} {s : ℕ} (Q : Asked j bytes s) where
     unfolding last_of
     last_seen = last_same
 
-    pub array_seen : Spent base mark → length cost ≡ 4096 → ((x : ℕ) → get_or mark x 0 ≤ base + last) → {list : List ℕ} → Seen j bytes s base (record { mark = mark; cost = cost; list = list })
+    pub array_seen : Spent base mark → length cost ≡ 4096 → ((x : ℕ) → get_or mark x 0 ≤ base + last) → Seen j bytes s base mark cost
     unfolding ring_of last_of leg_of
     array_seen p q top = record {
       spent = p;
@@ -162,7 +161,7 @@ module _ {j : Job} {bytes : List ℕ} {s : ℕ} (Q : Asked j bytes s) where
       spent : Spent base mark
       spent = record { size = F.marked.room.sizes.marks; room = room; below = λ x. omega (arith, F.marked.top x) }
 
-      pub looked : contract.Window j bytes s base (record { mark = mark; cost = cost'; list = list' }) (record { last = last; n = n })
+      pub looked : contract.Window j bytes s base mark cost' list' n last
       looked = record {
         view = array_seen base last mark cost' W spent R.costs.costs F.marked.top;
         room = R.listing.room;
@@ -200,7 +199,7 @@ module _ {j : Job} {bytes : List ℕ} {s : ℕ} (Q : Asked j bytes s) where
         let back = turn (widen {S' = Any} (λ y k. tt) (B.marked.walks x m.0).1) in
         omega (arith, job-window.fewest x _ _ back (omega (arith, B.empty x, r_below)), B.empty x)
 
-    pub blocked : Used base (record { mark = mark; cost = cost; list = list }) × (empty_ring j bytes (seen j bytes s) (seen j bytes s).last ≡ true)
+    pub blocked : Used base mark cost list × (empty_ring j bytes (seen j bytes s) (seen j bytes s).last ≡ true)
     unfolding ring_of last_of
     blocked =
         let R = B.marked.room.sizes in (
@@ -209,13 +208,7 @@ module _ {j : Job} {bytes : List ℕ} {s : ℕ} (Q : Asked j bytes s) where
         )
 
   -- from the model's window in the lists back to `learning`'s
-  module _ {base : ℕ} {scratch : Scratch} (E : Seen j bytes s base scratch) where
-    abbrev mark : List ℕ
-    mark = scratch.mark
-
-    abbrev cost : List ℕ
-    cost = scratch.cost
-
+  module _ {base : ℕ} {mark cost : List ℕ} (E : Seen j bytes s base mark cost) where
     agree : (x : ℕ) → ring_of G d s x ≤ last_of G d s → (ring_at base mark x ≡ ring_of G d s x) × (at cost x ≡ fine_cost j bytes s x)
     unfolding ring_of last_of leg_of
     agree x h = (omega (arith, E.marks x h), E.costs x h)

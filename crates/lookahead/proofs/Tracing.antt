@@ -20,7 +20,6 @@ use Rattle.model.specs.Lookahead.{fineness, fine, fine_in, route, moves_along, m
 use Rattle.model.proofs.Meaning.{route_means}
 use Rattle.model.proofs.Steps.{is_false, moves_more}
 use Rattle.lookahead.specs.declared.Link.{Link}
-use Rattle.lookahead.specs.declared.Scratch.{Scratch}
 use Rattle.lookahead.specs.Contract.{Asked, Near, Seen, moves_to, Traced}
 use Rattle.lookahead.specs.Marks.{In}
 use Rattle.lookahead.specs.Costs.{at, Costs}
@@ -34,13 +33,7 @@ ahead way k m l =
     drop-cons (set way k m) k 0 (omega (arith, length-set way k m))
     ∙ ap₂ (λ a b. a ∷ b) (get_or-set_same way k m 0 l) (drop-set-lt (suc k) way k m (omega arith))
 
-module _ {j : Job} {bytes : List ℕ} {s : ℕ} (Q : Asked j bytes s) {base : ℕ} {scratch : Scratch} (E : Seen j bytes s base scratch) where
-  abbrev mark : List ℕ
-  mark = scratch.mark
-
-  abbrev cost : List ℕ
-  cost = scratch.cost
-
+module _ {j : Job} {bytes : List ℕ} {s : ℕ} (Q : Asked j bytes s) {base : ℕ} {mark cost : List ℕ} (E : Seen j bytes s base mark cost) where
   abbrev f : Floor
   f = floor_of j bytes
 

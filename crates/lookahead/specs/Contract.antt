@@ -7,7 +7,6 @@ use Rattle.model.specs.Floor.{Sized, size, free}
 use Rattle.model.specs.Checks.{deepest, finest, ceiling, floor_of, goals, Benched}
 use Rattle.model.specs.Lookahead.{seen, ring, w, empty_ring, new_figure, target, fine_in, route, moves_along, most_moves, highest_new}
 use Rattle.lookahead.specs.declared.Extent.{Extent}
-use Rattle.lookahead.specs.declared.Scratch.{Scratch}
 use Rattle.lookahead.specs.declared.Ahead.{Ahead}
 
 -- how far a lookahead's base is from the next one's: past its rings; and the last base that leaves the 32 bits of a mark room for one
@@ -28,16 +27,16 @@ pub record Spent (base : ℕ) (mark : List ℕ) : Type 0 where
   pub room : base ≤ last_base
   pub below : (x : ℕ) → get_or mark x 0 < base + stride
 
--- What is lent before a lookahead, and after. The list of cells has two places for each: the cell, and 4096 further on a cost.
-pub record Fresh (base : ℕ) (scratch : Scratch) : Type 0 where
-  pub marks : Marks base scratch.mark
-  pub costs : length scratch.cost ≡ 4096
-  pub cells : length scratch.list ≡ 8192
+-- The lent lists before a lookahead, and after. The list of cells has two places for each: the cell, and 4096 further on a cost.
+pub record Fresh (base : ℕ) (mark cost list : List ℕ) : Type 0 where
+  pub marks : Marks base mark
+  pub costs : length cost ≡ 4096
+  pub cells : length list ≡ 8192
 
-pub record Used (base : ℕ) (scratch : Scratch) : Type 0 where
-  pub marks : Spent base scratch.mark
-  pub costs : length scratch.cost ≡ 4096
-  pub cells : length scratch.list ≡ 8192
+pub record Used (base : ℕ) (mark cost list : List ℕ) : Type 0 where
+  pub marks : Spent base mark
+  pub costs : length cost ≡ 4096
+  pub cells : length list ≡ 8192
 
 -- What a lookahead from s is asked of: a floor, a free cell of it, goals on it of which that cell is none, and a depth.
 pub record Asked (j : Job) (bytes : List ℕ) (s : ℕ) : Type 0 where
@@ -56,30 +55,30 @@ Near j bytes s x = ring j bytes (seen j bytes s) x ≤ (seen j bytes s).last
 abbrev pub fine_cost : Job → List ℕ → (s x : ℕ) → ℕ
 fine_cost j bytes s x = leg_of (fine_in j bytes) j.depth s x
 
--- Points 1 and 2 in what is lent: a window cell's mark is the base and its ring, and its cost is fine. Any other cell's mark is below the base.
-pub record Seen (j : Job) (bytes : List ℕ) (s base : ℕ) (scratch : Scratch) : Type 0 where
-  pub spent : Spent base scratch.mark
-  pub size : length scratch.cost ≡ 4096
-  pub marks : (x : ℕ) → Near j bytes s x → get_or scratch.mark x 0 ≡ base + ring j bytes (seen j bytes s) x
-  pub costs : (x : ℕ) → Near j bytes s x → get_or scratch.cost x 0 ≡ fine_cost j bytes s x
-  pub none : (x : ℕ) → (seen j bytes s).last < ring j bytes (seen j bytes s) x → get_or scratch.mark x 0 < base
+-- Points 1 and 2 in the lists: a window cell's mark is the base and its ring, and its cost is fine. Any other cell's mark is below the base.
+pub record Seen (j : Job) (bytes : List ℕ) (s base : ℕ) (mark cost : List ℕ) : Type 0 where
+  pub spent : Spent base mark
+  pub size : length cost ≡ 4096
+  pub marks : (x : ℕ) → Near j bytes s x → get_or mark x 0 ≡ base + ring j bytes (seen j bytes s) x
+  pub costs : (x : ℕ) → Near j bytes s x → get_or cost x 0 ≡ fine_cost j bytes s x
+  pub none : (x : ℕ) → (seen j bytes s).last < ring j bytes (seen j bytes s) x → get_or mark x 0 < base
 
--- The whole window: no ring up to the last is empty, and the list's first places hold just the window's cells.
-pub record Window (j : Job) (bytes : List ℕ) (s base : ℕ) (scratch : Scratch) (e : Extent) : Type 0 where
-  pub view : Seen j bytes s base scratch
-  pub room : length scratch.list ≡ 8192
-  pub last_is : e.last ≡ (seen j bytes s).last
-  pub some : 1 ≤ e.last
-  pub depth : e.last ≤ j.depth
-  pub full : empty_ring j bytes (seen j bytes s) e.last ≡ false
-  pub fits : e.n ≤ 4096
-  pub cells : (i : ℕ) → i < e.n → Near j bytes s (get_or scratch.list i 0)
-  pub listed : (x : ℕ) → Near j bytes s x → (i : ℕ) × (i < e.n) × (get_or scratch.list i 0 ≡ x)
+-- The whole window: no ring up to the last is empty, and the list's first n places hold just the window's cells.
+pub record Window (j : Job) (bytes : List ℕ) (s base : ℕ) (mark cost list : List ℕ) (n last : ℕ) : Type 0 where
+  pub view : Seen j bytes s base mark cost
+  pub room : length list ≡ 8192
+  pub last_is : last ≡ (seen j bytes s).last
+  pub some : 1 ≤ last
+  pub depth : last ≤ j.depth
+  pub full : empty_ring j bytes (seen j bytes s) last ≡ false
+  pub fits : n ≤ 4096
+  pub cells : (i : ℕ) → i < n → Near j bytes s (get_or list i 0)
+  pub listed : (x : ℕ) → Near j bytes s x → (i : ℕ) × (i < n) × (get_or list i 0 ≡ x)
 
 -- The window, or number 9's case.
-abbrev pub Looked : Job → List ℕ → (s base : ℕ) → Scratch → Option Extent → Type 0
-Looked j bytes s base scratch (Some e) = Window j bytes s base scratch e
-Looked j bytes s base scratch None = Used base scratch × (empty_ring j bytes (seen j bytes s) (seen j bytes s).last ≡ true)
+abbrev pub Looked : Job → List ℕ → (s base : ℕ) → (mark cost list : List ℕ) → Option Extent → Type 0
+Looked j bytes s base mark cost list (Some e) = Window j bytes s base mark cost list e.n e.last
+Looked j bytes s base mark cost list None = Used base mark cost list × (empty_ring j bytes (seen j bytes s) (seen j bytes s).last ≡ true)
 
 -- The figures that a new one is worked out from.
 pub record Figures (j : Job) (bytes table : List ℕ) : Type 0 where

@@ -9,7 +9,6 @@ use Rattle.model.specs.Lookahead.{fine, fine_of}
 use Rattle.floor.specs.declared.Spot.{Spot}
 use Rattle.floor.specs.declared.Step.{Step}
 use Rattle.floor.specs.Moves.{to, Placed, step_of}
-use Rattle.lookahead.specs.declared.Scratch.{Scratch}
 use Rattle.lookahead.specs.Contract.{last_base}
 
 -- the moves of a floor at their fine prices
@@ -41,10 +40,6 @@ pub record State : Type 0 where
 
 abbrev pub state : (mark cost list : List ℕ) (n : ℕ) → State
 state mark cost list n = record { mark = mark; cost = cost; list = list; n = n }
-
--- what is lent, with the list's first n cells in use
-abbrev pub held : Scratch → (n : ℕ) → State
-held scratch n = state scratch.mark scratch.cost scratch.list n
 
 abbrev pub mark_of : State → ℕ → ℕ
 mark_of S x = get_or S.mark x 0
@@ -163,5 +158,5 @@ pub record Swept (f : Floor) (base k from i : ℕ) (S S' : State) : Type 0 where
   pub outs : (j : ℕ) → from ≤ j → j < i → Out f base S' (cell_of S j) 8
 
 -- s alone is marked, and stands first in the list
-abbrev pub begun : (base : ℕ) → Scratch → (s : ℕ) → State
-begun base scratch s = state (set scratch.mark s base) (set scratch.cost s 0) (entered scratch.list 0 s) 1
+abbrev pub begun : (base : ℕ) (mark cost list : List ℕ) (s : ℕ) → State
+begun base mark cost list s = state (set mark s base) (set cost s 0) (entered list 0 s) 1

@@ -5,8 +5,7 @@ use Rattle.model.specs.Basics.{member}
 use Rattle.model.specs.Floor.{Floor}
 use Rattle.floor.specs.Moves.{to, step_of}
 use Rattle.lookahead.specs.declared.Extent.{Extent}
-use Rattle.lookahead.specs.declared.Scratch.{Scratch}
-use Rattle.lookahead.specs.Marks.{net, State, held, mark_of, cost_at, cell_of, In, Room, Spread}
+use Rattle.lookahead.specs.Marks.{net, State, state, mark_of, cost_at, cell_of, In, Room, Spread}
 
 -- the cells of marks below k have been left: where they lead is marked, at most one ring further out
 abbrev pub Done : Floor → (base k : ℕ) → State → Type 0
@@ -58,6 +57,6 @@ pub record Blocked (f : Floor) (s : ℕ) (gs : List ℕ) (depth base r : ℕ) (S
   pub empty : (x : ℕ) → mark_of S x ≤ base + r
   pub far : Unmet gs base S
 
-abbrev pub Rings : Floor → (s : ℕ) → (gs : List ℕ) → (depth base : ℕ) → Scratch → Option Extent → Type 0
-Rings f s gs depth base scratch (Some e) = Framed f s gs depth base e.last (held scratch e.n)
-Rings f s gs depth base scratch None = (r n : ℕ) × Blocked f s gs depth base r (held scratch n)
+abbrev pub Rings : Floor → (s : ℕ) → (gs : List ℕ) → (depth base : ℕ) → (mark cost list : List ℕ) → Option Extent → Type 0
+Rings f s gs depth base mark cost list (Some e) = Framed f s gs depth base e.last (state mark cost list e.n)
+Rings f s gs depth base mark cost list None = (r n : ℕ) × Blocked f s gs depth base r (state mark cost list n)

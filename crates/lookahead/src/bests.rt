@@ -5,7 +5,7 @@ ghost use Rattle.lookahead.specs.Marks.{In};
 ghost use Rattle.lookahead.specs.Costs.{Listing};
 ghost use Rattle.lookahead.specs.Bests.{most_rings, ring_at, key, Scores, Bests, Topped};
 
-use super::{Scratch, coarse};
+use super::coarse;
 
 // The key v is entered at ring k, if it is lower.
 fn enter(best: &mut [usize], k: usize, v: usize)
@@ -18,15 +18,23 @@ fn enter(best: &mut [usize], k: usize, v: usize)
 }
 
 // The key of the cell c of the window is entered at its ring.
-fn weigh(table: &[u32], p: usize, base: u32, scratch: &Scratch, c: usize, best: &mut [usize])
-    requires scores { Scores base scratch.now.mark scratch.now.cost table.now p }
-    requires inside { In base scratch.now.mark c }
+fn weigh(
+    table: &[u32],
+    p: usize,
+    base: u32,
+    mark: &[u32],
+    cost: &[u16],
+    c: usize,
+    best: &mut [usize],
+)
+    requires scores { Scores base mark.now cost.now table.now p }
+    requires inside { In base mark.now c }
     requires rings { length best.old ≡ most_rings }
-    ensures { best.new ≡ set best.old (ring_at base scratch.now.mark c)
-        (min (key scratch.now.cost table.now p c) (get_or best.old (ring_at base scratch.now.mark c) 0)) }
+    ensures { best.new ≡ set best.old (ring_at base mark.now c)
+        (min (key cost.now table.now p c) (get_or best.old (ring_at base mark.now c) 0)) }
 {
-    let k = (scratch.mark[c] - base) as usize;
-    let v = p * coarse(scratch.cost[c]) + table[c] as usize;
+    let k = (mark[c] - base) as usize;
+    let v = p * coarse(cost[c]) + table[c] as usize;
     enter(best, k, v * 4096 + c);
 }
 
@@ -35,17 +43,19 @@ pub(crate) fn weigh_all(
     table: &[u32],
     p: usize,
     base: u32,
-    scratch: &Scratch,
+    mark: &[u32],
+    cost: &[u16],
+    list: &[u16],
     n: usize,
     best: &mut [usize],
 )
-    requires scores { Scores base scratch.now.mark scratch.now.cost table.now p }
-    requires listing { Listing base scratch.now.mark scratch.now.list n }
-    requires none { Bests base scratch.now.mark scratch.now.cost table.now p scratch.now.list 0 best.old }
-    ensures { Bests base scratch.now.mark scratch.now.cost table.now p scratch.now.list n best.new }
+    requires scores { Scores base mark.now cost.now table.now p }
+    requires listing { Listing base mark.now list.now n }
+    requires none { Bests base mark.now cost.now table.now p list.now 0 best.old }
+    ensures { Bests base mark.now cost.now table.now p list.now n best.new }
 {
     for i in 0..n {
-        weigh(table, p, base, scratch, usize::from(scratch.list[i]), best);
+        weigh(table, p, base, mark, cost, usize::from(list[i]), best);
     }
 }
 

@@ -1,6 +1,5 @@
 // The fine costs in a window are lowered along its moves until none can be lowered: each is then the least of a walk that stays in the window.
 // Only the moves of a cell whose cost fell since they were followed need to be followed again; the list says at which cost that was.
-// The parts of the scratch are lent apart: the marks are only read, and of a whole scratch each promise would have to say that they stay.
 ghost use Rattle.std.specs.Prelude.{◌≡◌, false, ℕ, ◌<◌, length, get_or};
 ghost use Rattle.lookahead.specs.Marks.{note_at, In};
 ghost use Rattle.lookahead.specs.Costs.{at, Costs, Lower, Lowered, Cell, Eased, Easing, Followed, Listing, Noted, Topmost, Again, Passed, Relaxed};

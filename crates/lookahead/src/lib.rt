@@ -43,9 +43,8 @@ const STRIDE: u32 = 2 * DEEPEST as u32;
 
 const LAST_BASE: u32 = 4294967295 - STRIDE;
 
-// What a lookahead is lent. A cell's mark and its fine cost stand under its number; the list has two places for each cell of the window: at i the cell, and at
-// i + 4096 the cost at which its moves were followed last, 65535 before they were.
-#[repr(C)]
+// What a lookahead is lent, for whoever owns all of it; the functions take the lists apart. A cell's mark and its fine cost stand under its number; the list has
+// two places for each cell of the window: at i the cell, and at i + 4096 the cost at which its moves were followed last, 65535 before they were.
 #[derive(Drop)]
 pub struct Scratch {
     pub mark: [u32; 4096],
@@ -56,7 +55,7 @@ pub struct Scratch {
 impl Scratch {
     // Scratch as a lookahead of base 1 would have left it.
     pub fn new() -> Scratch
-        ensures { Used 1 result }
+        ensures { Used 1 result.mark result.cost result.list }
     {
         Scratch {
             mark: [0; 4096],
@@ -130,25 +129,26 @@ pub fn renew(base: u32, mark: &mut [u32]) -> u32
 }
 
 // The window around s, which is no goal; None where a ring up to the last is empty.
-pub fn look(job: Job, floor: &[u8], s: usize, base: u32, scratch: &mut Scratch) -> Option<Extent>
+pub fn look(
+    job: Job,
+    floor: &[u8],
+    s: usize,
+    base: u32,
+    mark: &mut [u32],
+    cost: &mut [u16],
+    list: &mut [u16],
+) -> Option<Extent>
     requires asked { Asked job floor.now s }
-    requires fresh { Fresh base scratch.old }
-    ensures { Looked job floor.now s base scratch.new result }
+    requires fresh { Fresh base mark.old cost.old list.old }
+    ensures { Looked job floor.now s base mark.new cost.new list.new result }
 {
     let floor = Floor {
         width: job.width,
         height: job.height,
         bytes: floor,
     };
-    let extent = rings::rings(&floor, s, job.goals, job.depth, base, scratch)?;
-    costs::relax(
-        &floor,
-        base,
-        &scratch.mark,
-        &mut scratch.cost,
-        &mut scratch.list,
-        extent.n,
-    );
+    let extent = rings::rings(&floor, s, job.goals, job.depth, base, mark, cost, list)?;
+    costs::relax(&floor, base, mark, cost, list, extent.n);
     Some(extent)
 }
 
@@ -158,27 +158,36 @@ pub fn on_last(
     floor: &[u8],
     s: usize,
     base: u32,
-    scratch: &Scratch,
+    mark: &[u32],
+    cost: &[u16],
     last: usize,
     x: usize,
 ) -> bool
-    requires seen { Seen job floor.now s base scratch.now }
+    requires seen { Seen job floor.now s base mark.now cost.now }
     requires last { last ≡ (model.seen job floor.now s).last }
     requires deep { last ≤ deepest }
     requires cell { x < 4096 }
     ensures { result ≡ eqb (model.ring job floor.now (model.seen job floor.now s) x) (model.seen job floor.now s).last }
 {
-    scratch.mark[x] as usize == base as usize + last
+    mark[x] as usize == base as usize + last
 }
 
 // What the way to the cell x of the window costs: at most the dearest leg.
-pub fn leg(job: Job, floor: &[u8], s: usize, base: u32, scratch: &Scratch, x: usize) -> usize
+pub fn leg(
+    job: Job,
+    floor: &[u8],
+    s: usize,
+    base: u32,
+    mark: &[u32],
+    cost: &[u16],
+    x: usize,
+) -> usize
     requires asked { Asked job floor.now s }
-    requires seen { Seen job floor.now s base scratch.now }
+    requires seen { Seen job floor.now s base mark.now cost.now }
     requires near { Near job floor.now s x }
     ensures { (result ≡ model.w job floor.now (model.seen job floor.now s) x) × (result ≤ model.dearest_leg) }
 {
-    coarse(scratch.cost[x])
+    coarse(cost[x])
 }
 
 // The new figure and the target, in a window that is worked out.
@@ -188,22 +197,24 @@ pub fn aim(
     s: usize,
     table: &[u32],
     base: u32,
-    scratch: &Scratch,
+    mark: &[u32],
+    cost: &[u16],
+    list: &[u16],
     extent: Extent,
 ) -> Ahead
     requires asked { Asked job floor.now s }
-    requires window { Window job floor.now s base scratch.now extent }
+    requires window { Window job floor.now s base mark.now cost.now list.now extent.n extent.last }
     requires figures { Figures job floor.now table.now }
     ensures { Aimed job floor.now s table.now result }
 {
     let mut best = [UNSET; MOST_RINGS];
-    bests::weigh_all(table, job.p, base, scratch, extent.n, &mut best);
+    bests::weigh_all(table, job.p, base, mark, cost, list, extent.n, &mut best);
     let top = bests::greatest(&best, extent.last);
     let target = best[extent.last] % 4096;
     Ahead {
         figure: top / 4096,
         target,
-        leg: coarse(scratch.cost[target]),
+        leg: coarse(cost[target]),
     }
 }
 
@@ -214,18 +225,19 @@ pub fn trace(
     floor: &[u8],
     s: usize,
     base: u32,
-    scratch: &Scratch,
+    mark: &[u32],
+    cost: &[u16],
     x: usize,
     out: &mut [u8],
 ) -> usize
     requires asked { Asked job floor.now s }
-    requires seen { Seen job floor.now s base scratch.now }
+    requires seen { Seen job floor.now s base mark.now cost.now }
     requires near { Near job floor.now s x }
     requires room { model.most_moves ≤ length out.old }
     ensures { Traced job floor.now s x out.old out.new result }
 {
     let mut way = [0u8; MOST_MOVES];
-    let k = route::collect(job, floor, s, base, scratch, x, &mut way);
+    let k = route::collect(job, floor, s, base, mark, cost, x, &mut way);
     let n = MOST_MOVES - k;
     out[..n].copy_from_slice(&way[k..]);
     n

@@ -4,30 +4,39 @@ ghost use Rattle.model.specs.Basics.{any, member};
 ghost use Rattle.model.specs.Floor.{Sized, free, goals_of};
 ghost use Rattle.model.specs.Checks.{deepest};
 ghost use Rattle.lookahead.specs.Contract.{Fresh};
-ghost use Rattle.lookahead.specs.Marks.{held, begun, Sizes, Room, Reached, Leaving, Extended, Open, Left, Segment, Swept};
+ghost use Rattle.lookahead.specs.Marks.{state, begun, Sizes, Room, Reached, Leaving, Extended, Open, Left, Segment, Swept};
 ghost use Rattle.lookahead.specs.Rings.{EachBelow, Rings};
 
-use super::{Extent, Scratch, fine_step};
+use super::{Extent, fine_step};
 use answers::Goals;
 use floor::{Floor, Spot, Step};
 
 // The cell d is reached at the cost v. With no mark yet it gets the mark k and goes into the list; with one its cost is lowered, if v is lower.
-fn reach(base: u32, scratch: &mut Scratch, n: usize, d: usize, k: u32, v: u16) -> usize
-    requires sizes { Sizes base (held scratch.old n) }
+fn reach(
+    base: u32,
+    mark: &mut [u32],
+    cost: &mut [u16],
+    list: &mut [u16],
+    n: usize,
+    d: usize,
+    k: u32,
+    v: u16,
+) -> usize
+    requires sizes { Sizes base (state mark.old cost.old list.old n) }
     requires cell { d < 4096 }
-    ensures { Reached base d k v (held scratch.old n)
-        (held scratch.new result) }
+    ensures { Reached base d k v (state mark.old cost.old list.old n)
+        (state mark.new cost.new list.new result) }
 {
-    if base <= scratch.mark[d] {
-        if v < scratch.cost[d] {
-            scratch.cost[d] = v;
+    if base <= mark[d] {
+        if v < cost[d] {
+            cost[d] = v;
         }
         return n;
     }
-    scratch.mark[d] = k;
-    scratch.cost[d] = v;
-    scratch.list[n] = d as u16;
-    scratch.list[n + 4096] = 65535;
+    mark[d] = k;
+    cost[d] = v;
+    list[n] = d as u16;
+    list[n + 4096] = 65535;
     n + 1
 }
 
@@ -35,7 +44,9 @@ fn reach(base: u32, scratch: &mut Scratch, n: usize, d: usize, k: u32, v: u16) -
 fn extend(
     floor: &Floor,
     base: u32,
-    scratch: &mut Scratch,
+    mark: &mut [u32],
+    cost: &mut [u16],
+    list: &mut [u16],
     n: usize,
     c: usize,
     spot: Spot,
@@ -43,67 +54,78 @@ fn extend(
     k: u32,
     w: u16,
 ) -> usize
-    requires room { Room floor.now base (held scratch.old n) }
-    requires leaving { Leaving floor.now base c spot k w (held scratch.old n) }
+    requires room { Room floor.now base (state mark.old cost.old list.old n) }
+    requires leaving { Leaving floor.now base c spot k w (state mark.old cost.old list.old n) }
     requires eight { m < 8 }
-    ensures { Extended floor.now base k c m w (held scratch.old n)
-        (held scratch.new result) }
+    ensures { Extended floor.now base k c m w (state mark.old cost.old list.old n)
+        (state mark.new cost.new list.new result) }
 {
     let Some(Step { cell, cost: v }) = fine_step(floor, c, spot, m) else {
         return n;
     };
-    reach(base, scratch, n, cell, k + 1, w + v)
+    reach(base, mark, cost, list, n, cell, k + 1, w + v)
 }
 
 // Every move from the cell c of mark k and cost w.
 fn visit(
     floor: &Floor,
     base: u32,
-    scratch: &mut Scratch,
+    mark: &mut [u32],
+    cost: &mut [u16],
+    list: &mut [u16],
     n: usize,
     c: usize,
     k: u32,
     w: u16,
 ) -> usize
-    requires room { Room floor.now base (held scratch.old n) }
-    requires unvisited { Open floor.now base c k w (held scratch.old n) }
-    ensures { Left floor.now base k c 8 w (held scratch.old n)
-        (held scratch.new result) }
+    requires room { Room floor.now base (state mark.old cost.old list.old n) }
+    requires unvisited { Open floor.now base c k w (state mark.old cost.old list.old n) }
+    ensures { Left floor.now base k c 8 w (state mark.old cost.old list.old n)
+        (state mark.new cost.new list.new result) }
 {
     let spot = floor.spot(c);
     let mut end = n;
     for m in 0..8 {
-        end = extend(floor, base, scratch, end, c, spot, m, k, w);
+        end = extend(floor, base, mark, cost, list, end, c, spot, m, k, w);
     }
     end
 }
 
 // Every move from each cell of mark k, which stand in the list from `from` to `to`, its end.
-fn spread(floor: &Floor, base: u32, scratch: &mut Scratch, from: usize, to: usize, k: u32) -> usize
-    requires room { Room floor.now base (held scratch.old to) }
-    requires segment { Segment base from to k (held scratch.old to) }
-    ensures { Swept floor.now base k from to (held scratch.old to)
-        (held scratch.new result) }
+fn spread(
+    floor: &Floor,
+    base: u32,
+    mark: &mut [u32],
+    cost: &mut [u16],
+    list: &mut [u16],
+    from: usize,
+    to: usize,
+    k: u32,
+) -> usize
+    requires room { Room floor.now base (state mark.old cost.old list.old to) }
+    requires segment { Segment base from to k (state mark.old cost.old list.old to) }
+    ensures { Swept floor.now base k from to (state mark.old cost.old list.old to)
+        (state mark.new cost.new list.new result) }
 {
     let mut end = to;
     for i in from..to {
-        let c = usize::from(scratch.list[i]);
-        let w = scratch.cost[c];
-        end = visit(floor, base, scratch, end, c, k, w);
-        scratch.list[i + 4096] = w;
+        let c = usize::from(list[i]);
+        let w = cost[c];
+        end = visit(floor, base, mark, cost, list, end, c, k, w);
+        list[i + 4096] = w;
     }
     end
 }
 
 // Only s has a mark: its ring is 0.
-fn begin(base: u32, scratch: &mut Scratch, s: usize)
-    requires { s < 4096 }
-    ensures { held scratch.new 1 ≡ begun base scratch.old s }
+fn begin(base: u32, mark: &mut [u32], cost: &mut [u16], list: &mut [u16], s: usize)
+    requires { (s < 4096) × ((length mark.old ≡ 4096) × ((length cost.old ≡ 4096) × (length list.old ≡ 8192))) }
+    ensures { state mark.new cost.new list.new 1 ≡ begun base mark.old cost.old list.old s }
 {
-    scratch.mark[s] = base;
-    scratch.cost[s] = 0;
-    scratch.list[0] = s as u16;
-    scratch.list[4096] = 65535;
+    mark[s] = base;
+    cost[s] = 0;
+    list[0] = s as u16;
+    list[4096] = 65535;
 }
 
 // Whether a goal is in a ring that is marked.
@@ -126,26 +148,28 @@ pub(crate) fn rings(
     goals: Goals,
     depth: usize,
     base: u32,
-    scratch: &mut Scratch,
+    mark: &mut [u32],
+    cost: &mut [u16],
+    list: &mut [u16],
 ) -> Option<Extent>
     requires sized { Sized floor.now }
     requires free { free floor.now s ≡ true }
     requires goals { EachBelow 4096 (goals_of goals) × (member s (goals_of goals) ≡ false) }
     requires depth { (1 ≤ depth) × (depth ≤ deepest) }
-    requires fresh { Fresh base scratch.old }
-    ensures { Rings floor.now s (goals_of goals) depth base scratch.new result }
+    requires fresh { Fresh base mark.old cost.old list.old }
+    ensures { Rings floor.now s (goals_of goals) depth base mark.new cost.new list.new result }
 {
-    begin(base, scratch, s);
+    begin(base, mark, cost, list, s);
     let mut from = 0;
     let mut to = 1;
     for r in 0..depth {
-        let end = spread(floor, base, scratch, from, to, base + r as u32);
+        let end = spread(floor, base, mark, cost, list, from, to, base + r as u32);
         if end == to {
             return None;
         }
         from = to;
         to = end;
-        if goal_marked(base, &scratch.mark, goals) {
+        if goal_marked(base, mark, goals) {
             return Some(Extent { last: r + 1, n: to });
         }
     }

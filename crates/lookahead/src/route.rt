@@ -7,7 +7,7 @@ ghost use Rattle.lookahead.specs.Marks.{In};
 ghost use Rattle.lookahead.specs.Costs.{Costs, Cell};
 ghost use Rattle.lookahead.specs.Way.{rising_move, Before, Led, Prior, Collected};
 
-use super::{Link, MOST_MOVES, Scratch, fine_step};
+use super::{Link, MOST_MOVES, fine_step};
 use answers::Job;
 use floor::{Floor, Spot, Step};
 
@@ -29,14 +29,22 @@ fn rising(k: usize) -> usize
 }
 
 // The cell before x that the move j leads to from x, and the move from there; None where it leads to no such cell.
-fn led(floor: &Floor, base: u32, scratch: &Scratch, x: usize, spot: Spot, j: usize) -> Option<Link>
-    requires costs { Costs floor.now base scratch.now.mark scratch.now.cost }
-    requires cell { Cell floor.now base x spot scratch.now.mark }
+fn led(
+    floor: &Floor,
+    base: u32,
+    mark: &[u32],
+    cost: &[u16],
+    x: usize,
+    spot: Spot,
+    j: usize,
+) -> Option<Link>
+    requires costs { Costs floor.now base mark.now cost.now }
+    requires cell { Cell floor.now base x spot mark.now }
     requires eight { j < 8 }
-    ensures { Led floor.now base scratch.now.mark scratch.now.cost x j result }
+    ensures { Led floor.now base mark.now cost.now x j result }
 {
     let Step { cell, cost: v } = fine_step(floor, x, spot, j)?;
-    if scratch.mark[cell] < base || scratch.cost[cell] + v != scratch.cost[x] {
+    if mark[cell] < base || cost[cell] + v != cost[x] {
         return None;
     }
     Some(Link {
@@ -46,15 +54,15 @@ fn led(floor: &Floor, base: u32, scratch: &Scratch, x: usize, spot: Spot, j: usi
 }
 
 // The lowest cell before x, and the move from it: the first that a move leads to, the moves to the lowest cells being tried first.
-fn back(floor: &Floor, base: u32, scratch: &Scratch, x: usize) -> Link
-    requires costs { Costs floor.now base scratch.now.mark scratch.now.cost }
-    requires inside { In base scratch.now.mark x }
-    requires some { ((y : ℕ) × Before floor.now base scratch.now.mark scratch.now.cost x y) }
-    ensures { Prior floor.now base scratch.now.mark scratch.now.cost x result }
+fn back(floor: &Floor, base: u32, mark: &[u32], cost: &[u16], x: usize) -> Link
+    requires costs { Costs floor.now base mark.now cost.now }
+    requires inside { In base mark.now x }
+    requires some { ((y : ℕ) × Before floor.now base mark.now cost.now x y) }
+    ensures { Prior floor.now base mark.now cost.now x result }
 {
     let spot = floor.spot(x);
     for k in 0..8 {
-        if let Some(link) = led(floor, base, scratch, x, spot, rising(k)) {
+        if let Some(link) = led(floor, base, mark, cost, x, spot, rising(k)) {
             return link;
         }
     }
@@ -67,12 +75,13 @@ pub(crate) fn collect(
     floor: &[u8],
     s: usize,
     base: u32,
-    scratch: &Scratch,
+    mark: &[u32],
+    cost: &[u16],
     x: usize,
     way: &mut [u8],
 ) -> usize
     requires asked { Asked job floor.now s }
-    requires seen { Seen job floor.now s base scratch.now }
+    requires seen { Seen job floor.now s base mark.now cost.now }
     requires near { Near job floor.now s x }
     requires room { length way.old ≡ most_moves }
     ensures { Collected job floor.now s x way.new result }
@@ -86,7 +95,7 @@ pub(crate) fn collect(
     // The last move is found first, so the place counts down.
     let mut k = MOST_MOVES;
     while cell != s {
-        let link = back(&floor, base, scratch, cell);
+        let link = back(&floor, base, mark, cost, cell);
         k -= 1;
         way[k] = link.m as u8;
         cell = link.cell;

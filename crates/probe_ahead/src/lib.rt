@@ -8,7 +8,6 @@ ghost use Rattle.lookahead.specs.Contract.{Asked, Fresh, Figures};
 ghost use Rattle.probe_ahead.specs.Plain.{plain};
 
 use answers::{Goals, Job};
-use lookahead::Scratch;
 
 // With as many goals as the count says, one or two: the new figure times 2^20, the target times 256 and the number of moves; 0 where a ring is empty.
 #[unsafe(no_mangle)]
@@ -24,11 +23,13 @@ pub extern "C" fn probe_plan(
     s: usize,
     table: &[u32],
     base: u32,
-    scratch: &mut Scratch,
+    mark: &mut [u32],
+    cost: &mut [u16],
+    list: &mut [u16],
     out: &mut [u8],
 ) -> usize
     requires asked { Asked (plain width height count goal other depth p) floor.now s }
-    requires fresh { Fresh base scratch.old }
+    requires fresh { Fresh base mark.old cost.old list.old }
     requires figures { Figures (plain width height count goal other depth p) floor.now table.now }
     requires room { most_moves ≤ length out.old }
 {
@@ -48,11 +49,11 @@ pub extern "C" fn probe_plan(
         q: 16,
         quota: 0,
     };
-    let Some(extent) = lookahead::look(job, floor, s, base, scratch) else {
+    let Some(extent) = lookahead::look(job, floor, s, base, mark, cost, list) else {
         return 0;
     };
-    let a = lookahead::aim(job, floor, s, table, base, scratch, extent);
-    let moves = lookahead::trace(job, floor, s, base, scratch, a.target, out);
+    let a = lookahead::aim(job, floor, s, table, base, mark, cost, list, extent);
+    let moves = lookahead::trace(job, floor, s, base, mark, cost, a.target, out);
     packed(a.figure, a.target, moves)
 }
 

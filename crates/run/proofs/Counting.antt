@@ -1,5 +1,5 @@
 -- Records as numbers: one record more is read from its four places, and written to them.
-use Prim.Native.Nat.{ℕ, ◌+◌, ◌*◌, ◌≤◌, ◌<◌}
+use Prim.Native.Nat.{ℕ, zero, suc, ◌+◌, ◌*◌, ◌≤◌, ◌<◌}
 use mathlib.Core.Path.{◌≡◌, refl, sym, ap, ◌∙◌}
 use mathlib.Core.List.{List, [], ◌∷◌, ◌++◌}
 use native.Mathlib.Numerals.{add-one, add-two, add-three}
@@ -19,6 +19,11 @@ pub read_more : (cs : List ℕ) (rs : List Report) (i : ℕ) (r : Report) → i 
 unfolding records
 read_more cs rs i r h e at =
     ap (λ (k : ℕ). take k (set rs i r)) (add-one i) ∙ take-suc-set rs i r h ∙ (λ j. e j ++ (at j ∷ [])) ∙ ap (records cs) (sym (add-one i))
+
+pub length-records : (cs : List ℕ) (n : ℕ) → length (records cs n) ≡ n
+unfolding records
+length-records cs zero = refl
+length-records cs (suc n) = length-append (records cs n) (record_at cs n ∷ []) ∙ omega (arith, length-records cs n)
 
 -- ---- written
 

@@ -237,7 +237,7 @@ pub record Underway (j : Job) (bytes : List ℕ) (start : ℕ) (table₀ path₀
   -- the ride so far
   pub drive : Driving j bytes start table₀ path₀ w table path
   -- the lists that the next decision takes
-  pub used : Used w.base l.scratch
+  pub used : Used w.base l.scratch.mark l.scratch.cost l.scratch.list
   pub places : Places l.place path w.state.length
   -- the sums of the legs
   pub legs_so : Along j bytes w.state path l.along

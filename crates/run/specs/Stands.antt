@@ -40,7 +40,7 @@ pub record Went (d : Deed) (w : Stand) (along : List ℕ) (r : Stand) (table' pa
 
 -- the scratch lists after it serve the next decision, and first to lay the moves of this one, which the answer tells
 pub record Left (j : Job) (bytes : List ℕ) (d : Deed) (w r : Stand) (l : Workspace) (path : List ℕ) : Type 0 where
-  pub used : Used r.base l.scratch
+  pub used : Used r.base l.scratch.mark l.scratch.cost l.scratch.list
   pub places : Places l.place path r.state.length
-  pub shown : Shown j bytes w.state.current r.answer r.base l.scratch
+  pub shown : Shown j bytes w.state.current r.answer r.base l.scratch.mark l.scratch.cost
   pub way : d.way ≡ way_of j bytes w.state.current r.answer

@@ -1,5 +1,6 @@
 -- What a ride, a trial and a run promise, and where a run stands between two trials.
-use Rattle.std.specs.Prelude.{ℕ, ◌+◌, ◌<◌, ◌≡◌, List, ltb, length, get_or, set}
+use Rattle.std.specs.Prelude.{ℕ, ◌+◌, ◌<◌, ◌≡◌, List, eqb, ltb, length, get_or, set}
+use Rattle.learning.specs.Ground.{pick}
 use Rattle.answers.specs.declared.Job.{Job}
 use Rattle.answers.specs.declared.Report.{Report}
 use Rattle.answers.specs.Outcomes.{Tried, Ran}
@@ -21,7 +22,7 @@ pub record Fits (along : List ℕ) (n m leg : ℕ) : Type 0 where
 
 -- the lists that a trial starts with
 pub record Cleared (l : Workspace) : Type 0 where
-  pub used : Used 1 l.scratch
+  pub used : Used 1 l.scratch.mark l.scratch.cost l.scratch.list
   pub places : length l.place ≡ 4096
   pub sums : length l.along ≡ 4096
   pub none_yet : get_or l.along 0 0 ≡ 0
@@ -44,3 +45,7 @@ pub record IsRun (o : RunOutcome) (r : Ran) (table path : List ℕ) (reports : L
   pub table_is : table ≡ o.table
   pub path_is : path ≡ o.path
   pub reports_are : reports ≡ o.reports
+
+-- how many trials a limit allows after one: 0 where it learned nothing
+abbrev pub limit_after : ℕ → Report → ℕ
+limit_after limit r = pick (eqb r.learned 0) 0 limit

@@ -13,7 +13,7 @@ ghost use Rattle.model.specs.Decision.{act};
 ghost use Rattle.lookahead.specs.Contract.{Used};
 ghost use Rattle.decision.specs.Ready.{Places};
 ghost use Rattle.run.specs.Stands.{set_out, tallied_of, Onward, Went, Left};
-ghost use Rattle.run.specs.Trials.{Fits, noted, Cleared, Rode, IsTrial, IsRun};
+ghost use Rattle.run.specs.Trials.{Fits, noted, Cleared, Rode, IsTrial, IsRun, limit_after};
 
 use answers::{Answer, Job, Made, Refusal, Report, State};
 pub use counts::{report_at, run_counts};
@@ -28,7 +28,7 @@ pub fn store_report(reports: &mut [Report], at: usize, r: Report)
 }
 
 // The costs of the legs up to the places of the path: where a decision adds a cell, what they come to there is noted.
-fn note_leg(along: &mut [u32], before: usize, after: usize, leg: usize)
+pub fn note_leg(along: &mut [u32], before: usize, after: usize, leg: usize)
     requires { Fits along.old before after leg }
     ensures { along.new ≡ noted along.old before after leg }
 {
@@ -93,7 +93,7 @@ impl Stand {
         lists: &mut Workspace,
     ) -> Stand
         requires ready { Onward job floor.now self table.old path.old lists.old.along }
-        requires used { Used self.base lists.old.scratch }
+        requires used { Used self.base lists.old.scratch.mark lists.old.scratch.cost lists.old.scratch.list }
         requires places { Places lists.old.place path.old self.state.length }
         ensures went { Went (act job floor.now self.state table.old path.old) self lists.old.along result table.new path.new lists.new.along }
         ensures left { Left job floor.now (act job floor.now self.state table.old path.old) self result lists.new path.new }
@@ -173,6 +173,13 @@ pub fn trial(
 {
     opening::open_trial(job, floor, start, table, path.len())?;
     Ok(ride(job, floor, start, table, path))
+}
+
+// The limit after a trial, for whoever makes trials himself by one: 0 where it learned nothing.
+pub fn limit_after(limit: usize, r: Report) -> usize
+    ensures { result ≡ limit_after limit r }
+{
+    if r.learned == 0 { 0 } else { limit }
 }
 
 // A run: trials until one learns nothing or the number asked for is used. The record of each is stored as it ends.

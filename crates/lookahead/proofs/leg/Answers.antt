@@ -4,12 +4,12 @@ use Rattle.model.specs.Lookahead.{fineness}
 use Rattle.lookahead.proofs.Meaning.{near_few, near-cost, near-coarse}
 use Rattle.lookahead.proofs.leg.Goals as goal
 
-pub offset_bounds-scratch-x : goal.offset_bounds-scratch-x
-offset_bounds-scratch-x c =
+pub offset_bounds-cost-x : goal.offset_bounds-cost-x
+offset_bounds-cost-x c =
     omega (arith, near_few c.requires.asked _ c.requires.near)
 
-pub bounds-scratch-x : goal.bounds-scratch-x
-bounds-scratch-x c =
+pub bounds-cost-x : goal.bounds-cost-x
+bounds-cost-x c =
     omega (arith, near_few c.requires.asked _ c.requires.near)
 
 pub returns : goal.returns

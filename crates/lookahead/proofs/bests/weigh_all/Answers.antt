@@ -8,5 +8,5 @@ pub loop-i-preserved : goal.loop-i-preserved
 loop-i-preserved c =
     let a = c.args in
     let p = c.requires in
-    let inside : In a.base a.scratch.now.mark c.from.result = rw c.from.ensures (p.listing.early c.loop-i.i (omega arith)) in
-    rw c.weigh.ensures (bests_more c.from.ensures (in_ring a.base a.scratch.now.mark _ _ inside (p.scores.top c.from.result)) c.loop-i.invariant)
+    let inside : In a.base a.mark.now c.from.result = rw c.from.ensures (p.listing.early c.loop-i.i (omega arith)) in
+    rw c.weigh.ensures (bests_more c.from.ensures (in_ring a.base a.mark.now _ _ inside (p.scores.top c.from.result)) c.loop-i.invariant)

@@ -3,4 +3,4 @@ use Rattle.lookahead.specs.Bests.{Bests}
 use Rattle.lookahead.proofs.bests.weigh_all.Given as goal
 
 abbrev pub invariant-loop-i : goal.invariant-loop-i
-invariant-loop-i l = Bests l.base l.scratch.mark l.scratch.cost l.table l.p l.scratch.list l.i l.best
+invariant-loop-i l = Bests l.base l.mark l.cost l.table l.p l.list l.i l.best

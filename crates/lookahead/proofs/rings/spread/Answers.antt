@@ -4,8 +4,8 @@ use Rattle.model.proofs.Moves.{free_few}
 use Rattle.lookahead.proofs.Grow.{swept_open, swept_more}
 use Rattle.lookahead.proofs.rings.spread.Goals as goal
 
-pub bounds-scratch-c : goal.bounds-scratch-c
-bounds-scratch-c c =
+pub bounds-cost-c : goal.bounds-cost-c
+bounds-cost-c c =
     let p = c.requires in
     omega (arith, free_few _ _ p.room.sized (swept_open p.room p.segment c.loop-i.invariant (omega arith) (omega arith) c.from-c.ensures).free)
 

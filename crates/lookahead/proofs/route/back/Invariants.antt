@@ -3,4 +3,4 @@ use Rattle.lookahead.specs.Way.{Unled}
 use Rattle.lookahead.proofs.route.back.Given as goal
 
 abbrev pub invariant-loop-k : goal.invariant-loop-k
-invariant-loop-k l = Unled l.floor l.base l.scratch.mark l.scratch.cost l.x l.k
+invariant-loop-k l = Unled l.floor l.base l.mark l.cost l.x l.k
