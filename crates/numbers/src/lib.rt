@@ -113,7 +113,6 @@ impl Entry for usize {
 pub struct Reader<'a> {
     pub input: &'a [u8],
     pub at: usize,
-    ghost within: { at ≤ length input.now },
 }
 
 // A space or LF.
@@ -158,7 +157,7 @@ impl<'a> Reader<'a> {
     fn rest(&self) -> &'a [u8]
         ensures { result.now ≡ drop self.now.at self.now.input.now }
     {
-        &self.input[self.at..]
+        self.input.get(self.at..).unwrap_or_default()
     }
 
     // The number that stands next, and the place after it.
@@ -171,12 +170,13 @@ impl<'a> Reader<'a> {
     }
 
     // The next number, which is to be at most `most`.
-    #[tactic(auto, unfolding(crate::specs::Reading::number_in))]
+    #[tactic(auto, using(crate::proofs::Laws::inside), unfolding(crate::specs::Reading::number_in))]
     pub fn number(&mut self, most: usize) -> Option<usize>
         ensures value { result ≡ value_of (number_in most self.old.input.now self.old.at) }
         ensures place { self.new.at ≡ place_after self.old.at (number_in most self.old.input.now self.old.at) }
         ensures input { self.new.input ≡ self.old.input }
         ensures within_most { IfSome result (λ n. n ≤ most) }
+        ensures within { self.old.at ≤ length self.old.input.now → self.new.at ≤ length self.old.input.now }
     {
         let run = self.item()?;
         if most < run.value {
@@ -191,6 +191,7 @@ impl<'a> Reader<'a> {
         ensures value { result ≡ value_of (number_in greatest self.old.input.now self.old.at) }
         ensures place { self.new.at ≡ place_after self.old.at (number_in greatest self.old.input.now self.old.at) }
         ensures input { self.new.input ≡ self.old.input }
+        ensures within { self.old.at ≤ length self.old.input.now → self.new.at ≤ length self.old.input.now }
     {
         self.number(GREATEST)
     }
@@ -207,6 +208,7 @@ impl<'a> Reader<'a> {
         ensures read { Read (read_list T.MOST self.old.input.now self.old.at n (map T.number list.old)) result self.new.at (map T.number list.new) }
         ensures input { self.new.input ≡ self.old.input }
         ensures fits { IfSome result (λ n. n ≤ length list.new) }
+        ensures within { self.old.at ≤ length self.old.input.now → self.new.at ≤ length self.old.input.now }
     {
         if list.len() < n {
             return None;
@@ -222,6 +224,7 @@ impl<'a> Reader<'a> {
         ensures read { Read (list_at T.MOST self.old.input.now self.old.at (map T.number list.old)) result self.new.at (map T.number list.new) }
         ensures input { self.new.input ≡ self.old.input }
         ensures fits { IfSome result (λ n. n ≤ length list.new) }
+        ensures within { self.old.at ≤ length self.old.input.now → self.new.at ≤ length self.old.input.now }
     {
         let n = self.length()?;
         self.several(n, list)

@@ -8,7 +8,7 @@ pub returns-then-list-n-clause-read : goal.returns-then-list-n-clause-read
 returns-then-list-n-clause-read g c = filling_long _ _ _ _ _ _ c.if-list-n.true
 
 pub loop-entry-init : goal.loop-entry-init
-loop-entry-init g c = record { filling = filling _ _ _ _ _ _ c.if-list-n.false; input = refl }
+loop-entry-init g c = record { filling = filling _ _ _ _ _ _ c.if-list-n.false; input = refl; within = λ h. h }
 
 pub returns-in_err-number-clause-read : goal.returns-in_err-number-clause-read
 returns-in_err-number-clause-read g c =
@@ -16,11 +16,20 @@ returns-in_err-number-clause-read g c =
     let s = rw (r.input, c.MOST.ensures) at c.number.ensures in
     rw (c.from_residual.ensures, set-get_or) (filling_off r.filling (omega arith) s.value s.place c.in_err-number.was)
 
+pub returns-in_err-number-clause-within : goal.returns-in_err-number-clause-within
+returns-in_err-number-clause-within g c =
+    let r = c.loop-entry.invariant in
+    let s = rw r.input at c.number.ensures in
+    λ h. s.within (r.within h)
+
 pub loop-entry-preserved : goal.loop-entry-preserved
 loop-entry-preserved g c =
     let r = c.loop-entry.invariant in
     let s = rw (r.input, c.MOST.ensures) at c.number.ensures in
-    record { filling = filling_more r.filling (omega arith) s.value s.place _ cc; input = c.number.ensures.input ∙ r.input }
+    record { filling = filling_more r.filling (omega arith) s.value s.place _ cc; input = c.number.ensures.input ∙ r.input; within = λ h. s.within (r.within h) }
 
 pub returns-clause-read : goal.returns-clause-read
 returns-clause-read g c = filling_all c.loop-entry.invariant.filling (omega arith)
+
+pub returns-clause-within : goal.returns-clause-within
+returns-clause-within g c = c.loop-entry.invariant.within
