@@ -40,6 +40,10 @@ at_most most None = None
 unfoldable pub number_in : (most : ℕ) (input : List ℕ) (at : ℕ) → Option Run
 number_in most input at = at_most most (number_at input at)
 
+-- nothing is read after a fault
+abbrev pub next_number : (failed : Bool) (most : ℕ) (input : List ℕ) (at : ℕ) → Option Run
+next_number failed most input at = choose failed None (number_in most input at)
+
 -- what is answered of it, and the place then: that after the number, or where it was looked for
 abbrev pub value_of : Option Run → Option ℕ
 value_of (Some r) = Some r.value
@@ -79,6 +83,13 @@ list_after most input at None list = faulty at list
 
 abbrev pub list_at : (most : ℕ) (input : List ℕ) (at : ℕ) → List ℕ → Filled
 list_at most input at list = list_after most input at (number_in greatest input at) list
+
+-- of lists too nothing is read after a fault
+abbrev pub next_several : (failed : Bool) (most : ℕ) (input : List ℕ) (at n : ℕ) → List ℕ → Filled
+next_several failed most input at n list = choose failed (faulty at list) (read_list most input at n list)
+
+abbrev pub next_list : (failed : Bool) (most : ℕ) (input : List ℕ) (at : ℕ) → List ℕ → Filled
+next_list failed most input at list = choose failed (faulty at list) (list_at most input at list)
 
 pub record Read (f : Filled) (result : Option ℕ) (at : ℕ) (list : List ℕ) : Type 0 where
   pub answer : result ≡ f.answer

@@ -4,8 +4,8 @@
 
 pub mod print;
 
-ghost use Rattle.std.specs.Prelude.{◌≡◌, ◌≤◌, ℕ, length, map, drop, position, not, IfSome};
-ghost use Rattle.numbers.specs.Reading.{is_blank, greatest, digits_from, number_at, number_in, value_of, place_after, ended_at, Read, read_list, list_at};
+ghost use Rattle.std.specs.Prelude.{◌≡◌, ◌≤◌, ℕ, false, ◌&&◌, length, map, drop, position, not, IfSome, is_none};
+ghost use Rattle.numbers.specs.Reading.{is_blank, greatest, digits_from, number_at, next_number, value_of, place_after, ended_at, Read, next_several, next_list};
 
 use notation::digits::{self, Run};
 
@@ -108,12 +108,12 @@ impl Entry for usize {
     }
 }
 
-// An input, read up to a place.
+// An input, read up to a place, and whether a reading failed: then no more is read.
 #[derive(Clone, Copy)]
 pub struct Reader<'a> {
     pub input: &'a [u8],
     pub at: usize,
-    ghost within: { at ≤ length input.now },
+    pub failed: bool,
 }
 
 // A space or LF.
@@ -150,15 +150,20 @@ impl<'a> Reader<'a> {
     pub fn new(input: &'a [u8]) -> Self
         ensures input { result.input.now ≡ input.now }
         ensures front { result.at ≡ 0 }
+        ensures sound { result.failed ≡ false }
     {
-        Reader { input, at: 0 }
+        Reader {
+            input,
+            at: 0,
+            failed: false,
+        }
     }
 
     // What is not read yet.
     fn rest(&self) -> &'a [u8]
         ensures { result.now ≡ drop self.now.at self.now.input.now }
     {
-        &self.input[self.at..]
+        self.input.get(self.at..).unwrap_or_default()
     }
 
     // The number that stands next, and the place after it.
@@ -170,45 +175,80 @@ impl<'a> Reader<'a> {
         digits(self.input, self.at + blanks)
     }
 
-    // The next number, which is to be at most `most`.
-    #[tactic(auto, unfolding(crate::specs::Reading::number_in))]
-    pub fn number(&mut self, most: usize) -> Option<usize>
-        ensures value { result ≡ value_of (number_in most self.old.input.now self.old.at) }
-        ensures place { self.new.at ≡ place_after self.old.at (number_in most self.old.input.now self.old.at) }
-        ensures input { self.new.input ≡ self.old.input }
-        ensures within_most { IfSome result (λ n. n ≤ most) }
+    // The number that stands next, at most `most`, and the place after it; none after a fault.
+    #[tactic(auto, using(crate::proofs::Laws::inside), unfolding(crate::specs::Reading::number_in))]
+    fn next(&self, most: usize) -> Option<Run>
+        ensures value { result ≡ next_number self.now.failed most self.now.input.now self.now.at }
+        ensures sound { IfSome result (λ r. self.now.failed ≡ false) }
+        ensures within_most { IfSome result (λ r. r.value ≤ most) }
+        ensures within { self.now.at ≤ length self.now.input.now → IfSome result (λ r. r.after ≤ length self.now.input.now) }
     {
+        if self.failed {
+            return None;
+        }
         let run = self.item()?;
         if most < run.value {
             return None;
         }
-        self.at = run.after;
-        Some(run.value)
+        Some(run)
+    }
+
+    // The next number, which is to be at most `most`.
+    pub fn number(&mut self, most: usize) -> Option<usize>
+        ensures value { result ≡ value_of (next_number self.old.failed most self.old.input.now self.old.at) }
+        ensures place { self.new.at ≡ place_after self.old.at (next_number self.old.failed most self.old.input.now self.old.at) }
+        ensures failed { self.new.failed ≡ is_none result }
+        ensures input { self.new.input ≡ self.old.input }
+        ensures within_most { IfSome result (λ n. n ≤ most) }
+        ensures within { self.old.at ≤ length self.old.input.now → self.new.at ≤ length self.old.input.now }
+    {
+        match self.next(most) {
+            Some(run) => {
+                self.at = run.after;
+                Some(run.value)
+            }
+            None => {
+                self.failed = true;
+                None
+            }
+        }
     }
 
     // The next number, whatever it is: it may be the length of a list.
     pub fn length(&mut self) -> Option<usize>
-        ensures value { result ≡ value_of (number_in greatest self.old.input.now self.old.at) }
-        ensures place { self.new.at ≡ place_after self.old.at (number_in greatest self.old.input.now self.old.at) }
+        ensures value { result ≡ value_of (next_number self.old.failed greatest self.old.input.now self.old.at) }
+        ensures place { self.new.at ≡ place_after self.old.at (next_number self.old.failed greatest self.old.input.now self.old.at) }
+        ensures failed { self.new.failed ≡ is_none result }
         ensures input { self.new.input ≡ self.old.input }
+        ensures within { self.old.at ≤ length self.old.input.now → self.new.at ≤ length self.old.input.now }
     {
         self.number(GREATEST)
     }
 
     // Whether nothing but blanks is left.
-    pub fn ended(&self) -> bool
+    fn spent(&self) -> bool
         ensures { result ≡ ended_at self.now.input.now self.now.at }
     {
         self.rest().iter().all(|b| is_blank(*b))
     }
 
+    // Whether all was well and nothing but blanks is left.
+    pub fn ended(&self) -> bool
+        ensures { result ≡ (not self.now.failed && ended_at self.now.input.now self.now.at) }
+    {
+        !self.failed && self.spent()
+    }
+
     // n entries, from the front of a list on; how many.
     pub fn several<T: Entry>(&mut self, n: usize, list: &mut [T]) -> Option<usize>
-        ensures read { Read (read_list T.MOST self.old.input.now self.old.at n (map T.number list.old)) result self.new.at (map T.number list.new) }
+        ensures read { Read (next_several self.old.failed T.MOST self.old.input.now self.old.at n (map T.number list.old)) result self.new.at (map T.number list.new) }
+        ensures failed { self.new.failed ≡ is_none result }
         ensures input { self.new.input ≡ self.old.input }
         ensures fits { IfSome result (λ n. n ≤ length list.new) }
+        ensures within { self.old.at ≤ length self.old.input.now → self.new.at ≤ length self.old.input.now }
     {
-        if list.len() < n {
+        if self.failed || list.len() < n {
+            self.failed = true;
             return None;
         }
         for entry in &mut list[..n] {
@@ -219,9 +259,11 @@ impl<'a> Reader<'a> {
 
     // A list: its length, and its entries.
     pub fn list<T: Entry>(&mut self, list: &mut [T]) -> Option<usize>
-        ensures read { Read (list_at T.MOST self.old.input.now self.old.at (map T.number list.old)) result self.new.at (map T.number list.new) }
+        ensures read { Read (next_list self.old.failed T.MOST self.old.input.now self.old.at (map T.number list.old)) result self.new.at (map T.number list.new) }
+        ensures failed { self.new.failed ≡ is_none result }
         ensures input { self.new.input ≡ self.old.input }
         ensures fits { IfSome result (λ n. n ≤ length list.new) }
+        ensures within { self.old.at ≤ length self.old.input.now → self.new.at ≤ length self.old.input.now }
     {
         let n = self.length()?;
         self.several(n, list)
