@@ -11,12 +11,11 @@ use notation::print::Printer;
 // Standard output, as the operating system numbers it.
 const STDOUT: i32 = 1;
 
-// What is drawn and not written out yet: the bytes before `at`.
-#[derive(Drop)]
+// What is drawn and not written out yet: the bytes before `at`. A place past the page stands for none: the next part begins at the front.
+#[derive(Clone, Copy)]
 pub struct Page {
-    bytes: [u8; 65536],
-    at: usize,
-    ghost on_page: { at ≤ 65536 },
+    pub bytes: [u8; 65536],
+    pub at: usize,
 }
 
 impl Page {
@@ -29,11 +28,18 @@ impl Page {
         }
     }
 
+    // Writes out what stands before the page's place; no part leaves it past the page.
+    pub fn write_out(&self) {
+        if self.at <= self.bytes.len() {
+            io::write_all(STDOUT, &self.bytes[..self.at]);
+        }
+    }
+
     // Writes out what is left on the page.
     pub fn finish(&mut self)
         ensures { self.new.at ≡ 0 }
     {
-        io::write_all(STDOUT, &self.bytes[..self.at]);
+        self.write_out();
         self.at = 0;
     }
 
@@ -49,6 +55,7 @@ impl Page {
     // Words as they are: whoever writes text sees to it that no byte of it is one of XML's own.
     pub fn words(&mut self, s: &[u8])
         requires { length s.now ≤ 512 }
+        ensures { self.new.at ≤ 65536 }
     {
         self.make_room();
         let mut out = Printer {
@@ -60,7 +67,9 @@ impl Page {
     }
 
     #[tactic(auto, using(notation::proofs::Decimals::digits_few))]
-    pub fn number(&mut self, n: usize) {
+    pub fn number(&mut self, n: usize)
+        ensures { self.new.at ≤ 65536 }
+    {
         self.make_room();
         let mut out = Printer {
             out: &mut self.bytes,
@@ -73,6 +82,7 @@ impl Page {
     // An attribute whose value is a number.
     pub fn attribute(&mut self, name: &[u8], n: usize)
         requires { length name.now ≤ 512 }
+        ensures { self.new.at ≤ 65536 }
     {
         self.words(b" ");
         self.words(name);
@@ -81,7 +91,9 @@ impl Page {
     }
 
     // A place on the drawing, in points from its upper left corner.
-    fn point(&mut self, x: usize, y: usize) {
+    fn point(&mut self, x: usize, y: usize)
+        ensures { self.new.at ≤ 65536 }
+    {
         self.attribute(b"x", x);
         self.attribute(b"y", y);
     }
@@ -89,6 +101,7 @@ impl Page {
     // A rectangle from its upper left corner on, in the style of `style`, which is further attributes.
     pub fn rectangle(&mut self, x: usize, y: usize, width: usize, height: usize, style: &[u8])
         requires { length style.now ≤ 512 }
+        ensures { self.new.at ≤ 65536 }
     {
         self.words(b"<rect");
         self.point(x, y);
@@ -101,6 +114,7 @@ impl Page {
     // A circle around its middle.
     pub fn circle(&mut self, x: usize, y: usize, radius: usize, style: &[u8])
         requires { length style.now ≤ 512 }
+        ensures { self.new.at ≤ 65536 }
     {
         self.words(b"<circle");
         self.attribute(b"cx", x);
@@ -113,6 +127,7 @@ impl Page {
     // A level line from x to `to`.
     pub fn level(&mut self, x: usize, to: usize, y: usize, style: &[u8])
         requires { length style.now ≤ 512 }
+        ensures { self.new.at ≤ 65536 }
     {
         self.words(b"<line");
         self.attribute(b"x1", x);
@@ -124,19 +139,24 @@ impl Page {
     }
 
     // The front of a caption: its words follow, and then its end.
-    pub fn caption_from(&mut self, x: usize, y: usize) {
+    pub fn caption_from(&mut self, x: usize, y: usize)
+        ensures { self.new.at ≤ 65536 }
+    {
         self.words(b"<text");
         self.point(x, y);
         self.words(b">");
     }
 
-    pub fn caption_end(&mut self) {
+    pub fn caption_end(&mut self)
+        ensures { self.new.at ≤ 65536 }
+    {
         self.words(b"</text>\n");
     }
 
     // A caption of fixed words.
     pub fn caption(&mut self, x: usize, y: usize, s: &[u8])
         requires { length s.now ≤ 512 }
+        ensures { self.new.at ≤ 65536 }
     {
         self.caption_from(x, y);
         self.words(s);
@@ -146,6 +166,7 @@ impl Page {
     // Words and the number that they introduce.
     pub fn said(&mut self, s: &[u8], n: usize)
         requires { length s.now ≤ 512 }
+        ensures { self.new.at ≤ 65536 }
     {
         self.words(s);
         self.number(n);

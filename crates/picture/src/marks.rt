@@ -51,7 +51,9 @@ pub(crate) fn square(page: &mut Page, at: Spot, s: &[u8])
 }
 
 // Where a cell's mark stands: in its middle, and half the mark's side is a third of the cell's, held between 8 and 16 points.
-fn spot_of(s: &Sheet, cell: usize) -> Spot {
+fn spot_of(s: &Sheet, cell: usize) -> Spot
+    ensures { (20 ≤ result.x) × (50 ≤ result.y) × (result.y ≤ 8000) × (result.half ≤ 16) }
+{
     let middle = s.cell / 2;
     Spot {
         x: 20 + s.reach(cell % s.columns) + middle,
