@@ -51,8 +51,9 @@ pub(crate) fn square(page: &mut Page, at: Spot, s: &[u8])
 }
 
 // Where a cell's mark stands: in its middle, and half the mark's side is a third of the cell's, held between 8 and 16 points.
+// No cell is smaller than 10, so its middle lies 5 points or more from where the floor begins, at 20 and 50.
 fn spot_of(s: &Sheet, cell: usize) -> Spot
-    ensures { (20 ≤ result.x) × (50 ≤ result.y) × (result.y ≤ 8000) × (result.half ≤ 16) }
+    ensures { (25 ≤ result.x) × (55 ≤ result.y) × (result.y ≤ 8000) × (result.half ≤ 16) }
 {
     let middle = s.cell / 2;
     Spot {
