@@ -107,5 +107,6 @@ fn main() {
         at: 0,
     };
     answer(&input[..got], &mut out);
-    journey::write_out(&out);
+    let end = out.at;
+    journey::write_out(&list, end);
 }

@@ -5,7 +5,7 @@
 
 #![tactic(auto)]
 
-ghost use Rattle.std.specs.Prelude.{◌≡◌, ◌++◌, ℕ, ◌≤◌, ◌<◌, length, get_or, Ok};
+ghost use Rattle.std.specs.Prelude.{◌≡◌, ◌++◌, ℕ, ◌+◌, ◌≤◌, ◌<◌, length, get_or, Ok};
 ghost use Rattle.model.specs.Opening.{open_trial};
 ghost use Rattle.model.specs.Ride.{ride, course_from};
 ghost use Rattle.model.specs.Line.{course_lines};
@@ -31,12 +31,20 @@ fn hand_out(fd: i32, part: &[u8], out: &[u8]) -> usize
     part.len()
 }
 
-// All that is printed is written out; how many bytes are handed out.
-pub fn write_out(out: &Printer) -> usize
+// All that stands before a place is written out; how many bytes are handed out.
+pub fn write_out(out: &[u8], at: usize) -> usize
+    requires { at ≤ length out.now }
+    ensures { result ≡ at }
+{
+    hand_out(STDOUT_FILENO, &out[..at], out)
+}
+
+// The same of all that a printer has printed.
+fn write_printed(out: &Printer) -> usize
     requires { out.now.at ≤ length out.now.out.now }
     ensures { result ≡ out.now.at }
 {
-    hand_out(STDOUT_FILENO, &out.out[..out.at], out.out)
+    write_out(out.out, out.at)
 }
 
 // Where fewer than 512 of the list's 65,536 places are left, what is printed is written out. What is told at once, the moves of a decision or the counts of a
@@ -46,7 +54,7 @@ fn spill(out: &mut Printer)
     ensures { Spilt out.old out.new }
 {
     if 65024 < out.at {
-        out.at -= write_out(out);
+        out.at -= write_printed(out);
     }
 }
 
@@ -64,7 +72,8 @@ fn say_moves(out: &mut Printer, moves: &[u8])
 // What a trial line says where there was no move.
 fn say_none(out: &mut Printer, moved: bool)
     requires { HasRoom out.old 1 }
-    ensures { Prints out.old (dash moved) out.new }
+    ensures printed { Prints out.old (dash moved) out.new }
+    ensures short { out.new.at ≤ out.old.at + 1 }
 {
     if !moved {
         out.byte(b'-');

@@ -1,10 +1,10 @@
 -- The lines of a part: the one from a place on, that it is a line, and what is told of the part once it is copied, whatever follows. Assumes nothing.
 use Prim.Native.Nat.{ℕ, suc, ◌+◌, ◌-◌, ◌*◌, ◌≤◌}
 use mathlib.Core.Path.{◌≡◌, refl, sym, ap, ap₂, subst, ◌∙◌}
-use mathlib.Core.Bool.{Bool, true, false, not}
+use mathlib.Core.Bool.{Bool, true, false}
 use borrow.Author.Tests.{eq-eqb, eqb-true}
 use lib.Dec.{eqb}
-use Rattle.std.specs.Bool.{then_some}
+use Rattle.std.specs.Prelude.{Ok, Err}
 use Rattle.std.specs.List.{IsAnyAnswer}
 use mathlib.Core.List.{List, [], ◌∷◌, ◌++◌, append_assoc, append-nil}
 use native.Mathlib.Decide.{ℕ_discrete}
@@ -121,25 +121,30 @@ pub record Going (bytes : List ℕ) (first : ℕ) (out : List ℕ) (p : Printer)
   pub told : (rest : List ℕ) → copy_lines first (lines_of (bytes ++ rest)) ≡ ahead (take p.at p.out.now) (copy_lines line (lines_of (drop done bytes ++ rest)))
 
 module _ {bytes : List ℕ} {first : ℕ} {out : List ℕ} {p : Printer} {line done : ℕ} (F : Fits bytes first out) (g : Going bytes first out p line done) where
-  -- no line from here on: a malformed one, or one that has no LF yet
-  pub going_ends : (r : Bool) → NoLine bytes done → IsAnyAnswer (λ y b. eqb y LF ≡ b) (drop done bytes) r
-      → {out' : List ℕ} → out' ≡ p.out.now → Copies bytes first (record { wrote = p.at; line = line; done = then_some (not r) done }) out'
-  going_ends r z a e = rw e (by r (line_ends _ r a))
-    where
-      by : (t : Bool) → (t ≡ true → Unended (drop done bytes) → ⊥) × (t ≡ false → Unended (drop done bytes))
-          → Copies bytes first (record { wrote = p.at; line = line; done = then_some (not t) done }) p.out.now
-      by true e = record {
-        room = omega (arith, g.few, g.within, g.same, F.room);
-        counted = omega (arith, g.counted, g.within);
-        goes = tt;
-        stopped = λ rest. g.told rest ∙ ap (ahead (take p.at p.out.now)) (stops_at bytes done z (e.0 refl) line rest) ∙ ahead-stopped (take p.at p.out.now) line;
-      }
-      by false e = record {
-        room = omega (arith, g.few, g.within, g.same, F.room);
-        counted = omega (arith, g.counted, g.within);
-        goes = record { within = g.within; counted = g.counted; unended = e.1 refl; told = g.told };
-        stopped = tt;
-      }
+  -- no line from here on: one that has no LF yet
+  pub going_ends : {r : Bool} → IsAnyAnswer (λ y b. eqb y LF ≡ b) (drop done bytes) r → r ≡ false
+      → {out' : List ℕ} → out' ≡ p.out.now → Copies bytes first (record { wrote = p.at; line = line; done = Ok done }) out'
+  going_ends {r} a e s = rw s (record {
+    room = omega (arith, g.few, g.within, g.same, F.room);
+    counted = omega (arith, g.counted, g.within);
+    goes = record { within = g.within; counted = g.counted; unended = (line_ends (drop done bytes) r a).1 e; told = g.told };
+    stopped = tt;
+  })
+
+  -- or a malformed one
+  pub going_stops : NoLine bytes done → {r : Bool} → IsAnyAnswer (λ y b. eqb y LF ≡ b) (drop done bytes) r → r ≡ true
+      → {out' : List ℕ} → out' ≡ p.out.now → Copies bytes first (record { wrote = p.at; line = line; done = Err done }) out'
+  going_stops z {r} a e s = rw s (record {
+    room = omega (arith, g.few, g.within, g.same, F.room);
+    counted = omega (arith, g.counted, g.within);
+    goes = tt;
+    stopped = record {
+      within = g.within;
+      counted = g.counted;
+      told = λ rest.
+          g.told rest ∙ ap (ahead (take p.at p.out.now)) (stops_at bytes done z ((line_ends (drop done bytes) r a).0 e) line rest) ∙ ahead-stopped (take p.at p.out.now) line;
+    };
+  })
 
   module _ {f : First} (L : FirstLine bytes done f) where
     -- there is room for the next line

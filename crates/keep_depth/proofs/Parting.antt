@@ -8,6 +8,7 @@ use lib.ListN.{length, take, drop, length-drop}
 use lib.Seq.{length-sets, length-take-le, take_at}
 use Rattle.answers.specs.declared.Place.TheVariants as P
 use Rattle.std.specs.Prelude.{Option, None, Some, IfSome, Result, Ok, Err}
+use Rattle.std.proofs.lemmas.Result.{IfOk-at_ok, IfErr-at_err}
 use Rattle.model.specs.Basics.{refuse_at}
 use Rattle.model.specs.KeepDepth.{Unended, lines_of, ahead, copy_lines, longest_line, keep_depth}
 use Rattle.model.proofs.Parts.{drop-cut}
@@ -52,12 +53,12 @@ module _ {kept : List ℕ} {held : ℕ} {part : List ℕ} {line : ℕ} {out kept
         → Stepped kept held part line (record { wrote = c.wrote; line = c.line; held = None }) kept' out'
     halts t kept' = record { room = C.room; counted = counted; goes = tt; stopped = λ rest. then_rest rest ∙ t rest }
 
-    pub stops_here : c.done ≡ None → (kept' : List ℕ) → Stepped kept held part line (record { wrote = c.wrote; line = c.line; held = None }) kept' out'
-    stops_here e = halts (rw e at C.stopped)
+    pub stops_here : {done : ℕ} → c.done ≡ Err done → (kept' : List ℕ) → Stepped kept held part line (record { wrote = c.wrote; line = c.line; held = None }) kept' out'
+    stops_here e = halts (IfErr-at_err _ e C.stopped).told
 
-    module _ {done : ℕ} (e : c.done ≡ Some done) where
+    module _ {done : ℕ} (e : c.done ≡ Ok done) where
       goes : Goes (take n kept₁) line c out' done
-      goes = subst (λ (d : Option ℕ). IfSome d (Goes (take n kept₁) line c out')) e C.goes
+      goes = IfOk-at_ok _ e C.goes
 
       left : length (drop done (take n kept₁)) ≡ n - done
       left = length-drop done (take n kept₁) ∙ ap (λ (k : ℕ). k - done) (sym bytes-long)

@@ -1,5 +1,5 @@
 -- What copying the lines of a part promises, whatever follows it.
-use Rattle.std.specs.Prelude.{ℕ, ◌+◌, ◌*◌, ◌≤◌, ◌<◌, ◌≡◌, List, ◌++◌, length, take, drop, IfNone, IfSome}
+use Rattle.std.specs.Prelude.{ℕ, ◌+◌, ◌*◌, ◌≤◌, ◌<◌, ◌≡◌, List, ◌++◌, length, take, drop, IfOk, IfErr}
 use Rattle.answers.specs.declared.Place.TheVariants as P
 use Rattle.model.specs.Basics.{refuse_at}
 use Rattle.model.specs.KeepDepth.{Unended, lines_of, ahead, copy_lines}
@@ -17,11 +17,16 @@ pub record Goes (bytes : List ℕ) (first : ℕ) (c : Reach) (out : List ℕ) (d
   pub unended : Unended (drop done bytes)
   pub told : (rest : List ℕ) → copy_lines first (lines_of (bytes ++ rest)) ≡ ahead (take c.wrote out) (copy_lines c.line (lines_of (drop done bytes ++ rest)))
 
+-- so much of a part is done with, up to a malformed line: whatever follows, nothing is told from it on, and its number
+pub record Stops (bytes : List ℕ) (first : ℕ) (c : Reach) (out : List ℕ) (done : ℕ) : Type 0 where
+  pub within : done ≤ length bytes
+  pub counted : c.line ≤ first + done
+  pub told : (rest : List ℕ) → copy_lines first (lines_of (bytes ++ rest)) ≡ record { written = take c.wrote out; verdict = refuse_at 3 (P.Line c.line) }
+
 -- how far a part is copied, its first line having that number
 pub record Copies (bytes : List ℕ) (first : ℕ) (c : Reach) (out : List ℕ) : Type 0 where
   -- so much is written, and so many lines are counted
   pub room : c.wrote ≤ length out
   pub counted : c.line ≤ first + length bytes
-  pub goes : IfSome c.done (Goes bytes first c out)
-  -- or up to a malformed line: whatever follows, nothing from it on, and its number
-  pub stopped : IfNone c.done ((rest : List ℕ) → copy_lines first (lines_of (bytes ++ rest)) ≡ record { written = take c.wrote out; verdict = refuse_at 3 (P.Line c.line) })
+  pub goes : IfOk c.done (Goes bytes first c out)
+  pub stopped : IfErr c.done (Stops bytes first c out)

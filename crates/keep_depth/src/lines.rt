@@ -5,12 +5,12 @@ ghost use Rattle.keep_depth.specs.Lines.{Fits, Copies};
 use line::depth::{self, First};
 use notation::print::Printer;
 
-// How far a part is copied: how many bytes are written, the number of the next line, and how many bytes stand before it; `None` where that line is malformed.
+// How far a part is copied: how many bytes are written, the number of the next line, and how many bytes stand before it, an `Err` where that line is malformed.
 #[derive(Clone, Copy)]
 pub struct Reach {
     pub wrote: usize,
     pub line: usize,
-    pub done: Option<usize>,
+    pub done: Result<usize, usize>,
 }
 
 // The whole lines of a part, from its first byte up to its last LF or a malformed line; the first has that number.
@@ -31,6 +31,6 @@ pub fn copy_lines(bytes: &[u8], first: usize, out: &mut [u8]) -> Reach
     Reach {
         wrote: copies.at,
         line,
-        done: (!malformed).then_some(done),
+        done: if malformed { Err(done) } else { Ok(done) },
     }
 }

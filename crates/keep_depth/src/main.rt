@@ -49,7 +49,7 @@ fn copy_part(kept: &mut [u8], held: usize, part: &[u8], line: usize, out: &mut [
     let n = input.at;
     let reach = lines::copy_lines(&kept[..n], line, out);
     let held = match reach.done {
-        Some(done) if n - done < LONGEST_LINE => {
+        Ok(done) if n - done < LONGEST_LINE => {
             stream::to_front(kept, done, n - done);
             Some(n - done)
         }

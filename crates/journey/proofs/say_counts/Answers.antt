@@ -5,7 +5,7 @@ use Rattle.journey.proofs.Telling.{counts-room, told_one}
 use Rattle.journey.proofs.say_counts.Goals as goal
 
 pub spill-requires : goal.spill-requires
-spill-requires c = omega (arith, counts-room _ _ c.requires c.say_none.ensures c.counts.ensures)
+spill-requires c = omega (arith, counts-room _ _ c.requires c.say_none.ensures.printed c.counts.ensures)
 
 pub returns : goal.returns
-returns c = told_one (prints_then c.say_none.ensures c.counts.ensures) c.requires.size (counts-room _ _ c.requires c.say_none.ensures c.counts.ensures).0 c.spill.ensures
+returns c = told_one (prints_then c.say_none.ensures.printed c.counts.ensures) c.requires.size (counts-room _ _ c.requires c.say_none.ensures.printed c.counts.ensures).0 c.spill.ensures
