@@ -3,14 +3,15 @@
 use Prim.Native.Nat.{ℕ, zero, suc, ◌+◌, ◌*◌, ◌/◌, ◌%◌, ◌≤◌, ◌<◌}
 use mathlib.Core.Path.{◌≡◌, refl, sym, ap, ◌∙◌}
 use mathlib.Core.Bool.{Bool, true, false}
-use mathlib.Core.List.{List, [], ◌∷◌, ◌++◌, append_assoc}
+use mathlib.Core.List.{List, [], ◌∷◌, ◌++◌, append_assoc, append-nil}
+use native.Mathlib.Numerals.{add-one}
 use native.Mathlib.Nat.{add-suc, add-zero, suc-add}
 use native.Mathlib.Decide.{dec_le}
 use native.Mathlib.Omega.{arith}
 use borrow.Rule.Slice.PartMut.{put_mid}
 use lib.Dec.{leb}
-use lib.ListN.{length, set, take, drop, length-append}
-use lib.Seq.{sets, sets-eq, take_at, drop-drop, length-take-le}
+use lib.ListN.{length, set, take, drop, get_or, length-append, drop_of_length-le}
+use lib.Seq.{sets, sets-eq, take_at, take-suc, take_all, drop-cons, set_at, drop-drop, length-take-le}
 use Rattle.model.specs.Line.{decimal_in, decimal, field}
 use Rattle.model.proofs.Digits.{one_digit, last_digit}
 use Rattle.notation.specs.Printing.{Printed}
@@ -87,3 +88,13 @@ field_few n = omega (arith, digits_few n)
 -- bytes copied over a part of a list
 pub copied : (out s ys : List ℕ) (at k : ℕ) → ys ≡ s → k ≡ length s → at + length s ≤ length out → put_mid at k out ys ≡ sets out at s
 copied out s ys at k e f h = rw (e, f, drop-drop (length s) at out) (sym (sets-eq s out at h ∙ append_assoc (take at out) s (drop (at + length s) out)))
+
+-- while they are copied: one byte more, and all of them
+pub copied_more : (s part₀ : List ℕ) {part : List ℕ} (i : ℕ) → part ≡ take i s ++ drop i part₀ → i < length s → length part₀ ≡ length s → set part i (get_or s i 0) ≡ take (i + 1) s ++ drop (i + 1) part₀
+copied_more s part₀ i so_far l m =
+    let b : i < length part₀ = omega arith in
+    let put = set_at (take i s) (get_or part₀ i 0) (drop (suc i) part₀) (get_or s i 0) i (length-take-le i s (omega arith)) in
+    rw (so_far, add-one, take-suc s i 0, append_assoc, drop-cons part₀ i 0, put)
+
+pub copied_all : (s part₀ : List ℕ) {part : List ℕ} (i : ℕ) → part ≡ take i s ++ drop i part₀ → length s ≤ i → length part₀ ≡ length s → part ≡ s
+copied_all s part₀ i so_far l m = rw (so_far, take_all i s l, drop_of_length-le part₀ {i = i} (omega arith)) (append-nil s)

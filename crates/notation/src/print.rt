@@ -11,6 +11,16 @@ pub struct Printer<'a> {
     pub at: usize,
 }
 
+// The bytes of s into a part of a list. (One by one: the library's own copy asks the C library for memmove, and takes longer for a few.)
+fn copy(s: &[u8], part: &mut [u8])
+    requires { length part.old ≡ length s.now }
+    ensures { part.new ≡ s.now }
+{
+    for (i, b) in s.iter().enumerate() {
+        part[i] = *b;
+    }
+}
+
 impl<'a> Printer<'a> {
     // One byte.
     pub fn byte(&mut self, b: u8)
@@ -27,7 +37,7 @@ impl<'a> Printer<'a> {
         ensures { Prints self.old s.now self.new }
     {
         let end = self.at + s.len();
-        self.out[self.at..end].copy_from_slice(s);
+        copy(s, &mut self.out[self.at..end]);
         self.at = end;
     }
 

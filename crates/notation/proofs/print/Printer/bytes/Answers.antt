@@ -7,5 +7,5 @@ pub returns : goal.returns
 returns c =
     record {
       lent = refl;
-      printed = record { written = copied _ _ _ _ _ c.copy_from_slice.ensures.after (omega arith) c.requires; next = refl };
+      printed = record { written = copied _ _ _ _ _ c.copy.ensures (omega arith) c.requires; next = refl };
     }
