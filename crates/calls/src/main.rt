@@ -68,9 +68,9 @@ fn answer(input: &[u8], out: &mut Printer) -> Option<()>
 }
 
 fn main() {
+    let mut line = filled::<u8, LINE>(0);
     let mut input = filled::<u8, INPUT>(0);
     let got = io::read_full(STDIN_FILENO, &mut input);
-    let mut line = filled::<u8, LINE>(0);
     let mut out = Printer {
         out: &mut line,
         at: 0,
