@@ -22,22 +22,15 @@ pub fn report_at(counts: &[u64], i: usize) -> Report
     }
 }
 
-// The first n records of a list of numbers, in an array that has room for 1,001: the most trials, and one more.
-fn reports_of(counts: &[u64], n: usize) -> [Report; MOST]
-    requires { Counted n counts.now }
-    ensures { take n result ≡ records counts.now n }
+// The first n records of a list of numbers. (They go into a list that is lent, so that the stack holds one of it.)
+fn read_reports(counts: &[u64], n: usize, reports: &mut [Report])
+    requires counted { Counted n counts.now }
+    requires room { n ≤ length reports.old }
+    ensures { take n reports.new ≡ records counts.now n }
 {
-    let none = Report {
-        decisions: 0,
-        learned: 0,
-        kept: 0,
-        travel: 0,
-    };
-    let mut reports = [none; MOST];
     for i in 0..n {
         reports[i] = report_at(counts, i);
     }
-    reports
 }
 
 // The numbers of one record, in their places.
@@ -76,7 +69,14 @@ pub fn run_counts(
     requires { Counted n counts.old }
     ensures { IsCounted (run job floor.now start trials table.old path.old (records counts.old n)) n counts.old result table.new path.new counts.new }
 {
-    let mut reports = reports_of(counts, n);
+    let none = Report {
+        decisions: 0,
+        learned: 0,
+        kept: 0,
+        travel: 0,
+    };
+    let mut reports = [none; MOST];
+    read_reports(counts, n, &mut reports);
     let answer = crate::run(job, floor, start, trials, table, path, &mut reports[..n]);
     put_all(counts, &reports[..n]);
     answer

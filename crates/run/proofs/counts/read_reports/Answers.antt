@@ -1,7 +1,7 @@
--- `run::counts::reports_of` meets its contract: one record more at each turn, by `Counting.antt`.
+-- `run::counts::read_reports` meets its contract: one record more at each turn, by `Counting.antt`.
 use Rattle.learning.proofs.Words.{refl, sym, arith, length-set}
 use Rattle.run.proofs.Counting.{records_none, read_more}
-use Rattle.run.proofs.counts.reports_of.Goals as goal
+use Rattle.run.proofs.counts.read_reports.Goals as goal
 
 pub loop-i-init : goal.loop-i-init
 loop-i-init c = (refl, sym (records_none _))

@@ -1,7 +1,0 @@
--- `run::counts::reports_of` meets its contract: one record more at each turn, by `Counting.antt`.
-use Rattle.learning.proofs.Words.{◌≡◌, length, take}
-use Rattle.run.specs.Numbers.{records}
-use Rattle.run.proofs.counts.reports_of.Given as goal
-
-abbrev pub invariant-loop-i : goal.invariant-loop-i
-invariant-loop-i l = (length l.reports ≡ 1001) × (take l.i l.reports ≡ records l.counts l.i)
