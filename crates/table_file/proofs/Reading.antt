@@ -6,12 +6,9 @@ use mathlib.Core.List.{List, [], ◌∷◌, ◌++◌}
 use Prim.Native.Nat.{ℕ, zero, suc, ◌+◌, ◌-◌, ◌*◌, ◌/◌, ◌≤◌, ◌<◌}
 use native.Mathlib.Numerals.{add-one}
 use native.Mathlib.Omega.{arith}
-use lib.Dec.{eqb}
-use lib.ListN.{length, get_or, take, drop, set, length-append, drop_of_length-le}
-use lib.Seq.{drop-cons, drop_at}
+use lib.ListN.{length, get_or, take, drop, set, length-append}
+use lib.Seq.{drop_at}
 use Rattle.std.proofs.lemmas.List.{get_or_append_left}
-use Rattle.std.specs.Cmp.Lexicographic.{pointwise}
-use Rattle.std.proofs.Math.Bool.{and-true, and_assoc}
 use Rattle.answers.specs.declared.Goals.{Goals}
 use Rattle.answers.specs.declared.Place.TheVariants as P
 use Rattle.answers.specs.Outcomes.{Verdict}
@@ -19,11 +16,10 @@ use Rattle.answers.specs.declared.Refusal.{Refusal}
 use Rattle.std.specs.Prelude.{Ok, Err}
 use Rattle.model.specs.Basics.{refuse_at}
 use Rattle.model.specs.Floor.{Floor, size, goals_of, opening_table}
-use Rattle.model.specs.TableFile.{half_at, second_long, is_letters, edition_in, count_in, back_in, trailer_holds, check_trailer, find_records, goal_place}
+use Rattle.model.specs.TableFile.{half_at, second_long, edition_in, count_in, back_in, trailer_holds, check_trailer, find_records, goal_place}
 use Rattle.model.specs.TableFile.{scale_in, cell_in, figure_in, named, same_job, record_fault, judge_records, applied, read_verdict, read_table}
 use Rattle.model.specs.Opening.{open_table}
 use Rattle.model.proofs.Accepted.{Judges, unless_judges, and_tells, is_tells, eq_tells}
-use Rattle.model.proofs.Parts.{rest}
 use Rattle.model.proofs.Files.{openable, read-gives, judge_more, judge-stop, trailer_tells, trailer_judges, Pointed, pointed, found, found-long}
 use Rattle.table_file.specs.Promises.{Opened, Reads}
 
@@ -33,15 +29,6 @@ pub opened : (f : Floor) (q : ℕ) (g : Goals) (n : ℕ) → open_table f q g n 
 opened f q g n e = let o = openable f q g n e in (record { sized = o.sized; scale = o.scale; benches = o.benches }, o.cells)
 
 -- ---- the trailer, and the records that it points to
-
--- the letters at its end
-pub letters_is : (t : List ℕ) → length t ≡ 12 → pointwise eqb (take (length t - 8) (drop 8 t)) (80 ∷ 68 ∷ 76 ∷ 84 ∷ []) ≡ is_letters t
-letters_is t n =
-    let h₀ : 8 < length t = omega arith in
-    let h₁ : 9 < length t = omega arith in
-    let h₂ : 10 < length t = omega arith in
-    let h₃ : 11 < length t = omega arith in
-    rw (rest 8 t, drop-cons t 8 0 h₀, drop-cons t 9 0 h₁, drop-cons t 10 0 h₂, drop-cons t 11 0 h₃, drop_of_length-le t {i = 12} (omega arith), and-true) (simp and_assoc)
 
 module _ (file : List ℕ) where
   -- what a sound one gives, and that 13 asks for it

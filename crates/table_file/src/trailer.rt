@@ -37,11 +37,12 @@ fn ending_of(file: &[u8]) -> &[u8]
     trailer_of(file, ENDING)
 }
 
+// (Byte by byte: a comparison of slices is a call, twice in each check.)
 fn is_letters(ending: &[u8]) -> bool
     requires { length ending.now ≡ 12 }
     ensures { result ≡ is_letters ending.now }
 {
-    &ending[8..] == LETTERS
+    ending[8] == b'P' && ending[9] == b'D' && ending[10] == b'L' && ending[11] == b'T'
 }
 
 // The trailer's q, its edition, how many records it counts, and how far back it points.
