@@ -1,4 +1,6 @@
 // Calls 1 and 10: opening a job, and its table of opening figures; and what a call tells of its job, or of the site of a table.
+// What reads a part of it says that a reader within its input stays within; a call reads to the end, and drops its reader.
+ghost use Rattle.std.specs.Prelude.{◌≤◌, length};
 ghost use Rattle.notation.specs.Prints.{HasRoom};
 ghost use Rattle.calls.specs.Printing.{Answers};
 
@@ -10,14 +12,18 @@ use notation::print::Printer;
 use numbers::Reader;
 
 // Width height.
-pub fn sizes_told(reader: &mut Reader) -> Option<Sizes> {
+pub fn sizes_told(reader: &mut Reader) -> Option<Sizes>
+    ensures within { reader.old.at ≤ length reader.old.input.now → reader.new.at ≤ length reader.new.input.now }
+{
     let width = reader.length()?;
     let height = reader.length()?;
     Some(Sizes { width, height })
 }
 
 // Goals: eight can be told, twice as many as a job may name; the first four are kept.
-fn goals_told(reader: &mut Reader) -> Option<Goals> {
+fn goals_told(reader: &mut Reader) -> Option<Goals>
+    ensures within { reader.old.at ≤ length reader.old.input.now → reader.new.at ≤ length reader.new.input.now }
+{
     let mut told = [0usize; 8];
     let count = reader.list(&mut told)?;
     let [first, second, third, fourth, ..] = told;
@@ -31,7 +37,9 @@ fn goals_told(reader: &mut Reader) -> Option<Goals> {
 }
 
 // The rest of a job, after its sizes and where it stands: goals, depth p q quota.
-pub fn job_told(reader: &mut Reader, sizes: Sizes) -> Option<Job> {
+pub fn job_told(reader: &mut Reader, sizes: Sizes) -> Option<Job>
+    ensures within { reader.old.at ≤ length reader.old.input.now → reader.new.at ≤ length reader.new.input.now }
+{
     let goals = goals_told(reader)?;
     let depth = reader.length()?;
     let p = reader.length()?;
@@ -78,7 +86,9 @@ pub struct Site {
 }
 
 // Width height, goals, q.
-pub fn site_told(reader: &mut Reader) -> Option<Site> {
+pub fn site_told(reader: &mut Reader) -> Option<Site>
+    ensures within { reader.old.at ≤ length reader.old.input.now → reader.new.at ≤ length reader.new.input.now }
+{
     let Sizes { width, height } = sizes_told(reader)?;
     let goals = goals_told(reader)?;
     let q = reader.length()?;

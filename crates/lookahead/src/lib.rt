@@ -45,6 +45,8 @@ const LAST_BASE: u32 = 4294967295 - STRIDE;
 
 // What a lookahead is lent, for whoever owns all of it; the functions take the lists apart. A cell's mark and its fine cost stand under its number; the list has
 // two places for each cell of the window: at i the cell, and at i + 4096 the cost at which its moves were followed last, 65535 before they were.
+// (Laid out as in C, so that an export may be lent one.)
+#[repr(C)]
 #[derive(Drop)]
 pub struct Scratch {
     pub mark: [u32; 4096],

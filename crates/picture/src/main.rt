@@ -5,6 +5,8 @@
 
 #![tactic(auto)]
 
+ghost use Rattle.std.specs.Prelude.{◌≤◌};
+
 mod figures;
 mod ground;
 mod legend;
@@ -27,7 +29,9 @@ use sheet::Sheet;
 const STDIN_FILENO: i32 = 0;
 
 // The line of a refusal.
-fn refuse(page: &mut Page, r: Refusal) {
+fn refuse(page: &mut Page, r: Refusal)
+    ensures { page.new.at ≤ 65536 }
+{
     let mut line = [0; 64];
     let mut out = Printer {
         out: &mut line,
@@ -57,7 +61,9 @@ fn draw_run(
     opening: &[u32],
     table: &mut [u32],
     path: &mut [u16],
-) {
+)
+    ensures { page.new.at ≤ 65536 }
+{
     let s = Sheet::of(task.job.width, task.job.height, task.floor);
     s.begin(page);
     ways::define(page, &s, task, o.last.decisions, table, path);
@@ -73,8 +79,10 @@ fn draw_run(
     page.words(b"</svg>\n");
 }
 
-// All that is drawn of an input; or its refusal, and then nothing is drawn.
-fn draw(page: &mut Page, input: &[u8]) -> Result<(), Refusal> {
+// All that is drawn of an input; or its refusal, and then nothing is drawn. A place on the page stays on it, so `finish` passes nothing over.
+fn draw(page: &mut Page, input: &[u8]) -> Result<(), Refusal>
+    ensures { page.old.at ≤ 65536 → page.new.at ≤ 65536 }
+{
     let asked = line::read_line(input).ok_or(Refusal::numbered(3))?;
     let settings = asked.settings;
     opening::settings_hold(settings)?;
