@@ -1,6 +1,7 @@
 // Call 2: one decision.
 ghost use Rattle.notation.specs.Prints.{HasRoom};
 ghost use Rattle.calls.specs.Printing.{Answers};
+ghost use Rattle.calls.specs.Reading.{Stays};
 
 use crate::rooms::{CELLS, LONGEST, MOVES};
 use crate::{jobs, show};
@@ -13,7 +14,8 @@ use numbers::Reader;
 // Prints kind, refusal, target, rise, number of moves, current, u, length, then table, path and moves.
 pub fn decide(reader: &mut Reader, out: &mut Printer) -> Option<()>
     requires { HasRoom out.old LONGEST }
-    ensures { Answers result out.old out.new }
+    ensures answers { Answers result out.old out.new }
+    ensures within { Stays reader.old reader.new }
 {
     let mut floor = filled::<u8, CELLS>(0);
     let mut table = filled::<u32, CELLS>(0);

@@ -1,6 +1,7 @@
 // Calls 6 to 9: the table file, written, read and looked into.
 ghost use Rattle.notation.specs.Prints.{HasRoom};
 ghost use Rattle.calls.specs.Printing.{Answers};
+ghost use Rattle.calls.specs.Reading.{Stays};
 
 use crate::rooms::{BYTES, CELLS, LONGEST};
 use crate::{jobs, show};
@@ -11,7 +12,8 @@ use numbers::Reader;
 // Call 6: width height, goals, q, floor, table, buffer. Prints the refusal, the length, then the buffer.
 pub fn write_table(reader: &mut Reader, out: &mut Printer) -> Option<()>
     requires { HasRoom out.old LONGEST }
-    ensures { Answers result out.old out.new }
+    ensures answers { Answers result out.old out.new }
+    ensures within { Stays reader.old reader.new }
 {
     let mut floor = filled::<u8, CELLS>(0);
     let mut table = filled::<u32, CELLS>(0);
@@ -40,7 +42,8 @@ pub fn write_table(reader: &mut Reader, out: &mut Printer) -> Option<()>
 // Call 7: width height, goals, q, floor, file, table. Prints the refusal, then the table.
 pub fn read_table(reader: &mut Reader, out: &mut Printer) -> Option<()>
     requires { HasRoom out.old LONGEST }
-    ensures { Answers result out.old out.new }
+    ensures answers { Answers result out.old out.new }
+    ensures within { Stays reader.old reader.new }
 {
     let mut floor = filled::<u8, CELLS>(0);
     let mut file = filled::<u8, BYTES>(0);
@@ -70,7 +73,8 @@ pub fn read_table(reader: &mut Reader, out: &mut Printer) -> Option<()>
 // Call 8: file. Prints the records' part of it.
 pub fn find_records(reader: &mut Reader, out: &mut Printer) -> Option<()>
     requires { HasRoom out.old LONGEST }
-    ensures { Answers result out.old out.new }
+    ensures answers { Answers result out.old out.new }
+    ensures within { Stays reader.old reader.new }
 {
     let mut file = filled::<u8, BYTES>(0);
     let bytes = reader.list(&mut file)?;
@@ -85,7 +89,8 @@ pub fn find_records(reader: &mut Reader, out: &mut Printer) -> Option<()>
 // Call 9: file. Prints the refusal.
 pub fn check_trailer(reader: &mut Reader, out: &mut Printer) -> Option<()>
     requires { HasRoom out.old LONGEST }
-    ensures { Answers result out.old out.new }
+    ensures answers { Answers result out.old out.new }
+    ensures within { Stays reader.old reader.new }
 {
     let mut file = filled::<u8, BYTES>(0);
     let bytes = reader.list(&mut file)?;

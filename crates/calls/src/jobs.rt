@@ -1,8 +1,7 @@
 // Calls 1 and 10: opening a job, and its table of opening figures; and what a call tells of its job, or of the site of a table.
-// What reads a part of it says that a reader within its input stays within; a call reads to the end, and drops its reader.
-ghost use Rattle.std.specs.Prelude.{◌≤◌, length};
 ghost use Rattle.notation.specs.Prints.{HasRoom};
 ghost use Rattle.calls.specs.Printing.{Answers};
+ghost use Rattle.calls.specs.Reading.{Stays};
 
 use crate::rooms::{CELLS, LONGEST};
 use crate::show;
@@ -13,7 +12,7 @@ use numbers::Reader;
 
 // Width height.
 pub fn sizes_told(reader: &mut Reader) -> Option<Sizes>
-    ensures within { reader.old.at ≤ length reader.old.input.now → reader.new.at ≤ length reader.new.input.now }
+    ensures within { Stays reader.old reader.new }
 {
     let width = reader.length()?;
     let height = reader.length()?;
@@ -22,7 +21,7 @@ pub fn sizes_told(reader: &mut Reader) -> Option<Sizes>
 
 // Goals: eight can be told, twice as many as a job may name; the first four are kept.
 fn goals_told(reader: &mut Reader) -> Option<Goals>
-    ensures within { reader.old.at ≤ length reader.old.input.now → reader.new.at ≤ length reader.new.input.now }
+    ensures within { Stays reader.old reader.new }
 {
     let mut told = [0usize; 8];
     let count = reader.list(&mut told)?;
@@ -38,7 +37,7 @@ fn goals_told(reader: &mut Reader) -> Option<Goals>
 
 // The rest of a job, after its sizes and where it stands: goals, depth p q quota.
 pub fn job_told(reader: &mut Reader, sizes: Sizes) -> Option<Job>
-    ensures within { reader.old.at ≤ length reader.old.input.now → reader.new.at ≤ length reader.new.input.now }
+    ensures within { Stays reader.old reader.new }
 {
     let goals = goals_told(reader)?;
     let depth = reader.length()?;
@@ -59,7 +58,8 @@ pub fn job_told(reader: &mut Reader, sizes: Sizes) -> Option<Job>
 // Call 1: width height start, goals, depth p q quota, floor, table. Prints the refusal.
 pub fn open(reader: &mut Reader, out: &mut Printer) -> Option<()>
     requires { HasRoom out.old LONGEST }
-    ensures { Answers result out.old out.new }
+    ensures answers { Answers result out.old out.new }
+    ensures within { Stays reader.old reader.new }
 {
     let mut floor = filled::<u8, CELLS>(0);
     let mut table = filled::<u32, CELLS>(0);
@@ -87,7 +87,7 @@ pub struct Site {
 
 // Width height, goals, q.
 pub fn site_told(reader: &mut Reader) -> Option<Site>
-    ensures within { reader.old.at ≤ length reader.old.input.now → reader.new.at ≤ length reader.new.input.now }
+    ensures within { Stays reader.old reader.new }
 {
     let Sizes { width, height } = sizes_told(reader)?;
     let goals = goals_told(reader)?;
@@ -103,7 +103,8 @@ pub fn site_told(reader: &mut Reader) -> Option<Site>
 // Call 10: width height, goals, q, floor, table. Prints the refusal, then the table.
 pub fn fill_opening(reader: &mut Reader, out: &mut Printer) -> Option<()>
     requires { HasRoom out.old LONGEST }
-    ensures { Answers result out.old out.new }
+    ensures answers { Answers result out.old out.new }
+    ensures within { Stays reader.old reader.new }
 {
     let mut floor = filled::<u8, CELLS>(0);
     let mut table = filled::<u32, CELLS>(0);

@@ -1,6 +1,7 @@
 // Calls 12 and 16: bytes written anew into a buffer, a table file renewed or a line with its depth.
 ghost use Rattle.notation.specs.Prints.{HasRoom};
 ghost use Rattle.calls.specs.Printing.{Answers};
+ghost use Rattle.calls.specs.Reading.{Stays};
 
 use crate::rooms::{BYTES, LONGEST};
 use crate::show;
@@ -17,7 +18,8 @@ pub fn rewrite<F: Fn(&[u8], &mut [u8]) -> Result<usize, Refusal>>(
 ) -> Option<()>
     requires callable { F.IsAlwaysCallable call }
     requires room { HasRoom out.old LONGEST }
-    ensures { Answers result out.old out.new }
+    ensures answers { Answers result out.old out.new }
+    ensures within { Stays reader.old reader.new }
 {
     let mut old = filled::<u8, BYTES>(0);
     let mut buffer = filled::<u8, BYTES>(0);

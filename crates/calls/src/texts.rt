@@ -1,6 +1,7 @@
 // Calls 5 and 11: floor text, read and written.
 ghost use Rattle.notation.specs.Prints.{HasRoom};
 ghost use Rattle.calls.specs.Printing.{Answers};
+ghost use Rattle.calls.specs.Reading.{Stays};
 
 use crate::rooms::{BYTES, CELLS, LONGEST};
 use crate::{jobs, show};
@@ -11,7 +12,8 @@ use numbers::Reader;
 // Call 5: text, buffer. Prints the refusal, width, height, then the buffer.
 pub fn read_floor(reader: &mut Reader, out: &mut Printer) -> Option<()>
     requires { HasRoom out.old LONGEST }
-    ensures { Answers result out.old out.new }
+    ensures answers { Answers result out.old out.new }
+    ensures within { Stays reader.old reader.new }
 {
     let mut text = filled::<u8, BYTES>(0);
     let mut buffer = filled::<u8, BYTES>(0);
@@ -30,7 +32,8 @@ pub fn read_floor(reader: &mut Reader, out: &mut Printer) -> Option<()>
 // Call 11: width height, floor, buffer. Prints the refusal, the length, then the buffer.
 pub fn write_floor(reader: &mut Reader, out: &mut Printer) -> Option<()>
     requires { HasRoom out.old LONGEST }
-    ensures { Answers result out.old out.new }
+    ensures answers { Answers result out.old out.new }
+    ensures within { Stays reader.old reader.new }
 {
     let mut floor = filled::<u8, CELLS>(0);
     let mut buffer = filled::<u8, BYTES>(0);

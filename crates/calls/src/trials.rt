@@ -1,6 +1,7 @@
 // Call 3: a trial.
 ghost use Rattle.notation.specs.Prints.{HasRoom};
 ghost use Rattle.calls.specs.Printing.{Answers};
+ghost use Rattle.calls.specs.Reading.{Stays};
 
 use crate::rooms::{CELLS, LONGEST};
 use crate::{jobs, show};
@@ -12,7 +13,8 @@ use numbers::Reader;
 // Prints the refusal, decisions, learned, kept, travel, then table and path.
 pub fn trial(reader: &mut Reader, out: &mut Printer) -> Option<()>
     requires { HasRoom out.old LONGEST }
-    ensures { Answers result out.old out.new }
+    ensures answers { Answers result out.old out.new }
+    ensures within { Stays reader.old reader.new }
 {
     let mut floor = filled::<u8, CELLS>(0);
     let mut table = filled::<u32, CELLS>(0);

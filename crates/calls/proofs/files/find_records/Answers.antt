@@ -7,5 +7,5 @@ use Rattle.calls.proofs.files.find_records.Goals as goal
 pub list-requires-2 : goal.list-requires-2
 list-requires-2 c = let h = part_short _ _ c.find_records-part.ensures.part in grind (arith, common_steps)
 
-pub returns : goal.returns
-returns c = let h = part_short _ _ c.find_records-part.ensures.part in grind (arith, common_steps)
+pub returns-clause-answers : goal.returns-clause-answers
+returns-clause-answers c = let h = part_short _ _ c.find_records-part.ensures.part in grind (arith, common_steps)
