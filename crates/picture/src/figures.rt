@@ -1,10 +1,14 @@
 // The figures themselves, on floors of at most five cells each way: each stands between the ways that may lead north and north-east.
+ghost use Rattle.picture.specs.Pages.{Stays};
+
 use crate::shades::Learned;
 use crate::sheet::Sheet;
 use drawing::Page;
 
 // A colour that can be read on a shade.
-fn ink(page: &mut Page, shade: u8) {
+fn ink(page: &mut Page, shade: u8)
+    ensures on_page { Stays page.old page.new }
+{
     if 4 < shade {
         page.words(b"<g fill='#ffffff'>");
     } else {
@@ -13,7 +17,9 @@ fn ink(page: &mut Page, shade: u8) {
 }
 
 // The figure of a cell on its shade.
-fn draw_figure(page: &mut Page, s: &Sheet, x: usize, shade: u8, figure: u32) {
+fn draw_figure(page: &mut Page, s: &Sheet, x: usize, shade: u8, figure: u32)
+    ensures on_page { Stays page.old page.new }
+{
     ink(page, shade);
     page.caption_from(s.reach(x % s.columns) + 80, s.reach(x / s.columns) + 67);
     page.number(figure as usize);
@@ -22,7 +28,9 @@ fn draw_figure(page: &mut Page, s: &Sheet, x: usize, shade: u8, figure: u32) {
 }
 
 // The figures of all free cells: a blocked one's never changes.
-pub(crate) fn draw(page: &mut Page, s: &Sheet, learned: &Learned) {
+pub(crate) fn draw(page: &mut Page, s: &Sheet, learned: &Learned)
+    ensures on_page { Stays page.old page.new }
+{
     if s.cell < 96 {
         return;
     }

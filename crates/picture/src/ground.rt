@@ -1,5 +1,6 @@
 // The floor's cells: of each shade one path, in which cells side by side are one oblong; slow cells hatched; and thin lines between the cells.
 ghost use Rattle.std.specs.Prelude.{◌≤◌, ◌<◌, length};
+ghost use Rattle.picture.specs.Pages.{Stays};
 
 use crate::shades::{self, Learned};
 use crate::sheet::{self, Sheet};
@@ -20,7 +21,9 @@ fn stretch_end(s: &Sheet, kinds: &[u8], x: usize) -> usize
 }
 
 // The oblong of n cells from x on.
-fn oblong(page: &mut Page, s: &Sheet, x: usize, n: usize) {
+fn oblong(page: &mut Page, s: &Sheet, x: usize, n: usize)
+    ensures on_page { Stays page.old page.new }
+{
     page.said(b"M", x % s.columns);
     page.said(b" ", x / s.columns);
     page.said(b"h", n);
@@ -29,7 +32,9 @@ fn oblong(page: &mut Page, s: &Sheet, x: usize, n: usize) {
 }
 
 // The oblongs of the cells of one kind: a shade, or a byte of the floor.
-fn oblongs(page: &mut Page, s: &Sheet, kinds: &[u8], which: u8) {
+fn oblongs(page: &mut Page, s: &Sheet, kinds: &[u8], which: u8)
+    ensures on_page { Stays page.old page.new }
+{
     let mut x = 0;
     // Each stretch of cells says where the next one begins.
     while x < kinds.len() {
@@ -42,7 +47,9 @@ fn oblongs(page: &mut Page, s: &Sheet, kinds: &[u8], which: u8) {
 }
 
 // The cells of one shade.
-fn of_shade(page: &mut Page, s: &Sheet, shades: &[u8], which: u8) {
+fn of_shade(page: &mut Page, s: &Sheet, shades: &[u8], which: u8)
+    ensures on_page { Stays page.old page.new }
+{
     page.words(b"<path fill='");
     shades::colour(page, usize::from(which));
     page.words(b"' d='");
@@ -51,7 +58,9 @@ fn of_shade(page: &mut Page, s: &Sheet, shades: &[u8], which: u8) {
 }
 
 // Each cell in its shade; 0 is the sheet's own.
-fn shaded(page: &mut Page, s: &Sheet, learned: &Learned) {
+fn shaded(page: &mut Page, s: &Sheet, learned: &Learned)
+    ensures on_page { Stays page.old page.new }
+{
     let n = sheet::cells(s.columns, s.rows);
     let mut room: [u8; 4096] = lists::filled(0);
     let shades = &mut room[..n];
@@ -65,7 +74,9 @@ fn shaded(page: &mut Page, s: &Sheet, learned: &Learned) {
 
 // Slow cells hatched over their shades, where there are any: each dark line has a white one beside it, so that one of the two is seen on any
 // shade. The lines are 8 points apart, in the legend and on the floor, whose unit is a cell.
-fn hatched(page: &mut Page, s: &Sheet, floor: &[u8]) {
+fn hatched(page: &mut Page, s: &Sheet, floor: &[u8])
+    ensures on_page { Stays page.old page.new }
+{
     if !s.slow {
         return;
     }
@@ -80,7 +91,9 @@ fn hatched(page: &mut Page, s: &Sheet, floor: &[u8]) {
 }
 
 // Thin lines at the left and upper edge of each cell.
-fn grid(page: &mut Page, s: &Sheet) {
+fn grid(page: &mut Page, s: &Sheet)
+    ensures on_page { Stays page.old page.new }
+{
     page.words(
         b"<pattern id='grid' width='1' height='1' patternUnits='userSpaceOnUse'><path d='M1 0H0V1' fill='none' stroke='#000000' stroke-opacity='0.25' stroke-width='",
     );
@@ -90,7 +103,9 @@ fn grid(page: &mut Page, s: &Sheet) {
 }
 
 // A frame around the floor.
-fn frame(page: &mut Page, s: &Sheet) {
+fn frame(page: &mut Page, s: &Sheet)
+    ensures on_page { Stays page.old page.new }
+{
     page.words(b"<g fill='none' stroke='#000000' stroke-width='");
     s.points(page, 2);
     page.words(b"'>\n");
@@ -99,7 +114,9 @@ fn frame(page: &mut Page, s: &Sheet) {
 }
 
 // The floor, each cell in the shade of what was learned of it, slow ones hatched.
-pub(crate) fn draw(page: &mut Page, s: &Sheet, learned: &Learned) {
+pub(crate) fn draw(page: &mut Page, s: &Sheet, learned: &Learned)
+    ensures on_page { Stays page.old page.new }
+{
     shaded(page, s, learned);
     hatched(page, s, learned.floor);
     grid(page, s);

@@ -1,5 +1,6 @@
 // The legend: what each mark, line and shade stands for.
 ghost use Rattle.std.specs.Prelude.{◌≤◌, length};
+ghost use Rattle.picture.specs.Pages.{Stays};
 
 use crate::marks::{self, Spot};
 use crate::shades::{self, Scale};
@@ -18,6 +19,7 @@ impl Legend {
     // The front of a row's words.
     fn caption_from(&self, page: &mut Page, row: usize)
         requires { row ≤ 13 }
+        ensures on_page { Stays page.old page.new }
     {
         page.caption_from(self.x + 38, sheet::legend_y(row) + 5);
     }
@@ -26,6 +28,7 @@ impl Legend {
     fn caption(&self, page: &mut Page, row: usize, s: &[u8])
         requires row { row ≤ 13 }
         requires short { length s.now ≤ 512 }
+        ensures on_page { Stays page.old page.new }
     {
         self.caption_from(page, row);
         page.words(s);
@@ -36,6 +39,7 @@ impl Legend {
     fn said(&self, page: &mut Page, row: usize, s: &[u8], n: usize)
         requires row { row ≤ 13 }
         requires short { length s.now ≤ 512 }
+        ensures on_page { Stays page.old page.new }
     {
         self.caption_from(page, row);
         page.said(s, n);
@@ -57,6 +61,7 @@ impl Legend {
     fn line(&self, page: &mut Page, row: usize, style: &[u8])
         requires row { row ≤ 13 }
         requires short { length style.now ≤ 512 }
+        ensures on_page { Stays page.old page.new }
     {
         page.level(self.x, self.x + 28, sheet::legend_y(row), style);
     }
@@ -65,12 +70,15 @@ impl Legend {
     fn box_of(&self, page: &mut Page, row: usize, style: &[u8])
         requires row { row ≤ 13 }
         requires short { length style.now ≤ 512 }
+        ensures on_page { Stays page.old page.new }
     {
         page.rectangle(self.x, sheet::legend_y(row) - 8, 28, 16, style);
     }
 
     // Start and bench, with the cells' numbers.
-    fn places(&self, page: &mut Page, start: usize, goal: usize) {
+    fn places(&self, page: &mut Page, start: usize, goal: usize)
+        ensures on_page { Stays page.old page.new }
+    {
         marks::circle(page, self.spot(0));
         self.said(page, 0, b"start, cell ", start);
         marks::square(page, self.spot(1), b"B");
@@ -78,7 +86,9 @@ impl Legend {
     }
 
     // The two ways, as wide as they are drawn.
-    fn ways(&self, page: &mut Page) {
+    fn ways(&self, page: &mut Page)
+        ensures on_page { Stays page.old page.new }
+    {
         self.line(page, 2, b" stroke='#000000' stroke-width='6'");
         self.caption(page, 2, b"kept way");
         self.line(
@@ -92,6 +102,7 @@ impl Legend {
     // A box of a shade.
     fn sample(&self, page: &mut Page, row: usize, shade: usize)
         requires { row ≤ 13 }
+        ensures on_page { Stays page.old page.new }
     {
         page.words(b"<g stroke='#000000' stroke-opacity='0.5' fill='");
         shades::colour(page, shade);
@@ -101,7 +112,9 @@ impl Legend {
     }
 
     // Slow cells.
-    fn slow(&self, page: &mut Page) {
+    fn slow(&self, page: &mut Page)
+        ensures on_page { Stays page.old page.new }
+    {
         self.sample(page, 5, 0);
         self.box_of(page, 5, b" fill='url(#hatch)'");
         self.caption(page, 5, b"slow, moves cost double");
@@ -110,6 +123,7 @@ impl Legend {
     // What the shades measure; figures count in units of 1/q.
     fn heading(&self, page: &mut Page, row: usize, q: usize)
         requires { row ≤ 6 }
+        ensures on_page { Stays page.old page.new }
     {
         page.caption_from(self.x, sheet::legend_y(row) + 5);
         page.words(b"Learned above the opening");
@@ -122,6 +136,7 @@ impl Legend {
     // The rises of a step, so many rows below a row.
     fn range(&self, page: &mut Page, row: usize, scale: Scale, step: usize)
         requires { (row ≤ 7) × (1 ≤ step) × (step ≤ 6) }
+        ensures on_page { Stays page.old page.new }
     {
         let first = scale.bound(step - 1) + 1;
         let last = scale.bound(step);
@@ -137,6 +152,7 @@ impl Legend {
     // The shades with their ranges, from a row on.
     fn learned(&self, page: &mut Page, row: usize, q: usize, scale: Scale)
         requires { row ≤ 6 }
+        ensures on_page { Stays page.old page.new }
     {
         self.heading(page, row, q);
         self.sample(page, row + 1, 0);
@@ -148,7 +164,9 @@ impl Legend {
 }
 
 // Marks, ways, blocked and slow cells, and the shades.
-pub(crate) fn draw(page: &mut Page, s: &Sheet, job: Job, start: usize, scale: Scale) {
+pub(crate) fn draw(page: &mut Page, s: &Sheet, job: Job, start: usize, scale: Scale)
+    ensures on_page { Stays page.old page.new }
+{
     let legend = Legend { x: s.legend_x() };
     legend.places(page, start, job.goals.first);
     legend.ways(page);

@@ -6,6 +6,7 @@
 #![tactic(auto)]
 
 ghost use Rattle.std.specs.Prelude.{◌≤◌};
+ghost use Rattle.picture.specs.Pages.{Stays};
 
 mod figures;
 mod ground;
@@ -43,7 +44,9 @@ fn refuse(page: &mut Page, r: Refusal)
 }
 
 // The floor with what was learned and the ways, and all that explains it.
-fn explain(page: &mut Page, s: &Sheet, task: &Task, learned: &Learned) {
+fn explain(page: &mut Page, s: &Sheet, task: &Task, learned: &Learned)
+    ensures on_page { Stays page.old page.new }
+{
     s.on_floor(page);
     ground::draw(page, s, learned);
     ways::draw(page, s);
@@ -81,7 +84,7 @@ fn draw_run(
 
 // All that is drawn of an input; or its refusal, and then nothing is drawn. A place on the page stays on it, so `finish` passes nothing over.
 fn draw(page: &mut Page, input: &[u8]) -> Result<(), Refusal>
-    ensures { page.old.at ≤ 65536 → page.new.at ≤ 65536 }
+    ensures on_page { Stays page.old page.new }
 {
     let asked = line::read_line(input).ok_or(Refusal::numbered(3))?;
     let settings = asked.settings;

@@ -1,5 +1,6 @@
 // The marks of the start and the bench: a circle with an S, a square with a B, large enough to be read on any floor.
 ghost use Rattle.std.specs.Prelude.{◌≤◌, length};
+ghost use Rattle.picture.specs.Pages.{Stays};
 
 use crate::sheet::Sheet;
 use drawing::Page;
@@ -16,6 +17,7 @@ pub struct Spot {
 // Letters in the middle of a mark.
 fn letters(page: &mut Page, at: Spot, s: &[u8])
     requires { length s.now ≤ 512 }
+    ensures on_page { Stays page.old page.new }
 {
     let size = at.half + 4;
     page.words(b"<g font-weight='bold' text-anchor='middle'");
@@ -26,7 +28,9 @@ fn letters(page: &mut Page, at: Spot, s: &[u8])
 }
 
 // The start's mark around a place.
-pub(crate) fn circle(page: &mut Page, at: Spot) {
+pub(crate) fn circle(page: &mut Page, at: Spot)
+    ensures on_page { Stays page.old page.new }
+{
     page.circle(
         at.x,
         at.y,
@@ -39,6 +43,7 @@ pub(crate) fn circle(page: &mut Page, at: Spot) {
 // The bench's mark around a place, with its letters.
 pub(crate) fn square(page: &mut Page, at: Spot, s: &[u8])
     requires { length s.now ≤ 512 }
+    ensures on_page { Stays page.old page.new }
 {
     page.rectangle(
         at.x - at.half,
@@ -64,7 +69,9 @@ fn spot_of(s: &Sheet, cell: usize) -> Spot
 }
 
 // Both marks: a start that is the bench has the two letters in one square.
-pub(crate) fn draw(page: &mut Page, s: &Sheet, start: usize, goal: usize) {
+pub(crate) fn draw(page: &mut Page, s: &Sheet, start: usize, goal: usize)
+    ensures on_page { Stays page.old page.new }
+{
     if start == goal {
         square(page, spot_of(s, goal), b"SB");
     } else {

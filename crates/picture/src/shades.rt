@@ -2,6 +2,7 @@
 //
 // 0 is a free cell whose figure is as it was, 1 to 6 are the steps, light to dark, and 7 is a blocked cell.
 ghost use Rattle.std.specs.Prelude.{◌≤◌, ◌<◌};
+ghost use Rattle.picture.specs.Pages.{Stays};
 
 use drawing::Page;
 
@@ -100,7 +101,9 @@ impl<'a> Learned<'a> {
 }
 
 // The colour of a shade: light yellow to dark blue, which tell apart by lightness alone.
-pub(crate) fn colour(page: &mut Page, shade: usize) {
+pub(crate) fn colour(page: &mut Page, shade: usize)
+    ensures on_page { Stays page.old page.new }
+{
     match shade {
         0 => page.words(b"#ffffff"),
         1 => page.words(b"#ffffbf"),

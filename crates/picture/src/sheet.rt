@@ -1,5 +1,6 @@
 // The sheet that a floor is drawn on: how large its cells are, and where on it things stand, in points from its upper left corner.
 ghost use Rattle.std.specs.Prelude.{◌≤◌};
+ghost use Rattle.picture.specs.Pages.{Stays};
 
 use drawing::Page;
 
@@ -85,6 +86,7 @@ impl Sheet {
     // So many points as a share of a cell's side, in thousandths: less than the whole, since no cell has fewer than 10.
     pub(crate) fn points(&self, page: &mut Page, n: usize)
         requires { n ≤ 9 }
+        ensures on_page { Stays page.old page.new }
     {
         let share = n * 1000 / self.cell;
         if share < 100 {
@@ -95,7 +97,9 @@ impl Sheet {
     }
 
     // The drawing's first lines: a white sheet.
-    pub(crate) fn begin(&self, page: &mut Page) {
+    pub(crate) fn begin(&self, page: &mut Page)
+        ensures on_page { Stays page.old page.new }
+    {
         page.words(
             b"<svg xmlns='http://www.w3.org/2000/svg' xmlns:xlink='http://www.w3.org/1999/xlink' version='1.1'",
         );
@@ -111,12 +115,16 @@ impl Sheet {
     }
 
     // What follows is told in cells: the floor's upper left corner is 0 0, and a cell's side is 1.
-    pub(crate) fn on_floor(&self, page: &mut Page) {
+    pub(crate) fn on_floor(&self, page: &mut Page)
+        ensures on_page { Stays page.old page.new }
+    {
         page.said(b"<g transform='translate(20 50) scale(", self.cell);
         page.words(b")'>\n");
     }
 
-    pub(crate) fn off_floor(&self, page: &mut Page) {
+    pub(crate) fn off_floor(&self, page: &mut Page)
+        ensures on_page { Stays page.old page.new }
+    {
         page.words(b"</g>\n");
     }
 }

@@ -1,11 +1,15 @@
 // What stands in words: above the floor the job, below it the counts of the first and of the last trial.
+ghost use Rattle.picture.specs.Pages.{Stays};
+
 use crate::runs::{Outcome, Task};
 use crate::sheet::Sheet;
 use drawing::Page;
 use learner::Report;
 
 // The job, above the floor.
-pub(crate) fn above(page: &mut Page, task: &Task) {
+pub(crate) fn above(page: &mut Page, task: &Task)
+    ensures on_page { Stays page.old page.new }
+{
     let job = task.job;
     page.words(b"<g font-size='15'>\n");
     page.caption_from(20, 32);
@@ -21,7 +25,9 @@ pub(crate) fn above(page: &mut Page, task: &Task) {
 }
 
 // The counts of a trial, the end of their line.
-fn counts(page: &mut Page, r: Report) {
+fn counts(page: &mut Page, r: Report)
+    ensures on_page { Stays page.old page.new }
+{
     page.said(b": decisions ", r.decisions as usize);
     page.said(b", learned ", r.learned as usize);
     page.said(b", kept ", r.kept as usize);
@@ -30,7 +36,9 @@ fn counts(page: &mut Page, r: Report) {
 }
 
 // The counts of both trials, below the floor.
-pub(crate) fn below(page: &mut Page, s: &Sheet, o: Outcome) {
+pub(crate) fn below(page: &mut Page, s: &Sheet, o: Outcome)
+    ensures on_page { Stays page.old page.new }
+{
     let y = s.counts_y();
     page.caption_from(20, y);
     page.words(b"first trial");

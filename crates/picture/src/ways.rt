@@ -1,6 +1,7 @@
 // The ways: the last trial made again, drawn move by move, and of the way that it keeps the moves from each place of the path to the next.
 ghost use Rattle.std.specs.Prelude.{◌≤◌, length};
 ghost use Rattle.model.specs.Lookahead.{most_moves};
+ghost use Rattle.picture.specs.Pages.{Stays};
 
 use crate::runs::Task;
 use crate::sheet::Sheet;
@@ -22,7 +23,9 @@ struct Leg {
 type Legs = [Leg; 4096];
 
 // One move: from the middle of a cell to the middle of the next.
-fn draw_move(page: &mut Page, m: u8) {
+fn draw_move(page: &mut Page, m: u8)
+    ensures on_page { Stays page.old page.new }
+{
     match m {
         0 => page.words(b"v-1"),
         1 => page.words(b"l1-1"),
@@ -35,7 +38,9 @@ fn draw_move(page: &mut Page, m: u8) {
     }
 }
 
-fn draw_moves(page: &mut Page, moves: &[u8]) {
+fn draw_moves(page: &mut Page, moves: &[u8])
+    ensures on_page { Stays page.old page.new }
+{
     for m in moves {
         draw_move(page, *m);
     }
@@ -69,7 +74,9 @@ fn go_on(
     table: &mut [u32],
     path: &mut [u16],
     legs: &mut Legs,
-) -> State {
+) -> State
+    ensures on_page { Stays page.old page.new }
+{
     let mut room: [u8; LEAST_ROOM] = lists::filled(0);
     let decided = learner::decide(task.job, task.floor, before, table, path, &mut room, 0);
     let after = decided.state;
@@ -90,7 +97,9 @@ fn draw_trial(
     table: &mut [u32],
     path: &mut [u16],
     legs: &mut Legs,
-) -> State {
+) -> State
+    ensures on_page { Stays page.old page.new }
+{
     let mut state = State {
         current: task.start,
         learned: 0,
@@ -103,14 +112,18 @@ fn draw_trial(
 }
 
 // The kept way: from place to place of the path, which has so many after its first.
-fn draw_legs(page: &mut Page, legs: &Legs, length: usize) {
+fn draw_legs(page: &mut Page, legs: &Legs, length: usize)
+    ensures on_page { Stays page.old page.new }
+{
     for leg in legs.iter().take(length) {
         draw_moves(page, &leg.moves[..usize::from(leg.count)]);
     }
 }
 
 // The front of a way from the start on.
-fn way_from(page: &mut Page, s: &Sheet, start: usize) {
+fn way_from(page: &mut Page, s: &Sheet, start: usize)
+    ensures on_page { Stays page.old page.new }
+{
     page.said(b" d='M", start % s.columns);
     page.said(b" ", start / s.columns);
 }
@@ -123,7 +136,9 @@ pub(crate) fn define(
     decisions: u64,
     table: &mut [u32],
     path: &mut [u16],
-) {
+)
+    ensures on_page { Stays page.old page.new }
+{
     let mut legs: Legs = lists::filled(leg_of(b""));
     page.words(b"<defs>\n<path id='last'");
     way_from(page, s, task.start);
@@ -137,6 +152,7 @@ pub(crate) fn define(
 // A way that is defined, so many points wide.
 fn stroke(page: &mut Page, s: &Sheet, n: usize, way: &[u8])
     requires { (n ≤ 9) × (length way.now ≤ 512) }
+    ensures on_page { Stays page.old page.new }
 {
     page.words(b"<use stroke-width='");
     s.points(page, n);
@@ -146,7 +162,9 @@ fn stroke(page: &mut Page, s: &Sheet, n: usize, way: &[u8])
 }
 
 // The kept way dark on white, and the last trial's thin on top of it.
-pub(crate) fn draw(page: &mut Page, s: &Sheet) {
+pub(crate) fn draw(page: &mut Page, s: &Sheet)
+    ensures on_page { Stays page.old page.new }
+{
     page.words(
         b"<g transform='translate(0.5 0.5)' fill='none' stroke-linejoin='round' stroke-linecap='round'>\n",
     );
